@@ -1,0 +1,13 @@
+//! Lists and texts that contracts see as what they hold, so that a value made of them is plain data:
+//! a contract can say that it equals what a definition gives.
+#![tactic(auto)]
+
+mod list;
+mod text;
+
+pub use list::List;
+pub use sqlite_items::Boxed;
+pub use text::Text;
+
+#[cfg(test)]
+mod tests;

@@ -1,0 +1,60 @@
+ghost use Rattle.std.specs.Prelude.{◌≡◌};
+ghost use Rattle.std.specs.Cmp.Lexicographic.{pointwise, lists_per, lists_equiv};
+
+use std::marker::Model;
+
+/// A list of items. Contracts see the items, in order.
+#[derive(Debug, Drop)]
+pub struct List<T> {
+    items: Vec<T>,
+}
+
+impl<T> Model for List<T> {
+    ghost use Rattle.std.specs.Prelude.{List as Items};
+    ghost use Rattle.std.specs.Coded.{coded_list};
+
+    ghost Value = { Items T };
+
+    ghost coded = { coded_list T.code };
+
+    ghost view = { λ list. list.items.items };
+}
+
+/// Two lists are equal where they have the same number of items, and each is equal to the other's.
+impl<T: PartialEq> PartialEq for List<T> {
+    ghost eq = { pointwise T.eq };
+
+    ghost laws = { lists_per T.laws };
+
+    fn eq(&self, other: &Self) -> bool {
+        self.items == other.items
+    }
+}
+
+impl<T: Eq> Eq for List<T> {
+    ghost laws = { lists_equiv T.Eq.laws };
+}
+
+impl<T> List<T> {
+    /// The list of these items.
+    pub fn from_vec(items: Vec<T>) -> List<T>
+        ensures { result ≡ items.items }
+    {
+        List { items }
+    }
+
+    /// The items.
+    pub fn as_slice(&self) -> &[T]
+        ensures { result.now ≡ self.now }
+    {
+        self.items.as_slice()
+    }
+
+    /// The items, in a `Vec` that may grow.
+    pub fn into_vec(self) -> Vec<T>
+        ensures { result.items ≡ self }
+    {
+        let List { items } = self;
+        items
+    }
+}

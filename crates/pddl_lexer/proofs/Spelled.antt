@@ -1,0 +1,44 @@
+-- The tree of a text is the one that its tokens spell, and its words are words.
+use Rattle.std.proofs.Common.{◌≡◌, ℕ, List, [], ◌∷◌, ◌++◌, refl, sym, ap, ◌∙◌, append_assoc}
+use Rattle.std.proofs.lemmas.List.{append-nil}
+use Rattle.pddl_lexer.specs.Members.{Members, NoMore, WordThen, ListThen}
+use Rattle.pddl_lexer.specs.Tokens.{Token, Open, Close, Word, spelled, written}
+use Rattle.pddl_lexer.specs.Builder.{joined}
+use Rattle.pddl_lexer.specs.Nested.{word_before, list_before, nested, innermost, tree}
+
+-- members that stand before others of their list
+abbrev before : Members → List Members → List Members
+before members [] = []
+before members (later ∷ around) = joined members later ∷ around
+
+before_word : (line : ℕ) (word : List ℕ) (members : Members) (found : List Members) → word_before line word (before members found) ≡ before (WordThen line word members) found
+before_word line word members [] = refl
+before_word line word members (later ∷ around) = refl
+
+before_list : (line : ℕ) (inside members : Members) (found : List Members) → list_before line (joined inside NoMore ∷ before members found) ≡ before (ListThen line (joined inside NoMore) members) found
+before_list line inside members [] = refl
+before_list line inside members (later ∷ around) = refl
+
+joined_nothing : (members : Members) → joined members NoMore ≡ members
+joined_nothing NoMore = refl
+joined_nothing (WordThen line word rest) = ap (WordThen line word) (joined_nothing rest)
+joined_nothing (ListThen line inside rest) = ap (ListThen line inside) (joined_nothing rest)
+
+before_nothing : (found : List Members) → before NoMore found ≡ found
+before_nothing [] = refl
+before_nothing (later ∷ around) = refl
+
+-- written members are found again
+nested_written : (members : Members) (more : List Token) → nested (written members ++ more) ≡ before members (nested more)
+nested_written NoMore more = sym (before_nothing (nested more))
+nested_written (WordThen line word rest) more = ap (word_before line word) (nested_written rest more) ∙ before_word line word rest (nested more)
+nested_written (ListThen line inside rest) more =
+    ap (λ ts. list_before line (nested ts)) (append_assoc (written inside) (Close ∷ written rest) more)
+    ∙ ap (list_before line) (nested_written inside (Close ∷ (written rest ++ more)) ∙ ap (λ found. joined inside NoMore ∷ found) (nested_written rest more))
+    ∙ before_list line inside rest (nested more)
+    ∙ ap (λ i. before (ListThen line i rest) (nested more)) (joined_nothing inside)
+
+pub tree_of_spelled : (text : List ℕ) (members : Members) → written members ≡ spelled text → tree text ≡ members
+unfolding tree
+tree_of_spelled text members spells =
+    ap (λ ts. innermost (nested ts)) (sym spells ∙ sym (append-nil (written members))) ∙ ap innermost (nested_written members []) ∙ joined_nothing members

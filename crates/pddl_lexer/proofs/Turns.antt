@@ -1,0 +1,141 @@
+-- What one turn of the reader's loop keeps.
+use Rattle.std.proofs.Common.{◌≡◌, ℕ, suc, ◌<◌, ◌≤◌, ◌+◌, ◌-◌, ◌^◌, cond, eqb, ltb, true, false, List, [], ◌∷◌, ◌++◌, length, get_or, take, drop, Option, Some, None, refl, sym, ap, subst, ◌∙◌, arith}
+use Rattle.std.proofs.lemmas.List.{take_all}
+use Rattle.std.specs.Vec.{vec_len}
+use Rattle.pddl_lexer.specs.declared.scanner.Scanner.{Scanner}
+use Rattle.pddl_lexer.specs.declared.scanner.Mark.{Mark}
+use Rattle.pddl_lexer.specs.declared.fault.Kind.{Kind}
+use Rattle.pddl_lexer.specs.declared.fault.Fault.{Fault}
+use Rattle.pddl_lexer.specs.declared.builder.Builder.{Builder}
+use Rattle.pddl_lexer.specs.Text.{Line, mark, line}
+use Rattle.pddl_lexer.specs.Scanner.{StandsAfter}
+use Rattle.pddl_lexer.specs.Members.{Members, lowered_members}
+use Rattle.pddl_lexer.specs.Nodes.{AreNodesOf}
+use Rattle.pddl_lexer.specs.Tokens.{leading_word, spelled, written, IsTreeOf}
+use Rattle.pddl_lexer.specs.Faults.{kind_at, kind_at_end, faults_at, faults_from, tree_faults, IsFirst}
+use Rattle.pddl_lexer.specs.Builder.{Partial, with_mark, entries_so_far, Represents, Counts}
+use Rattle.pddl_lexer.proofs.Building.{length-places, length-shown}
+use Rattle.pddl_lexer.proofs.Reading.{Agrees, IsRead, read_more, read_whole, tree_of}
+
+-- what the loop keeps: behind are the bytes that were passed, the nearest first
+pub record Passed (text : List ℕ) (scanner : Scanner) (builder : Builder) (after : List ℕ) : Type 0 where
+  pub behind : List ℕ
+  pub partial : Partial
+  pub stands : StandsAfter scanner behind
+  pub represents : Represents builder partial
+  pub read : IsRead text behind after partial
+  pub lengths : length behind + length after ≡ length text
+  pub fits : length text < 2 ^ 63
+
+counted : (b : Builder) (partial : Partial) (behind : List ℕ) → Represents b partial → Agrees partial behind → Counts b behind
+counted b partial behind kept agrees =
+    let nodes_long : vec_len b.nodes ≡ length (entries_so_far partial) = b.nodes.ok.0 ∙ sym (length-shown b.nodes.items) ∙ ap length kept.nodes_are in
+    record {
+      depth_is = omega (arith, agrees.depth_is, b.open.ok.0, ap length kept.open_are, length-places partial);
+      begun_is = agrees.begun_is ∙ sym (ap (ltb 0) nodes_long);
+      opened_is = agrees.opened_is ∙ sym (ap (ltb 0) nodes_long);
+    }
+
+-- the counts that the builder's tests speak of
+pub counts : (text : List ℕ) (scanner : Scanner) (b : Builder) (after : List ℕ) (p : Passed text scanner b after) → Counts b p.behind
+counts text scanner b after p = counted b p.partial p.behind p.represents p.read.agrees
+
+line_low : (behind : List ℕ) → line behind ≤ suc (length behind)
+line_low [] = omega arith
+line_low (b ∷ behind) = elim (eqb b 10) as (λ t. cond t (line behind + 1) (line behind) ≤ suc (suc (length behind))) [ true ↦ omega (arith, line_low behind) | false ↦ omega (arith, line_low behind) ]
+
+-- the line can grow
+pub line_fits : (text : List ℕ) (scanner : Scanner) (b : Builder) (after : List ℕ) → Passed text scanner b after → 1 ≤ length after → scanner.line + 1 < 2 ^ 64
+line_fits text scanner b after p le = omega (arith, p.stands.line_is, line_low p.behind, p.lengths, p.fits)
+
+-- a fault that is found here is the first
+pub fault_here : (text : List ℕ) (scanner : Scanner) (b : Builder) (rest : List ℕ) (p : Passed text scanner b rest) (byte : ℕ) (after : List ℕ) (m : Mark) (kind : Kind) → rest ≡ byte ∷ after → m ≡ mark p.behind byte → Some kind ≡ kind_at m p.behind
+    → IsFirst (tree_faults text) (record { kind = kind; line = scanner.line })
+unfolding faults_from
+fault_here text scanner b rest p byte after m kind rest_is m-is is =
+    let others = faults_from (byte ∷ p.behind) after in (
+      others,
+      p.read.faults_are ∙ ap (faults_from p.behind) rest_is
+          ∙ ap (λ (o : Option Kind). faults_at o (line p.behind) ++ others) (ap (λ (k : Mark). kind_at k p.behind) (sym m-is) ∙ sym is)
+          ∙ ap (λ (l : Line). faults_at (Some kind) l ++ others) (sym p.stands.line_is),
+    )
+
+pub fault_end : (text : List ℕ) (scanner : Scanner) (b : Builder) (rest : List ℕ) (p : Passed text scanner b rest) (kind : Kind) → rest ≡ [] → Some kind ≡ kind_at_end p.behind
+    → IsFirst (tree_faults text) (record { kind = kind; line = scanner.line })
+unfolding faults_from
+fault_end text scanner b rest p kind rest_is is = (
+  [],
+  p.read.faults_are ∙ ap (faults_from p.behind) rest_is
+      ∙ ap (λ (o : Option Kind). faults_at o (line p.behind)) (sym is)
+      ∙ ap (λ (l : Line). faults_at (Some kind) l) (sym p.stands.line_is),
+)
+
+-- faults have one first
+pub first_same : (faults : List Fault) (f g : Fault) → IsFirst faults f → IsFirst faults g → f ≡ g
+first_same faults f g a b = let same : f ∷ a.0 ≡ g ∷ b.0 = sym a.1 ∙ b.1 in cc
+
+pub some_first : (faults : List Fault) (f : Fault) → IsFirst faults f → faults ≡ [] → ⊥
+some_first faults f a none = let same : f ∷ a.0 ≡ [] = sym a.1 ∙ none in cc
+
+pub passed_more : (text : List ℕ) (scanner : Scanner) (b : Builder) (rest : List ℕ) (p : Passed text scanner b rest) (byte : ℕ) (after : List ℕ) (m : Mark) (scanner' : Scanner) (b' : Builder) → rest ≡ byte ∷ after → m ≡ mark p.behind byte → None ≡ kind_at m p.behind
+    → StandsAfter scanner' (byte ∷ p.behind) → ((partial : Partial) → Represents b partial → Represents b' (with_mark m scanner.line (leading_word rest) partial)) → Passed text scanner' b' after
+passed_more text scanner b rest p byte after m scanner' b' rest_is m-is fine stands represents =
+    let read : IsRead text p.behind (byte ∷ after) p.partial = subst (λ (t : List ℕ). IsRead text p.behind t p.partial) rest_is p.read in
+    let kept : Represents b' (with_mark m scanner.line (leading_word rest) p.partial) = represents p.partial p.represents in
+    let kept' : Represents b' (with_mark m scanner.line (leading_word (byte ∷ after)) p.partial) = subst (λ (t : List ℕ). Represents b' (with_mark m scanner.line (leading_word t) p.partial)) rest_is kept in
+    let kept'' : Represents b' (with_mark m (line p.behind) (leading_word (byte ∷ after)) p.partial) = subst (λ (l : Line). Represents b' (with_mark m l (leading_word (byte ∷ after)) p.partial)) p.stands.line_is kept' in
+    record {
+      behind = byte ∷ p.behind;
+      partial = with_mark (mark p.behind byte) (line p.behind) (leading_word (byte ∷ after)) p.partial;
+      stands = stands;
+      represents = subst (λ (k : Mark). Represents b' (with_mark k (line p.behind) (leading_word (byte ∷ after)) p.partial)) m-is kept'';
+      read = read_more text p.behind byte after p.partial read (ap (λ (k : Mark). kind_at k p.behind) (sym m-is) ∙ sym fine);
+      lengths = omega (arith, p.lengths, ap length rest_is);
+      fits = p.fits;
+    }
+
+-- what is read at the end of a text without a fault
+pub record Whole (text : List ℕ) (builder : Builder) : Type 0 where
+  pub tree : Members
+  pub nodes_are : AreNodesOf tree builder.nodes.items
+  pub spells : written tree ≡ spelled text
+  pub faultless : tree_faults text ≡ []
+
+pub passed_all : (text : List ℕ) (scanner : Scanner) (b : Builder) (rest : List ℕ) (p : Passed text scanner b rest) → rest ≡ [] → None ≡ kind_at_end p.behind → Whole text b
+passed_all text scanner b rest p rest_is fine =
+    let w = read_whole text p.behind p.partial (subst (λ (t : List ℕ). IsRead text p.behind t p.partial) rest_is p.read) (sym fine) in
+    record {
+      tree = w.tree;
+      nodes_are = record { shown_are = p.represents.nodes_are ∙ ap entries_so_far w.is; one_list = w.one_list };
+      spells = w.spells;
+      faultless = w.faultless;
+    }
+
+-- what is answered of a text without a fault
+pub record IsAnswer (text : List ℕ) (answer : Members) : Type 0 where
+  pub is_tree : IsTreeOf text (lowered_members answer)
+  pub spells : written answer ≡ spelled text
+  pub faultless : tree_faults text ≡ []
+
+pub passed_answer : (text : List ℕ) (b : Builder) (answer : Members) (w : Whole text b) → ((tree : Members) → AreNodesOf tree b.nodes.items → answer ≡ tree) → IsAnswer text answer
+passed_answer text b answer w is =
+    let same = is w.tree w.nodes_are in
+    record {
+      is_tree = subst (λ (tree : Members). IsTreeOf text (lowered_members tree)) (sym same) (tree_of text w.tree w.nodes_are.one_list w.spells);
+      spells = ap written same ∙ w.spells;
+      faultless = w.faultless;
+    }
+
+-- ---- the head of a text, as code sees it
+
+pub first_and_others : (t : List ℕ) → 1 ≤ length t → t ≡ get_or t 0 0 ∷ drop 1 t
+first_and_others [] le = absurd (omega arith)
+first_and_others (b ∷ t) le = refl
+
+pub first_and_after : (t : List ℕ) (n : ℕ) → 1 ≤ length t → n ≡ length t - 1 → t ≡ get_or t 0 0 ∷ take n (drop 1 t)
+first_and_after [] n le is = absurd (omega arith)
+first_and_after (b ∷ t) n le is = ap (λ (ts : List ℕ). b ∷ ts) (sym (take_all n t (omega arith)))
+
+pub nothing : (t : List ℕ) → length t < 1 → t ≡ []
+nothing [] lt = refl
+nothing (b ∷ t) lt = absurd (omega arith)

@@ -1,0 +1,11 @@
+pub mod Text
+pub mod Members
+pub mod Tokens
+pub mod Faults
+pub mod Kinds
+pub mod Nodes
+pub mod Kept
+pub mod Scanner
+pub mod Builder
+pub mod Examples
+pub mod Nested

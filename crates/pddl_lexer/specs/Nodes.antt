@@ -1,0 +1,79 @@
+-- How a tree is kept: its nodes in pre-order, each with its depth and the number of nodes in it.
+use Rattle.std.specs.Prelude.{◌≡◌, ℕ, suc, List, [], ◌∷◌, ◌++◌, map, Option, Some, None, nat_lt, slice_index_or, ◌==◌, if◌then◌else◌}
+use Rattle.pddl_lexer.specs.declared.tree.Content.{Content}
+use Rattle.pddl_lexer.specs.declared.tree.Content.TheVariants as contents
+use Rattle.pddl_lexer.specs.declared.tree.Node.{Node}
+use Rattle.pddl_lexer.specs.Text.{Line}
+use Rattle.pddl_lexer.specs.Members.{Members, NoMore, WordThen, ListThen, IsOneList, count, is_list, line, word, inside}
+
+-- a node: its line, its bytes if it is a word and None if it is a list, its depth, and how many nodes stand in it
+pub record Entry : Type 0 where
+  pub line : Line
+  pub word : Option (List ℕ)
+  pub depth : ℕ
+  pub below : ℕ
+
+abbrev pub word_entry : (line : Line) (word : List ℕ) (depth : ℕ) → Entry
+word_entry line word depth = record { line = line; word = Some word; depth = depth; below = 0 }
+
+abbrev pub list_entry : (line : Line) (depth below : ℕ) → Entry
+list_entry line depth below = record { line = line; word = None; depth = depth; below = below }
+
+-- the nodes of members that stand at this depth
+abbrev pub entries : ℕ → Members → List Entry
+entries depth NoMore = []
+entries depth (WordThen line word rest) = word_entry line word depth ∷ entries depth rest
+entries depth (ListThen line inside rest) = list_entry line depth (count inside) ∷ (entries (suc depth) inside ++ entries depth rest)
+
+-- a member, with its own members if it is a list
+abbrev pub member : Entry → Members → Members → Members
+member e inside rest = option_member e.word e.line inside rest
+  where
+    option_member : Option (List ℕ) → Line → Members → Members → Members
+    option_member None line inside rest = ListThen line inside rest
+    option_member (Some word) line inside rest = WordThen line word rest
+
+-- the members at this depth with which the nodes begin: deeper nodes are passed over, and a node that is less deep ends them
+abbrev pub members : List Entry → ℕ → Members
+members [] depth = NoMore
+members (e ∷ es) depth =
+    if e.depth == depth then member e (members es (suc depth)) (members es depth)
+    else if nat_lt depth e.depth then members es depth
+    else NoMore
+
+abbrev pub content_word : Content → Option (List ℕ)
+content_word (contents.Word word) = Some word.now
+content_word (contents.List below) = None
+
+abbrev pub content_below : Content → ℕ
+content_below (contents.Word word) = 0
+content_below (contents.List below) = below
+
+-- a node of the code, without where its word lies in memory
+abbrev pub entry : Node → Entry
+entry n = record { line = n.line; word = content_word n.content; depth = n.depth; below = content_below n.content }
+
+abbrev pub shown : List Node → List Entry
+shown ns = map entry ns
+
+-- the tree that these nodes keep
+abbrev pub kept : List Node → Members
+kept ns = members (shown ns) 0
+
+-- these are the nodes of a tree that is one list
+pub record AreNodesOf (tree : Members) (ns : List Node) : Type 0 where
+  pub shown_are : shown ns ≡ entries 0 tree
+  pub one_list : IsOneList tree
+
+-- a node of the code shows the first of these members
+pub record Shows (e : Entry) (here : Members) : Type 0 where
+  pub line_is : e.line ≡ line here
+  pub word_is : e.word ≡ (if is_list here then None else Some (word here))
+  pub below_is : e.below ≡ count (inside here)
+
+-- how deep the node i stands in members at this depth
+abbrev pub depth_of : Members → ℕ → ℕ
+depth_of tree i = (slice_index_or (entries 0 tree) i (list_entry 0 0 0)).depth
+
+abbrev pub IsAtDepth : Members → ℕ → ℕ → Type 0
+IsAtDepth tree i depth = depth ≡ depth_of tree i

@@ -1,0 +1,152 @@
+//! A nested list while it is read.
+
+ghost use Rattle.std.specs.Prelude.{◌≡◌, ◌<◌, ◌^◌, ℕ, List, OnOk};
+ghost use Rattle.std.specs.List.{prefix_len};
+ghost use Rattle.pddl_lexer.specs.Members.{WordThen, NoMore};
+ghost use Rattle.pddl_lexer.specs.Tokens.{goes_on, leading_word};
+ghost use Rattle.pddl_lexer.specs.Faults.{after_end, kind_at, kind_at_end};
+ghost use Rattle.pddl_lexer.specs.Builder.{Partial, Outside, Within, with_member, with_end, with_mark, Represents, IsBuilding, Counts};
+
+use crate::fault::Kind;
+use crate::scanner::{Mark, is_word_byte};
+use crate::tree::{Content, Node};
+use std::alloc::{AllocError, Global};
+
+/// How many lists may be open.
+const DEPTH_LIMIT: usize = 100;
+
+/// The nodes so far, and where the open lists stand among them.
+#[derive(Drop)]
+pub(crate) struct Builder<'a> {
+    pub(crate) nodes: Vec<Node<'a>>,
+    pub(crate) open: Vec<usize>,
+}
+
+fn goes_on(byte: u8) -> bool
+    ensures { result ≡ goes_on byte }
+{
+    is_word_byte(byte) && byte != b'?'
+}
+
+/// How many bytes of a word the text begins with, after a word's first.
+fn more_of_word(text: &[u8]) -> usize
+    ensures more { result ≡ prefix_len goes_on text.now }
+    ensures fits { result < 2 ^ 63 }
+{
+    text.iter().take_while(|byte| goes_on(**byte)).count()
+}
+
+/// The word with which the text begins.
+fn leading_word(text: &[u8]) -> &[u8]
+    ensures { result.now ≡ leading_word text.now }
+{
+    match text {
+        [] => text,
+        [_, after @ ..] => &text[..=more_of_word(after)],
+    }
+}
+
+impl<'a> Builder<'a> {
+    /// Nothing is read yet.
+    #[tactic(auto, unfolding(crate::specs::Faults::opened, crate::specs::Faults::closed, crate::specs::Faults::begun))]
+    pub(crate) fn new(alloc: Global) -> Builder<'a>
+        ensures represents { Represents result (Outside NoMore) }
+        ensures counts { Counts result List.[] }
+    {
+        Builder {
+            nodes: Vec::new(alloc),
+            open: Vec::new(alloc),
+        }
+    }
+
+    /// Whether the list has ended.
+    fn is_ended(&self) -> bool
+        ensures { (behind : List ℕ) → Counts self.now behind → result ≡ after_end behind }
+    {
+        self.open.is_empty() && !self.nodes.is_empty()
+    }
+
+    /// The fault of what stands at a place.
+    #[tactic(auto, unfolding(crate::specs::Faults::kind_at))]
+    pub(crate) fn kind_at(&self, mark: Mark) -> Option<Kind>
+        ensures { (behind : List ℕ) → Counts self.now behind → result ≡ kind_at mark behind }
+    {
+        match mark {
+            Mark::Bad => Some(Kind::BadByte),
+            Mark::Opening if self.open.len() >= DEPTH_LIMIT => Some(Kind::TooDeep),
+            Mark::Opening if self.is_ended() => Some(Kind::TextAfterEnd),
+            Mark::Closing if self.open.is_empty() => Some(Kind::StrayClose),
+            Mark::Beginning if self.nodes.is_empty() => Some(Kind::NoList),
+            Mark::Beginning if self.is_ended() => Some(Kind::TextAfterEnd),
+            _ => None,
+        }
+    }
+
+    /// The fault where the text ends.
+    #[tactic(auto, unfolding(crate::specs::Faults::kind_at_end))]
+    pub(crate) fn kind_at_end(&self) -> Option<Kind>
+        ensures { (behind : List ℕ) → Counts self.now behind → result ≡ kind_at_end behind }
+    {
+        if !self.open.is_empty() {
+            Some(Kind::MissingClose)
+        } else if self.nodes.is_empty() {
+            Some(Kind::NoList)
+        } else {
+            None
+        }
+    }
+
+    fn add_word(&mut self, line: u64, word: &'a [u8]) -> Result<(), AllocError>
+        ensures { OnOk result ((partial : Partial) → Represents self.old partial
+            → Represents self.new (with_member partial (WordThen line word.now NoMore))) }
+    {
+        let depth = self.open.len();
+        self.nodes.push(Node {
+            line,
+            depth,
+            content: Content::Word(word),
+        })?;
+        Ok(())
+    }
+
+    fn begin_list(&mut self, line: u64) -> Result<(), AllocError>
+        ensures { OnOk result ((partial : Partial) → Represents self.old partial
+            → Represents self.new (Within partial line NoMore)) }
+    {
+        let depth = self.open.len();
+        self.open.push(self.nodes.len())?;
+        self.nodes.push(Node {
+            line,
+            depth,
+            content: Content::List { below: 0 },
+        })?;
+        Ok(())
+    }
+
+    fn end_list(&mut self)
+        requires { IsBuilding self.old }
+        ensures { (partial : Partial) → Represents self.old partial → Represents self.new (with_end partial) }
+    {
+        if let Some(list) = self.open.pop() {
+            let below = self.nodes.len() - list - 1;
+            self.nodes[list].content = Content::List { below };
+        }
+    }
+
+    /// Takes what stands at a place, with which the text begins.
+    pub(crate) fn add(&mut self, mark: Mark, line: u64, text: &'a [u8]) -> Result<(), AllocError>
+        requires { IsBuilding self.old }
+        ensures { OnOk result ((partial : Partial) → Represents self.old partial
+            → Represents self.new (with_mark mark line (leading_word text.now) partial)) }
+    {
+        match mark {
+            Mark::Nothing | Mark::Bad => Ok(()),
+            Mark::Opening => self.begin_list(line),
+            Mark::Closing => {
+                self.end_list();
+                Ok(())
+            }
+            Mark::Beginning => self.add_word(line, leading_word(text)),
+        }
+    }
+}

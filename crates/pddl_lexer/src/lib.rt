@@ -1,0 +1,17 @@
+//! The text of a PDDL file as one nested list, or its first fault.
+#![tactic(auto)]
+
+mod builder;
+mod fault;
+mod laws;
+mod reader;
+mod scanner;
+mod tree;
+
+pub use fault::{Fault, Kind, ShapePlace, TreeEnd};
+pub use laws::{has_tree, lowering, one_tree, some_member, worked_examples};
+pub use reader::read_tree;
+pub use tree::Tree;
+
+#[cfg(test)]
+mod tests;

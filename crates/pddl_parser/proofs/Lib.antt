@@ -1,0 +1,9 @@
+pub mod Places
+pub mod Rows
+pub mod ConditionCases
+pub mod EffectCases
+pub mod Names
+pub mod SameAtoms
+pub mod Written
+pub mod IdleSteps
+pub mod TypeChains

@@ -1,0 +1,11 @@
+use Rattle.std.proofs.Common.{◌≡◌}
+use Rattle.pddl_lexer.specs.Members.{count}
+use Rattle.pddl_parser.specs.Outcome.{each, after}
+use Rattle.pddl_parser.specs.Reading.{head}
+use Rattle.pddl_parser.proofs.file.heads.Given as goal
+
+abbrev pub invariant-loop-cursor : goal.invariant-loop-cursor
+invariant-loop-cursor l = after l.heads.items (each head l.cursor) ≡ each head l.fn.members
+
+abbrev pub decreases-loop-cursor : goal.decreases-loop-cursor
+decreases-loop-cursor l = count l.cursor

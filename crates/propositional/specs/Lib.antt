@@ -1,0 +1,4 @@
+pub mod Plan
+pub mod Lawful
+pub mod Encoding
+pub mod Simulates

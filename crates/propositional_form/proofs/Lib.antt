@@ -1,0 +1,10 @@
+pub mod NamesLemmas
+pub mod Repeats
+pub mod PlainAtoms
+pub mod Parts
+pub mod Spelling
+pub mod Lawful
+pub mod Outcomes
+pub mod Meaning
+pub mod Numbering
+pub mod Law

@@ -1,0 +1,15 @@
+//! A planning task over variables with finitely many values, as the planner's output format, version 3, has it:
+//! its parts, when they are valid, what they mean, and the text that they are written as.
+#![tactic(auto)]
+
+pub mod examples;
+pub mod laws;
+pub mod parts;
+pub mod task;
+
+pub use lists::{List, Text};
+pub use parts::{Effect, Group, Operator, Pair, Rule, Variable};
+pub use task::SasTask;
+
+#[cfg(test)]
+mod tests;

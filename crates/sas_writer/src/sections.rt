@@ -1,0 +1,141 @@
+//! The sections of the version, the metric, the variables, the mutex groups, the state, the goal and the rules.
+
+ghost use Rattle.std.specs.Prelude.{◌≡◌, ◌++◌, [], ◌∷◌, codes, decimal, length, OnOk};
+ghost use Rattle.std.specs.List.{enumerate_from};
+ghost use Rattle.sas_task.specs.Output.{bytes_of, counted, version_lines, metric_lines, variable_lines, group_lines, state_lines, goal_lines, rule_line, rule_lines};
+
+use crate::lines::{
+    push_line, push_next_number, push_number, push_number_line, push_number_or_none_line,
+    push_pairs,
+};
+use sas_task::{Group, Pair, Rule, SasTask, Text, Variable};
+use std::alloc::AllocError;
+
+pub fn push_version(out: &mut Vec<u8>) -> Result<(), AllocError>
+    ensures { OnOk result (out.new.items ≡ out.old.items ++ bytes_of version_lines) }
+{
+    push_line(out, b"begin_version")?;
+    push_line(out, b"3")?;
+    push_line(out, b"end_version")
+}
+
+pub fn push_metric(out: &mut Vec<u8>, metric: bool) -> Result<(), AllocError>
+    ensures { OnOk result (out.new.items ≡ out.old.items ++ bytes_of (metric_lines metric)) }
+{
+    push_line(out, b"begin_metric")?;
+    push_line(out, if metric { b"1" } else { b"0" })?;
+    push_line(out, b"end_metric")
+}
+
+/// The number of facts, and then a line for each.
+fn push_facts(out: &mut Vec<u8>, facts: &[Text]) -> Result<(), AllocError>
+    ensures { OnOk result (out.new.items ≡ out.old.items ++ bytes_of (counted (λ fact. fact ∷ []) facts.now)) }
+{
+    push_number_line(out, facts.len() as u64)?;
+    for fact in facts {
+        push_line(out, fact.as_slice())?;
+    }
+    Ok(())
+}
+
+/// The line of a variable's name, which is made of its number.
+fn push_name_line(out: &mut Vec<u8>, number: u64) -> Result<(), AllocError>
+    ensures { OnOk result (out.new.items ≡ out.old.items ++ bytes_of ((codes "var" ++ decimal number) ∷ [])) }
+{
+    out.extend_from_slice(b"var")?;
+    push_number_line(out, number)
+}
+
+/// The lines of the variable with this number.
+fn push_variable(out: &mut Vec<u8>, number: u64, variable: &Variable) -> Result<(), AllocError>
+    ensures { OnOk result (out.new.items ≡ out.old.items ++ bytes_of (variable_lines (number, variable.now))) }
+{
+    push_line(out, b"begin_variable")?;
+    push_name_line(out, number)?;
+    push_number_or_none_line(out, variable.layer)?;
+    push_facts(out, variable.facts.as_slice())?;
+    push_line(out, b"end_variable")
+}
+
+/// The number of variables, and then the lines of each.
+pub fn push_variables(out: &mut Vec<u8>, task: &SasTask) -> Result<(), AllocError>
+    ensures { OnOk result (out.new.items ≡ out.old.items ++ bytes_of (counted variable_lines (enumerate_from 0 task.now.variables))) }
+{
+    let count = task.variables();
+    push_number_line(out, count)?;
+    for i in 0..count {
+        push_variable(out, i, task.variable(i))?;
+    }
+    Ok(())
+}
+
+fn push_group(out: &mut Vec<u8>, group: &Group) -> Result<(), AllocError>
+    ensures { OnOk result (out.new.items ≡ out.old.items ++ bytes_of (group_lines group.now)) }
+{
+    push_line(out, b"begin_mutex_group")?;
+    push_pairs(out, group.facts.as_slice())?;
+    push_line(out, b"end_mutex_group")
+}
+
+/// The number of mutex groups, and then the lines of each.
+pub fn push_groups(out: &mut Vec<u8>, task: &SasTask) -> Result<(), AllocError>
+    ensures { OnOk result (out.new.items ≡ out.old.items ++ bytes_of (counted group_lines task.now.groups)) }
+{
+    let count = task.groups();
+    push_number_line(out, count)?;
+    for i in 0..count {
+        push_group(out, task.group(i))?;
+    }
+    Ok(())
+}
+
+pub fn push_state(out: &mut Vec<u8>, task: &SasTask) -> Result<(), AllocError>
+    requires { length task.now.state ≡ length task.now.variables }
+    ensures { OnOk result (out.new.items ≡ out.old.items ++ bytes_of (state_lines task.now.state)) }
+{
+    push_line(out, b"begin_state")?;
+    for i in 0..task.variables() {
+        push_number_line(out, task.state(i))?;
+    }
+    push_line(out, b"end_state")
+}
+
+pub fn push_goal(out: &mut Vec<u8>, goal: &[Pair]) -> Result<(), AllocError>
+    ensures { OnOk result (out.new.items ≡ out.old.items ++ bytes_of (goal_lines goal.now)) }
+{
+    push_line(out, b"begin_goal")?;
+    push_pairs(out, goal)?;
+    push_line(out, b"end_goal")
+}
+
+/// The line of what a rule changes.
+fn push_rule_line(out: &mut Vec<u8>, rule: &Rule) -> Result<(), AllocError>
+    ensures { OnOk result (out.new.items ≡ out.old.items ++ bytes_of (rule_line rule.now ∷ [])) }
+{
+    push_number(out, rule.var)?;
+    push_next_number(out, rule.before)?;
+    push_next_number(out, rule.after)?;
+    out.push(b'\n')?;
+    Ok(())
+}
+
+fn push_rule(out: &mut Vec<u8>, rule: &Rule) -> Result<(), AllocError>
+    ensures { OnOk result (out.new.items ≡ out.old.items ++ bytes_of (rule_lines rule.now)) }
+{
+    push_line(out, b"begin_rule")?;
+    push_pairs(out, rule.conditions.as_slice())?;
+    push_rule_line(out, rule)?;
+    push_line(out, b"end_rule")
+}
+
+/// The number of rules, and then the lines of each.
+pub fn push_rules(out: &mut Vec<u8>, task: &SasTask) -> Result<(), AllocError>
+    ensures { OnOk result (out.new.items ≡ out.old.items ++ bytes_of (counted rule_lines task.now.rules)) }
+{
+    let count = task.rules();
+    push_number_line(out, count)?;
+    for i in 0..count {
+        push_rule(out, task.rule(i))?;
+    }
+    Ok(())
+}

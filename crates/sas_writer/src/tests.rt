@@ -1,0 +1,150 @@
+//! The texts of two tasks, written out by hand.
+
+use crate::text_of;
+use sas_task::examples;
+use std::test::Fail;
+
+const SWITCH: &[u8] = b"begin_version
+3
+end_version
+begin_metric
+0
+end_metric
+2
+begin_variable
+var0
+-1
+2
+Atom on()
+NegatedAtom on()
+end_variable
+begin_variable
+var1
+-1
+2
+Atom off()
+NegatedAtom off()
+end_variable
+0
+begin_state
+1
+0
+end_state
+begin_goal
+1
+0 0
+end_goal
+1
+begin_operator
+flip
+0
+2
+0 0 -1 0
+0 1 0 1
+1
+end_operator
+0
+";
+
+const ROOM: &[u8] = b"begin_version
+3
+end_version
+begin_metric
+1
+end_metric
+4
+begin_variable
+var0
+-1
+2
+Atom at(hall)
+Atom at(room)
+end_variable
+begin_variable
+var1
+-1
+2
+Atom lit()
+NegatedAtom lit()
+end_variable
+begin_variable
+var2
+0
+2
+Atom seeing()
+NegatedAtom seeing()
+end_variable
+begin_variable
+var3
+1
+2
+Atom safe()
+NegatedAtom safe()
+end_variable
+1
+begin_mutex_group
+2
+0 0
+0 1
+end_mutex_group
+begin_state
+0
+1
+1
+1
+end_state
+begin_goal
+1
+3 0
+end_goal
+3
+begin_operator
+enter room
+0
+1
+0 0 0 1
+3
+end_operator
+begin_operator
+press
+1
+0 1
+1
+0 1 1 0
+0
+end_operator
+begin_operator
+toggle
+0
+2
+2 0 1 2 0 1 -1 1
+1 1 1 1 -1 0
+10
+end_operator
+2
+begin_rule
+2
+0 1
+1 0
+2 1 0
+end_rule
+begin_rule
+1
+2 0
+3 1 0
+end_rule
+";
+
+#[test]
+fn the_switch_is_written(rt: HostRuntime) -> Result<(), Fail> {
+    let task = examples::switch(rt.alloc())?;
+    assert_eq!(rt; text_of(rt.alloc(), &task)?.as_slice(), SWITCH);
+    Ok(())
+}
+
+#[test]
+fn the_room_is_written(rt: HostRuntime) -> Result<(), Fail> {
+    let task = examples::room(rt.alloc())?;
+    assert_eq!(rt; text_of(rt.alloc(), &task)?.as_slice(), ROOM);
+    Ok(())
+}

@@ -1,0 +1,25 @@
+use Rattle.std.proofs.Common.{◌∙◌, sym, arith, length-drop}
+use Rattle.tl_device.proofs.Grown.{grown_next, others_grown}
+use Rattle.tl_device.proofs.whole.put_all.Goals as goal
+
+pub loop-done-preserved : goal.loop-done-preserved
+loop-done-preserved g c = record {
+  within = omega (arith, c.in_ok-done.ensures.bound, length-drop c.loop-done.done c.args.bytes.now);
+  files = grown_next _ _ _ _ _ _ _ _ c.loop-done.invariant.writing c.loop-done.invariant.files c.in_ok-done.ensures.ok;
+  write_faults = c.in_ok-done.ensures.cause.same ∙ c.loop-done.invariant.write_faults;
+  created = c.in_ok-done.ensures.created;
+  writing = c.in_ok-done.ensures.writing ∙ c.loop-done.invariant.writing;
+  begun = c.in_ok-done.ensures.begun ∙ c.loop-done.invariant.begun;
+  reading = c.in_ok-done.ensures.reading ∙ c.loop-done.invariant.reading;
+  rest = λ differs. c.in_ok-done.ensures.rest (λ same. differs (sym c.loop-done.invariant.reading ∙ same ∙ c.loop-done.invariant.writing)) ∙ c.loop-done.invariant.rest differs;
+  taken = c.in_ok-done.ensures.taken ∙ c.loop-done.invariant.taken;
+  read_faults = c.in_ok-done.ensures.read_faults ∙ c.loop-done.invariant.read_faults;
+}
+
+pub returns-in_err-done-clause-others : goal.returns-in_err-done-clause-others
+returns-in_err-done-clause-others g c =
+    others_grown (g.F.Files.files c.args.files.now) (g.F.Files.files c.write.new.self) (g.F.Files.writing c.args.files.now) _ (c.in_err-done.ensures.err ∙ c.loop-done.invariant.files)
+
+pub returns-clause-others : goal.returns-clause-others
+returns-clause-others g c =
+    others_grown (g.F.Files.files c.args.files.now) (g.F.Files.files c.loop-done.files) (g.F.Files.writing c.args.files.now) _ c.loop-done.invariant.files

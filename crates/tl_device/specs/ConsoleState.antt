@@ -1,0 +1,12 @@
+-- A console in memory, as its contracts see it.
+use Rattle.std.specs.Prelude.{ℕ, List}
+
+pub record ConsoleState : Type 0 where
+  -- the bytes printed so far
+  pub printed : List ℕ
+  -- how many bytes it can hold in all
+  pub room : ℕ
+  -- the most bytes that a call takes
+  pub most : ℕ
+  -- how often printing has failed
+  pub faults : ℕ

@@ -1,0 +1,248 @@
+// Files in memory.
+ghost use Rattle.std.specs.Prelude.{◌≡◌, ◌≢◌, ◌↔◌, ◌≤◌, ◌<◌, ◌+◌, [], IsErr, IsSome, IfOk, OnOk, OnErr, length, min, take, is_some, Some, None};
+ghost use Rattle.std.specs.FinMap as map;
+ghost use Rattle.std.specs.Option.{option_copied};
+ghost use Rattle.tl_device.specs.Causes.{HasCause, saturating_add};
+ghost use Rattle.tl_device.specs.Contents.{grow};
+ghost use Rattle.tl_device.specs.FilesState.{rest_of, name_read, position_of, name_written, free_room, read_on};
+
+use crate::entries::{Cursor, Entries};
+use crate::{Failed, Files};
+use std::alloc::{AllocError, Global};
+use std::marker::Model;
+
+/// Files that a test sets, with room for the names that are to be written.
+///
+/// A call of `Files` on them takes no memory. A name that no file has makes `open_file` fail, which
+/// isn't counted; reading fails at nothing else, so its count stays 0.
+#[derive(Drop)]
+pub struct MemFiles {
+    alloc: Global,
+    entries: Entries,
+    reading: Option<Cursor>,
+    writing: Option<usize>,
+    most: u64,
+    write_faults: u64,
+}
+
+impl Model for MemFiles {
+    ghost use Rattle.tl_device.specs.FilesState.{FilesState, files_state_code};
+
+    ghost Value = { FilesState };
+
+    ghost coded = { files_state_code };
+
+    ghost use Rattle.std.specs.Option.{option_map};
+    ghost use Rattle.tl_device.specs.Entries.{contents, rooms, name_at, open_file_at, IsSound};
+
+    ghost view = { λ s. record {
+      files = contents s.entries;
+      rooms = rooms s.entries;
+      reading = option_map (open_file_at s.entries) s.reading;
+      writing = option_map (name_at s.entries) s.writing;
+      most = s.most;
+      write_faults = s.write_faults;
+    } };
+
+    ghost invariant = { λ s. IsSound s.entries s.reading s.writing s.most };
+}
+
+impl MemFiles {
+    /// No file and no room, and calls whose bytes aren't limited.
+    pub fn new(alloc: Global) -> Self
+        ensures { result ≡ record {
+          files = map.empty;
+          rooms = map.empty;
+          reading = None;
+          writing = None;
+          most = u64.MAX;
+          write_faults = 0;
+        } }
+    {
+        MemFiles {
+            alloc,
+            entries: Entries::new(alloc),
+            reading: None,
+            writing: None,
+            most: u64::MAX,
+            write_faults: 0,
+        }
+    }
+
+    /// Sets a file, whose name then has no room.
+    pub fn add(&mut self, name: &str, bytes: &[u8]) -> Result<(), AllocError>
+        ensures ok { OnOk result (self.new ≡ record self.old {
+          files = map.insert self.old.files name.now bytes.now;
+          rooms = map.remove self.old.rooms name.now;
+        }) }
+        ensures err { OnErr result (self.new ≡ self.old) }
+    {
+        self.entries.set_file(self.alloc, name, bytes)
+    }
+
+    /// Makes the room of a name: it can be created, and then hold so many bytes.
+    pub fn room(&mut self, name: &str, bytes: u64) -> Result<(), AllocError>
+        ensures ok { OnOk result (self.new ≡ record self.old {
+          rooms = map.insert self.old.rooms name.now bytes;
+        }) }
+        ensures err { OnErr result (self.new ≡ self.old) }
+    {
+        self.entries.set_room(self.alloc, name, bytes)
+    }
+
+    /// Sets the most bytes that a call gives or takes.
+    pub fn most(&mut self, bytes: u64)
+        requires { 1 ≤ bytes }
+        ensures { self.new ≡ record self.old { most = bytes } }
+    {
+        self.most = bytes;
+    }
+
+    /// What the name holds, or `None` where no file has it.
+    pub fn content(&self, name: &str) -> Option<&[u8]>
+        ensures { option_copied result ≡ map.get self.now.files name.now }
+    {
+        let entry = self.entries.file_position(name)?;
+        Some(self.entries.content(entry))
+    }
+}
+
+// Copies a front of the bytes, as long as it may be, and answers its length.
+fn copy_front(into: &mut [u8], bytes: &[u8], most: u64) -> usize
+    ensures count { result ≡ min (length into.old) (min most (length bytes.now)) }
+    ensures bytes { take result into.new ≡ take result bytes.now }
+{
+    let count = into.len().min(bytes.len().min(most as usize));
+    into[..count].copy_from_slice(&bytes[..count]);
+    count
+}
+
+impl Files for MemFiles {
+    ghost files = { λ s. Some s.files };
+
+    ghost reading = { name_read };
+
+    ghost rest = { rest_of };
+
+    ghost taken = { position_of };
+
+    ghost writing = { name_written };
+
+    ghost is_begun = { λ s. is_some s.reading };
+
+    ghost is_created = { λ s. is_some s.writing };
+
+    ghost read_faults = { λ _. 0 };
+
+    ghost write_faults = { λ s. s.write_faults };
+
+    fn open_file(&mut self, name: &str) -> Result<(), Failed>
+        // It fails exactly where no file has the name.
+        ensures failed { IsErr result ↔ (map.get self.old.files name.now ≡ None) }
+        ensures opens { OnOk result (self.new ≡ record self.old {
+          reading = Some (record { name = name.now; position = 0 });
+        }) }
+        ensures refused { OnErr result (self.new ≡ record self.old { reading = None }) }
+    {
+        match self.entries.file_position(name) {
+            Some(entry) => {
+                self.reading = Some(Cursor { entry, position: 0 });
+                Ok(())
+            }
+            None => {
+                self.reading = None;
+                Err(Failed)
+            }
+        }
+    }
+
+    fn read(&mut self, into: &mut [u8]) -> Result<usize, Failed>
+        requires { IsSome self.old.reading }
+
+        // It never fails, and gives as much as it may.
+        ensures count { result
+            ≡ Ok (min (length into.old) (min self.old.most (length (rest_of self.old)))) }
+        ensures given { IfOk result (λ n. take n into.new ≡ take n (rest_of self.old)) }
+        ensures moves { IfOk result (λ n.
+            self.new ≡ record self.old { reading = read_on self.old.reading n }) }
+
+        // As of all files.
+        ensures end { IfOk result (λ n. n ≡ 0 → 0 < length into.new → rest_of self.old ≡ []) }
+        ensures taken { IfOk result (λ n. position_of self.new ≡ saturating_add (position_of self.old) n) }
+    {
+        let Some(cursor) = self.reading else {
+            unreachable!()
+        };
+        let count = copy_front(into, self.entries.rest(cursor), self.most);
+        self.reading = Some(Cursor {
+            entry: cursor.entry,
+            position: cursor.position + count,
+        });
+        Ok(count)
+    }
+
+    fn create_file(&mut self, name: &str) -> Result<(), Failed>
+        // It fails exactly where the name has no room.
+        ensures failed { IsErr result ↔ (map.get self.old.rooms name.now ≡ None) }
+        ensures empties { OnOk result (self.new ≡ record self.old {
+          files = map.insert self.old.files name.now [];
+          writing = Some name.now;
+        }) }
+        ensures refused { OnErr result (self.new ≡ record self.old {
+          writing = None;
+          write_faults = saturating_add self.old.write_faults 1;
+        }) }
+
+        // As of all files.
+        ensures cause { HasCause self.old.write_faults self.new.write_faults result }
+        ensures rest { name_read self.old ≢ name.now → rest_of self.new ≡ rest_of self.old }
+    {
+        match self.entries.position(name) {
+            Some(entry) if self.entries.has_room(entry) => {
+                self.entries.empty(entry);
+                self.writing = Some(entry);
+                Ok(())
+            }
+            _ => {
+                self.writing = None;
+                self.write_faults = self.write_faults.saturating_add(1);
+                Err(Failed)
+            }
+        }
+    }
+
+    fn write(&mut self, piece: &[u8]) -> Result<usize, Failed>
+        requires { IsSome self.old.writing }
+
+        // It fails exactly where there is a piece and the room is full.
+        ensures failed { IsErr result ↔ ((0 < length piece.now) × (free_room self.old ≡ 0)) }
+        ensures refused { OnErr result (self.new ≡ record self.old {
+          write_faults = saturating_add self.old.write_faults 1;
+        }) }
+
+        // Else it takes as much as it may.
+        ensures count { IfOk result (λ n.
+            n ≡ min (length piece.now) (min self.old.most (free_room self.old))) }
+        ensures appends { IfOk result (λ n. self.new ≡ record self.old {
+          files = grow self.old.files (name_written self.old) (take n piece.now);
+        }) }
+
+        // As of all files.
+        ensures progress { IfOk result (λ n. 0 < length piece.now → 0 < n) }
+        ensures cause { HasCause self.old.write_faults self.new.write_faults result }
+        ensures rest { name_read self.old ≢ name_written self.old
+            → rest_of self.new ≡ rest_of self.old }
+    {
+        let Some(entry) = self.writing else {
+            unreachable!()
+        };
+        let free = self.entries.free_room(entry);
+        if free == 0 && !piece.is_empty() {
+            self.write_faults = self.write_faults.saturating_add(1);
+            return Err(Failed);
+        }
+        let taken = piece.len().min(self.most.min(free) as usize);
+        self.entries.append(entry, &piece[..taken]);
+        Ok(taken)
+    }
+}

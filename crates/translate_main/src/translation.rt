@@ -1,0 +1,135 @@
+//! From two texts to the text of a task.
+
+ghost use Rattle.std.specs.Prelude.{◌≡◌, [], IfOk, IfErr, length, sum_by};
+ghost use Rattle.pddl_lexer.specs.Nested.{tree};
+ghost use Rattle.pddl_lexer.specs.Faults.{tree_faults};
+ghost use Rattle.pddl_parser.specs.Reading.{domain_reading, problem_reading};
+ghost use Rattle.pddl_parser.specs.Spelled.{IsWellSpelled};
+ghost use Rattle.translate_main.specs.Run.{of_texts, of_readings, checked};
+ghost use Rattle.translate_main.specs.Written.{IsSummaryOf, IsTextWhere, StopsWhere, StopsAtTree};
+ghost use Rattle.translate_main.specs.declared.translation.Stop.TheVariants.{NoMemory};
+
+use crate::outcome::{Side, Summary};
+use pddl_lexer::{Fault, Tree, TreeEnd, read_tree};
+use pddl_parser::laws::idle_steps;
+use pddl_parser::{Domain, ParseEnd, Problem, parse_domain, parse_problem};
+use propositional::encode;
+use propositional_form::{FormEnd, numbered};
+use sas_task::{SasTask, Variable};
+use sas_writer::text_of;
+use std::alloc::{AllocError, Global};
+
+/// Why two texts give nothing to write.
+#[derive(Clone, Copy, Debug, PartialEq, Eq)]
+pub enum Stop {
+    NoMemory,
+    Faulty(Side, Fault),
+    NotBuilt,
+}
+
+impl From<AllocError> for Stop {
+    ghost from_gives = { λ _ e. e ≡ NoMemory };
+
+    fn from(_: AllocError) -> Stop {
+        Stop::NoMemory
+    }
+}
+
+/// The text of a task, with its sizes.
+#[derive(Debug, Drop)]
+pub(crate) struct Translation {
+    pub(crate) text: Vec<u8>,
+    pub(crate) summary: Summary,
+}
+
+/// The text of the task that two texts mean.
+pub(crate) fn translate_texts(
+    alloc: Global,
+    domain: &[u8],
+    problem: &[u8],
+) -> Result<Translation, Stop>
+    ensures ok { IfOk result (λ t. IsTextWhere (of_texts domain.now problem.now) t.text.items t.summary) }
+    ensures err { IfErr result (StopsWhere (of_texts domain.now problem.now)) }
+{
+    let domain_tree = tree_of(alloc, Side::Domain, domain)?;
+    let problem_tree = tree_of(alloc, Side::Problem, problem)?;
+    of_trees(alloc, &domain_tree, &problem_tree)
+}
+
+fn tree_of<'a>(alloc: Global, side: Side, text: &'a [u8]) -> Result<Tree<'a>, Stop>
+    ensures faultless { IfOk result (λ _. tree_faults text.now ≡ []) }
+    ensures tree { IfOk result (λ t. tree text.now ≡ t) }
+    ensures err { IfErr result (StopsAtTree side (tree_faults text.now)) }
+{
+    match read_tree(alloc, text) {
+        Ok(tree) => Ok(tree),
+        Err(TreeEnd::Fault(fault)) => Err(Stop::Faulty(side, fault)),
+        Err(TreeEnd::NoMemory) => Err(Stop::NoMemory),
+    }
+}
+
+fn of_trees(alloc: Global, domain: &Tree<'_>, problem: &Tree<'_>) -> Result<Translation, Stop>
+    ensures ok { IfOk result (λ t. IsTextWhere (of_readings (domain_reading domain.now) (problem_reading problem.now)) t.text.items t.summary) }
+    ensures err { IfErr result (StopsWhere (of_readings (domain_reading domain.now) (problem_reading problem.now))) }
+{
+    let domain = match parse_domain(alloc, domain) {
+        Ok(domain) => domain,
+        Err(ParseEnd::NotBuilt) => return Err(Stop::NotBuilt),
+        Err(ParseEnd::NoMemory) => return Err(Stop::NoMemory),
+    };
+    let problem = match parse_problem(alloc, problem) {
+        Ok(problem) => problem,
+        Err(ParseEnd::NotBuilt) => return Err(Stop::NotBuilt),
+        Err(ParseEnd::NoMemory) => return Err(Stop::NoMemory),
+    };
+    of_task(alloc, &domain, &problem)
+}
+
+fn of_task(alloc: Global, domain: &Domain, problem: &Problem) -> Result<Translation, Stop>
+    requires { IsWellSpelled domain.now }
+    ensures ok { IfOk result (λ t. IsTextWhere (checked domain.now problem.now) t.text.items t.summary) }
+    ensures err { IfErr result (StopsWhere (checked domain.now problem.now)) }
+{
+    let planning = match numbered(alloc, domain, problem) {
+        Ok(planning) => planning,
+        Err(FormEnd::NotBuilt) => return Err(Stop::NotBuilt),
+        Err(FormEnd::NoMemory) => return Err(Stop::NoMemory),
+    };
+    idle_steps();
+    let task = encode(alloc, &planning)?;
+    let text = text_of(alloc, &task)?;
+    Ok(Translation {
+        text,
+        summary: summary(&task),
+    })
+}
+
+fn summary(task: &SasTask) -> Summary
+    ensures { IsSummaryOf task.now result }
+{
+    Summary {
+        variables: task.variables(),
+        facts: facts(task),
+        mutex_groups: task.groups(),
+        operators: task.operators(),
+        axioms: task.rules(),
+    }
+}
+
+/// The sum of the ranges of all variables.
+fn facts(task: &SasTask) -> u128
+    ensures { result ≡ sum_by (λ v. length v.facts) task.now.variables }
+{
+    let mut facts = 0;
+    for i in 0..task.variables() {
+        facts += range(task.variable(i)) as u128;
+    }
+    facts
+}
+
+/// How many values the variable has.
+fn range(variable: &Variable) -> u64
+    ensures { result ≡ length variable.now.facts }
+{
+    variable.facts.as_slice().len() as u64
+}
