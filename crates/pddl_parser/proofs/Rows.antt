@@ -1,44 +1,81 @@
 -- A loop over the members of a list beside the reading of them all: what was read so far, and then the rest, stays the same.
-use Rattle.std.proofs.Common.{◌≡◌, ◌<◌, true, false, List, [], ◌∷◌, ◌++◌, Ok, Err, refl, sym, ap, ◌∙◌, arith}
-use Rattle.std.proofs.lemmas.List.{append_assoc}
+use Rattle.std.proofs.Common.{◌≡◌, ◌<◌, ◌≤◌, true, false, List, [], ◌∷◌, ◌++◌, Ok, Err, refl, sym, ap, ◌∙◌, arith}
+use Rattle.std.proofs.lemmas.List.{append_assoc, append-nil}
 use Rattle.pddl_lexer.specs.Members.{Members, NoMore, WordThen, ListThen, is_empty, rest, count}
+use Rattle.pddl_lexer.specs.declared.fault.Fault.{Fault}
 use Rattle.pddl_parser.specs.declared.end.ParseEnd.{ParseEnd}
-use Rattle.pddl_parser.specs.Outcome.{Outcome, each, with_first, after}
+use Rattle.pddl_parser.specs.declared.end.ParseEnd.TheVariants as ends
+use Rattle.pddl_parser.specs.Outcome.{Reading, Reads, Faults, both, every, at_each, Outcome, first}
 
 pub fewer : (m : Members) → is_empty m ≡ false → count (rest m) < count m
 fewer NoMore some = absurd cc
 fewer (WordThen at bytes more) some = omega arith
 fewer (ListThen at inner more) some = omega arith
 
-module _ {A : Type 0} (item : Members → Outcome A) where
-  each-first : (m : Members) → is_empty m ≡ false → each item m ≡ with_first (item m) (each item (rest m))
-  each-first NoMore some = absurd cc
-  each-first (WordThen at bytes more) some = refl
-  each-first (ListThen at inner more) some = refl
+pub rest_at_most : (m : Members) → count (rest m) ≤ count m
+rest_at_most NoMore = omega arith
+rest_at_most (WordThen at bytes more) = omega arith
+rest_at_most (ListThen at inner more) = omega arith
 
-  each-none : (m : Members) → is_empty m ≡ true → each item m ≡ Ok []
-  each-none NoMore none = refl
-  each-none (WordThen at bytes more) none = absurd cc
-  each-none (ListThen at inner more) none = absurd cc
+pub fewer_after_two : (m : Members) → is_empty m ≡ false → count (rest (rest m)) < count m
+fewer_after_two m some = omega (arith, fewer m some, rest_at_most (rest m))
 
-  pub turn : (xs : List A) (x : A) (m : Members) → is_empty m ≡ false → item m ≡ Ok x → after (xs ++ x ∷ []) (each item (rest m)) ≡ after xs (each item m)
-  turn xs x m some read =
-      regroup (each item (rest m)) ∙ ap (after xs) (sym (each-first m some ∙ ap (λ one. with_first one (each item (rest m))) read))
-    where
-      regroup : (r : Outcome (List A)) → after (xs ++ x ∷ []) r ≡ after xs (with_first (Ok x) r)
-      regroup (Ok ys) = ap (λ (zs : List A). Ok zs) (append_assoc xs (x ∷ []) ys)
-      regroup (Err e) = refl
+module _ {A : Type 0} (rule : Members → A) where
+  pub each_turn : (xs : List A) (m : Members) → is_empty m ≡ false → (xs ++ rule m ∷ []) ++ at_each rule (rest m) ≡ xs ++ at_each rule m
+  each_turn xs NoMore some = absurd cc
+  each_turn xs (WordThen at bytes more) some = append_assoc xs (rule (WordThen at bytes more) ∷ []) (at_each rule more)
+  each_turn xs (ListThen at inner more) some = append_assoc xs (rule (ListThen at inner more) ∷ []) (at_each rule more)
 
-  pub fails : (xs : List A) (e : ParseEnd) (m : Members) → is_empty m ≡ false → item m ≡ Err e → after xs (each item m) ≡ Err e
-  fails xs e m some read = ap (after xs) (each-first m some ∙ ap (λ one. with_first one (each item (rest m))) read)
+  pub each_ended : (xs : List A) (m : Members) → is_empty m ≡ true → xs ++ at_each rule m ≡ xs
+  each_ended xs NoMore none = append-nil xs
+  each_ended xs (WordThen at bytes more) none = absurd cc
+  each_ended xs (ListThen at inner more) none = absurd cc
 
-  pub ended : (xs : List A) (m : Members) → is_empty m ≡ true → after xs (each item m) ≡ Ok xs
-  ended xs m none = ap (after xs) (each-none m none) ∙ ap (λ (zs : List A). Ok zs) (nil xs)
-    where
-      nil : (ys : List A) → ys ++ [] ≡ ys
-      nil [] = refl
-      nil (y ∷ ys) = ap (λ zs. y ∷ zs) (nil ys)
+-- ---- readings, a member at a time
 
-  pub begun : (r : Outcome (List A)) → after [] r ≡ r
-  begun (Ok ys) = refl
-  begun (Err e) = refl
+-- what was read before, and then the rest
+abbrev pub after : {A : Type 0} → List A → Reading (List A) → Outcome (List A)
+after xs (Reads ys) = Ok (xs ++ ys)
+after xs (Faults fault more) = Err (ends.Fault fault)
+
+module _ {A : Type 0} (rule : Members → Reading A) where
+  every_first : (m : Members) → is_empty m ≡ false → every rule m ≡ both (λ x xs. x ∷ xs) (rule m) (every rule (rest m))
+  every_first NoMore some = absurd cc
+  every_first (WordThen at bytes more) some = refl
+  every_first (ListThen at inner more) some = refl
+
+  every_none : (m : Members) → is_empty m ≡ true → every rule m ≡ Reads []
+  every_none NoMore none = refl
+  every_none (WordThen at bytes more) none = absurd cc
+  every_none (ListThen at inner more) none = absurd cc
+
+  pub after_both : (xs : List A) (x : A) (one : Reading A) (more : Reading (List A)) → first one ≡ Ok x →
+      after (xs ++ x ∷ []) more ≡ after xs (both (λ y ys. y ∷ ys) one more)
+  after_both xs x (Reads y) (Reads ys) read =
+      let same : x ≡ y = cc in
+      ap (λ (zs : List A). Ok zs) (append_assoc xs (x ∷ []) ys) ∙ ap (λ (z : A). Ok (xs ++ z ∷ ys)) same
+  after_both xs x (Reads y) (Faults fault more) read = refl
+  after_both xs x (Faults fault others) (Reads ys) read = absurd cc
+  after_both xs x (Faults fault others) (Faults other more) read = absurd cc
+
+  same_end : (fault : Fault) (e : ParseEnd) → ◌≡◌ {A = Outcome A} (Err (ends.Fault fault)) (Err e) → ◌≡◌ {A = Outcome (List A)} (Err (ends.Fault fault)) (Err e)
+  same_end fault e read = let same : ends.Fault fault ≡ e = cc in ap (λ (x : ParseEnd). Err x) same
+
+  pub after_fails : (xs : List A) (e : ParseEnd) (one : Reading A) (more : Reading (List A)) → first one ≡ Err e →
+      after xs (both (λ y ys. y ∷ ys) one more) ≡ Err e
+  after_fails xs e (Reads y) more read = absurd cc
+  after_fails xs e (Faults fault others) (Reads ys) read = same_end fault e read
+  after_fails xs e (Faults fault others) (Faults other more) read = same_end fault e read
+
+  pub turn : (xs : List A) (x : A) (m : Members) → is_empty m ≡ false → first (rule m) ≡ Ok x → after (xs ++ x ∷ []) (every rule (rest m)) ≡ after xs (every rule m)
+  turn xs x m some read = after_both xs x (rule m) (every rule (rest m)) read ∙ ap (after xs) (sym (every_first m some))
+
+  pub fails : (xs : List A) (e : ParseEnd) (m : Members) → is_empty m ≡ false → first (rule m) ≡ Err e → after xs (every rule m) ≡ Err e
+  fails xs e m some read = ap (after xs) (every_first m some) ∙ after_fails xs e (rule m) (every rule (rest m)) read
+
+  pub ended : (xs : List A) (m : Members) → is_empty m ≡ true → after xs (every rule m) ≡ Ok xs
+  ended xs m none = ap (after xs) (every_none m none) ∙ ap (λ (zs : List A). Ok zs) (append-nil xs)
+
+pub begun : {A : Type 0} (reading : Reading (List A)) → after [] reading ≡ first reading
+begun (Reads xs) = refl
+begun (Faults fault more) = refl

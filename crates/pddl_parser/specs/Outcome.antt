@@ -1,45 +1,73 @@
--- What reading a place of a file gives: its value, or why it can't be read.
-use Rattle.std.specs.Prelude.{◌≡◌, ◌≢◌, List, [], ◌∷◌, ◌++◌, Result, Ok, Err, if◌then◌else◌}
-use Rattle.pddl_lexer.specs.Members.{Members, NoMore, WordThen, ListThen, is_empty}
+-- What reading a place of a file gives: its value, or all its faults in order; and what the code answers.
+use Rattle.std.specs.Prelude.{◌≡◌, ◌≢◌, ℕ, List, [], ◌∷◌, ◌++◌, Result, Ok, Err}
+use Rattle.pddl_lexer.specs.Members.{Members, NoMore, WordThen, ListThen}
+use Rattle.pddl_lexer.specs.declared.fault.Fault.{Fault}
 use Rattle.pddl_parser.specs.declared.end.ParseEnd.{ParseEnd}
-use Rattle.pddl_parser.specs.declared.end.ParseEnd.TheVariants.{NotBuilt, NoMemory}
+use Rattle.pddl_parser.specs.declared.end.ParseEnd.TheVariants as ends
+
+-- a value; or a first fault and those after it
+pub data Reading (A : Type 0) : Type 0 where
+  Reads : (value : A) → Reading A
+  Faults : (fault : Fault) (more : List Fault) → Reading A
+
+abbrev pub faults_of : {A : Type 0} → Reading A → List Fault
+faults_of (Reads value) = []
+faults_of (Faults fault more) = fault ∷ more
+
+-- made of what one place reads
+abbrev pub made : {A B : Type 0} → (A → B) → Reading A → Reading B
+made f (Reads x) = Reads (f x)
+made f (Faults fault more) = Faults fault more
+
+-- made of what two places read; their faults stand one after another
+abbrev pub both : {A B C : Type 0} → (A → B → C) → Reading A → Reading B → Reading C
+both f (Reads x) (Reads y) = Reads (f x y)
+both f (Reads x) (Faults fault more) = Faults fault more
+both f (Faults fault more) (Reads y) = Faults fault more
+both f (Faults fault more) (Faults other others) = Faults fault (more ++ other ∷ others)
+
+-- a list that is itself at fault isn't looked into
+abbrev pub own : {A : Type 0} → Result (Unit {0}) Fault → Reading A → Reading A
+own (Ok none) inside = inside
+own (Err fault) inside = Faults fault []
+
+-- the place is at fault
+abbrev pub refused : {A : Type 0} → Fault → Reading A
+refused fault = Faults fault []
+
+-- these faults come last
+abbrev pub with_last : {A : Type 0} → List Fault → Reading A → Reading A
+with_last [] reading = reading
+with_last (fault ∷ more) (Reads x) = Faults fault more
+with_last (fault ∷ more) (Faults first others) = Faults first (others ++ fault ∷ more)
+
+-- made of what each place reads
+abbrev pub joined : {A : Type 0} → List (Reading A) → Reading (List A)
+joined [] = Reads []
+joined (first ∷ more) = both (λ x xs. x ∷ xs) first (joined more)
+
+-- a rule at each member; it is given the member and those after it
+abbrev pub at_each : {A : Type 0} → (Members → A) → Members → List A
+at_each rule NoMore = []
+at_each rule (WordThen line word more) = rule (WordThen line word more) ∷ at_each rule more
+at_each rule (ListThen line inside more) = rule (ListThen line inside more) ∷ at_each rule more
+
+-- each member, by the rule of one
+abbrev pub every : {A : Type 0} → (Members → Reading A) → Members → Reading (List A)
+every rule members = joined (at_each rule members)
+
+-- ---- what the code answers
 
 abbrev pub Outcome : Type 0 → Type 0
 Outcome A = Result A ParseEnd
 
-infixl 10 ◌>>=◌
-abbrev pub ◌>>=◌ : {A B : Type 0} → Outcome A → (A → Outcome B) → Outcome B
-(Ok x) >>= f = f x
-(Err e) >>= f = Err e
+-- the value, or the first fault
+abbrev pub first : {A : Type 0} → Reading A → Outcome A
+first (Reads x) = Ok x
+first (Faults fault more) = Err (ends.Fault fault)
 
--- the place is outside the form that is read
-abbrev pub outside : {A : Type 0} → Outcome A
-outside = Err NotBuilt
-
--- the value, if there is no further member
-abbrev pub closed : {A : Type 0} → Members → A → Outcome A
-closed members x = if is_empty members then Ok x else outside
-
-abbrev pub with_first : {A : Type 0} → Outcome A → Outcome (List A) → Outcome (List A)
-with_first one others = do
-  x ← one
-  xs ← others
-  Ok (x ∷ xs)
-
--- each member, by the rule of one, which reads the first of the members that it is given
-abbrev pub each : {A : Type 0} → (Members → Outcome A) → Members → Outcome (List A)
-each item NoMore = Ok []
-each item (WordThen line word more) = with_first (item (WordThen line word more)) (each item more)
-each item (ListThen line inside more) = with_first (item (ListThen line inside more)) (each item more)
-
--- what was read before, and then the rest
-abbrev pub after : {A : Type 0} → List A → Outcome (List A) → Outcome (List A)
-after xs others = do
-  ys ← others
-  Ok (xs ++ ys)
-
--- What a function that reads gives is the outcome of the reading: the value exactly where the place is in the form,
--- and `NotBuilt` exactly where it is outside. Only where memory runs out it gives `NoMemory` in place of either.
+-- What a function that reads gives is the value exactly where there is no fault, and else the first fault. Only where memory
+-- runs out it gives `NoMemory` in place of either.
 abbrev pub Gives : {A : Type 0} → Outcome A → Outcome A → Type 0
 Gives (Ok x) reading = reading ≡ Ok x
-Gives (Err e) reading = e ≢ NoMemory → reading ≡ Err e
+Gives (Err e) reading = e ≢ ends.NoMemory → reading ≡ Err e

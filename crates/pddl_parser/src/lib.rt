@@ -1,22 +1,28 @@
-//! PDDL domains and problems: what a domain file and a problem file say, read from their nested lists,
-//! and what that means.
-//!
-//! Read is propositional PDDL, without parameters, types, constants and costs.
+//! PDDL domains and problems: what a domain file and a problem file say, read from their nested lists, and what that means.
 #![tactic(auto)]
 
 mod action;
+mod checks;
 mod condition;
 mod cursor;
+mod domain;
 mod effect;
 mod end;
-mod file;
+mod expected;
+mod function;
+mod init;
 pub mod laws;
+mod number;
+mod problem;
+mod title;
 mod types;
+mod values;
 mod words;
 
+pub use domain::parse_domain;
 pub use end::ParseEnd;
-pub use file::{parse_domain, parse_problem};
 pub use lists::{Boxed, List, Text};
+pub use problem::parse_problem;
 pub use types::{
     Action, Atom, Condition, Cost, Derived, Domain, Effect, Head, Init, Named, Problem, Term, Typed,
 };

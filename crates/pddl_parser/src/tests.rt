@@ -1,129 +1,199 @@
 use super::*;
-use pddl_lexer::read_tree;
+use pddl_lexer::{Kind, ShapePlace, read_tree};
 use std::test::*;
 
 const DOMAIN: &[u8] = b"(define (domain switch) ; a lamp
-(:Predicates (on) (off))
+(:predicates (on) (off))
 (:action FLIP :parameters ()
  :precondition (off)
  :effect (and (on) (not (OFF)))))";
 
 const PROBLEM: &[u8] = b"(define (problem one) (:domain switch)
 (:init (off))
-(:goal (And (on)
- (off))))";
+(:goal (on)))";
 
-fn domain_of(rt: HostRuntime, text: &[u8]) -> Option<Domain> {
-    let tree = read_tree(rt.alloc(), text).ok()?;
-    parse_domain(rt.alloc(), &tree).ok()
+const TYPED: &[u8] = b"(define (domain t)
+(:constants a b - thing c)
+(:functions (total-cost) (far ?x ?y - place) - number)
+(:types thing - object)
+(:predicates (at ?x - thing ?p))
+(:derived (some) (exists (?x - thing) (imply (at ?x ?x) (= ?x a))))
+(:action go :effect (forall (?z) (when () (increase (total-cost) 12)))
+ :parameters (?x)))";
+
+fn domain_of(rt: HostRuntime, text: &[u8]) -> Result<Domain, ParseEnd> {
+    match read_tree(rt.alloc(), text) {
+        Ok(tree) => parse_domain(rt.alloc(), &tree),
+        Err(_) => Err(ParseEnd::NoMemory),
+    }
 }
 
-fn problem_of(rt: HostRuntime, text: &[u8]) -> Option<Problem> {
-    let tree = read_tree(rt.alloc(), text).ok()?;
-    parse_problem(rt.alloc(), &tree).ok()
+fn problem_of(rt: HostRuntime, text: &[u8]) -> Result<Problem, ParseEnd> {
+    match read_tree(rt.alloc(), text) {
+        Ok(tree) => parse_problem(rt.alloc(), &tree),
+        Err(_) => Err(ParseEnd::NoMemory),
+    }
 }
 
 fn is_at(name: &Named, word: &[u8], line: u64) -> bool {
     name.name.as_slice() == word && name.line == line
 }
 
-fn is_atom(atom: &Atom, word: &[u8], line: u64) -> bool {
-    is_at(&atom.predicate, word, line) && atom.line == line && atom.terms.as_slice().is_empty()
+fn is_fault<T: Drop>(answer: Result<T, ParseEnd>, kind: Kind, line: u64) -> bool {
+    match answer {
+        Err(ParseEnd::Fault(fault)) => fault.kind == kind && fault.line == line,
+        Err(ParseEnd::NoMemory) | Ok(_) => false,
+    }
 }
 
 #[test]
-fn the_switch_domain_is_read(rt: HostRuntime) {
-    let domain = domain_of(rt, DOMAIN).expect(&rt, "read");
-    let predicates = domain.predicates.as_slice();
-    assert_eq!(rt; predicates.len(), 2);
-    assert!(rt; is_at(&predicates[0].name, b"on", 2));
-    assert!(rt; is_at(&predicates[1].name, b"off", 2));
+fn the_switch_files_are_read(rt: HostRuntime) {
+    let domain = domain_of(rt, DOMAIN).ok().expect(&rt, "read");
+    assert_eq!(rt; domain.predicates.as_slice().len(), 2);
     let actions = domain.actions.as_slice();
     assert_eq!(rt; actions.len(), 1);
     assert!(rt; is_at(&actions[0].name, b"flip", 3));
-    assert!(rt; actions[0].parameters.as_slice().is_empty());
     assert!(rt;
-        matches!(&actions[0].precondition, Condition::Atom(atom) if is_atom(atom, b"off", 4))
+        matches!(&actions[0].precondition, Condition::Atom(atom) if is_at(&atom.predicate, b"off", 4))
     );
     assert!(rt;
-        matches!(&actions[0].effect, Effect::And(members, 5) if is_switched(members.as_slice()))
+        matches!(&actions[0].effect, Effect::And(members, 5) if members.as_slice().len() == 2)
     );
-}
-
-fn is_switched(effects: &[Effect]) -> bool {
-    match effects {
-        [Effect::Add(added), Effect::Delete(deleted)] => {
-            is_atom(added, b"on", 5) && is_atom(deleted, b"off", 5)
-        }
-        _ => false,
-    }
-}
-
-#[test]
-fn the_switch_problem_is_read(rt: HostRuntime) {
-    let problem = problem_of(rt, PROBLEM).expect(&rt, "read");
-    assert!(rt; problem.objects.as_slice().is_empty());
+    let problem = problem_of(rt, PROBLEM).ok().expect(&rt, "read");
     assert!(rt; !problem.metric);
-    assert!(rt; matches!(problem.init.as_slice(), [Init::Holds(atom)] if is_atom(atom, b"off", 2)));
-    assert!(rt; matches!(&problem.goal, Condition::And(members, 3) if is_both(members.as_slice())));
+    assert!(rt;
+        matches!(problem.init.as_slice(), [Init::Holds(atom)] if is_at(&atom.predicate, b"off", 2))
+    );
+    assert!(rt; matches!(&problem.goal, Condition::Atom(atom) if is_at(&atom.predicate, b"on", 3)));
 }
 
-fn is_both(goals: &[Condition]) -> bool {
-    match goals {
-        [Condition::Atom(first), Condition::Atom(second)] => {
-            is_atom(first, b"on", 3) && is_atom(second, b"off", 4)
-        }
-        _ => false,
+#[test]
+fn sections_and_keys_stand_in_any_order(rt: HostRuntime) {
+    let domain = domain_of(rt, TYPED).ok().expect(&rt, "read");
+    let constants = domain.constants.as_slice();
+    assert_eq!(rt; constants.len(), 3);
+    assert!(rt; matches!(constants[1].types.as_slice(), [only] if is_at(only, b"thing", 2)));
+    assert!(rt; constants[2].types.as_slice().is_empty());
+    assert_eq!(rt; domain.types.as_slice().len(), 1);
+    let functions = domain.functions.as_slice();
+    assert_eq!(rt; functions.len(), 2);
+    assert_eq!(rt; functions[1].variables.as_slice().len(), 2);
+    assert!(rt;
+        matches!(domain.axioms.as_slice(), [axiom] if matches!(axiom.body, Condition::Exists(_, _, 6)))
+    );
+    assert!(rt;
+        matches!(domain.actions.as_slice(), [go] if matches!(go.effect, Effect::Forall(_, _, 7)))
+    );
+    assert!(rt;
+        matches!(domain.actions.as_slice(), [go] if matches!(go.precondition, Condition::True(7)))
+    );
+}
+
+#[test]
+fn first_faults_of_domains(rt: HostRuntime) {
+    let cases: [(&[u8], Kind, u64); 12] = [
+        (
+            b"(define (domain d)\n(:predicates on (off)))",
+            Kind::Shape(ShapePlace::Head),
+            2,
+        ),
+        (b"(define (domain sw@tch))", Kind::BadName, 1),
+        (
+            b"(define (domain d)\n(:predicates (and) (off)))",
+            Kind::ReservedWord,
+            2,
+        ),
+        (
+            b"(define (domain d)\n(:requirements :fluents))",
+            Kind::UnsupportedRequirement,
+            2,
+        ),
+        (
+            b"(define (domain d) (:predicates (p))\n(x)\ny)",
+            Kind::Shape(ShapePlace::Section),
+            3,
+        ),
+        (
+            b"(define (domain d) (:types a -\n(either b c)))",
+            Kind::UnsupportedSection,
+            2,
+        ),
+        (
+            b"(define (domain d)\n(:types a -\n))",
+            Kind::Shape(ShapePlace::Section),
+            2,
+        ),
+        (
+            b"(define (domain d) (:functions (f) - number\n- number))",
+            Kind::Shape(ShapePlace::Head),
+            2,
+        ),
+        (
+            b"(define (domain d) (:action a :precondition\n:effect (p)))",
+            Kind::Shape(ShapePlace::Condition),
+            2,
+        ),
+        (
+            b"(define (domain d) (:action a :effect ()\n:effect))",
+            Kind::RepeatedSection,
+            2,
+        ),
+        (
+            b"(define (domain d) (:action a :precondition\n(< (f) 1)))",
+            Kind::UnsupportedSection,
+            2,
+        ),
+        (
+            b"(define (domain d) (:action a :effect (= a b)))",
+            Kind::BadName,
+            1,
+        ),
+    ];
+    for (text, kind, line) in cases {
+        assert!(rt; is_fault(domain_of(rt, text), kind, line));
     }
 }
 
 #[test]
-fn what_is_not_written_has_the_line_of_its_action(rt: HostRuntime) {
-    let text = b"(define (domain d) (:predicates)\n(:action\nwait))";
-    let domain = domain_of(rt, text).expect(&rt, "read");
-    let actions = domain.actions.as_slice();
-    assert_eq!(rt; actions.len(), 1);
-    assert!(rt; is_at(&actions[0].name, b"wait", 3));
-    assert!(rt; matches!(&actions[0].precondition, Condition::True(2)));
-    assert!(rt; matches!(&actions[0].effect, Effect::Nothing(2)));
-}
-
-#[test]
-fn other_domains_are_not_read(rt: HostRuntime) {
-    let texts: [&[u8]; 14] = [
-        b"()",
-        b"(define)",
-        b"(define domain (:predicates))",
-        b"(define (domain :d) (:predicates))",
-        b"(define (domain d e) (:predicates))",
-        b"(define (domain d))",
-        b"(define (domain d) (:predicates and))",
-        b"(define (domain d) (:predicates (and)))",
-        b"(define (domain d) (:predicates (p ?x)))",
-        b"(define (domain d) (:requirements) (:predicates))",
-        b"(define (domain d) (:predicates) (:action a :parameters (?x)))",
-        b"(define (domain d) (:predicates) (:action a :precondition))",
-        b"(define (domain d) (:predicates) (:action a :effect (p) :precondition (p)))",
-        b"(define (domain d) (:predicates) (:action a :effect (not (not (p)))))",
+fn first_faults_of_problems(rt: HostRuntime) {
+    let cases: [(&[u8], Kind, u64); 7] = [
+        (
+            b"(define (problem p)\n(:init (= (total-cost) 1.5)))",
+            Kind::NotWhole,
+            2,
+        ),
+        (
+            b"(define (problem p)\n(:init (= (total-cost) 2147483648)))",
+            Kind::NumberTooLarge,
+            2,
+        ),
+        (
+            b"(define (problem p)\n(:constraints (on)))",
+            Kind::UnsupportedSection,
+            2,
+        ),
+        (
+            b"(define (problem p) (:init (off))\n(:init))",
+            Kind::RepeatedSection,
+            2,
+        ),
+        (
+            b"(define (problem p)\n(:domain d) (:init))",
+            Kind::MissingSection,
+            1,
+        ),
+        (
+            b"(define (problem p) (:metric minimize (total-cost))\n(:metric maximize (x)))",
+            Kind::RepeatedSection,
+            2,
+        ),
+        (
+            b"(define (problem p) (:init (< (p) 1)))",
+            Kind::ReservedWord,
+            1,
+        ),
     ];
-    for text in texts {
-        assert!(rt; domain_of(rt, text).is_none());
-    }
-}
-
-#[test]
-fn other_problems_are_not_read(rt: HostRuntime) {
-    let texts: [&[u8]; 8] = [
-        b"(define (problem p) (:domain d) (:init) (:goal))",
-        b"(define (problem p) (:domain d) (:init) (:goal ()))",
-        b"(define (problem p) (:domain d) (:init) (:goal (p) (p)))",
-        b"(define (problem p) (:domain d) (:init) (:goal (p)) (:goal (p)))",
-        b"(define (problem p) (:domain d) (:init) (:goal (not (p))))",
-        b"(define (problem p) (:domain d) (:goal (p)) (:init))",
-        b"(define (problem p) (:domain d) (:init (not (p))) (:goal (p)))",
-        b"(define (problem p) (:domain d) (:init p) (:goal (p)))",
-    ];
-    for text in texts {
-        assert!(rt; problem_of(rt, text).is_none());
+    for (text, kind, line) in cases {
+        assert!(rt; is_fault(problem_of(rt, text), kind, line));
     }
 }

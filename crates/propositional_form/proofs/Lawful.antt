@@ -1,5 +1,5 @@
 -- The task of a domain and a problem in the form can be encoded, where names are well spelled.
-use Rattle.std.proofs.Common.{◌≡◌, ◌≢◌, ℕ, ◌<◌, ◌+◌, Bool, true, false, not, cond, ◌||◌, List, [], ◌∷◌, map, length, All, refl, arith}
+use Rattle.std.proofs.Common.{◌≡◌, ◌≢◌, ◌<◌, ◌+◌, Bool, true, false, not, cond, ◌||◌, List, [], ◌∷◌, map, length, All, arith}
 use Rattle.std.specs.List.{list_any, list_all, flat_map, position_or_len}
 use Rattle.std.proofs.lemmas.List.Elements.{All-nil, All-cons, All-head, All-tail}
 use Rattle.pddl_parser.specs.declared.types.Action as parsed
@@ -7,11 +7,11 @@ use Rattle.pddl_parser.specs.declared.types.Atom.{Atom}
 use Rattle.pddl_parser.specs.declared.types.Domain.{Domain}
 use Rattle.pddl_parser.specs.declared.types.Head.{Head}
 use Rattle.pddl_parser.specs.declared.types.Problem.{Problem}
-use Rattle.pddl_parser.specs.Spelled.{IsWellSpelled}
-use Rattle.pddl_parser.specs.Words.{Name, is_same, is_name}
+use Rattle.pddl_parser.specs.Spelled.{is_spelled, IsWellSpelled}
+use Rattle.pddl_parser.specs.Words.{Name, is_same}
 use Rattle.sas_task.specs.Valid.{IsName}
 use Rattle.propositional.specs.Lawful.{AreBelow, IsLawfulAction, IsLawful}
-use Rattle.propositional_form.specs.Form.{is_empty, is_plain, is_plain_action, predicate_names, action_names, in_form}
+use Rattle.propositional_form.specs.Form.{is_empty, is_plain, is_plain_action, predicate_names, in_form}
 use Rattle.propositional_form.specs.Numbers.{conjuncts, additions, deletions, stated, number_of, numbers_of, numbered_action, numbered}
 use Rattle.propositional_form.proofs.Spelling.{name_stands, no_line_feed}
 use Rattle.propositional_form.proofs.Parts.{plain_action, parts_of_form}
@@ -50,20 +50,20 @@ module _ (domain : Domain) (problem : Problem) where
         deleted = numbers_within declared (deletions action.effect) (deletions_plain declared action.effect parts.changes);
       }
 
-  lawful_actions : (actions : List parsed.Action) → list_all (is_plain_action declared) actions ≡ true → All (λ action. is_name action.name.name ≡ true) actions →
+  lawful_actions : (actions : List parsed.Action) → list_all (is_plain_action declared) actions ≡ true → All (λ action. is_spelled action.name.name ≡ true) actions →
       All (IsLawfulAction (length declared)) (map (numbered_action declared) actions)
   lawful_actions [] plain named = All-nil (IsLawfulAction (length declared))
   lawful_actions (action ∷ actions) plain named =
       All-cons (IsLawfulAction (length declared)) (numbered_action declared action) (map (numbered_action declared) actions)
-      (lawful_action action (both_left (is_plain_action declared action) (list_all (is_plain_action declared) actions) plain) (name_stands action.name.name (All-head (λ a. is_name a.name.name ≡ true) action actions named)))
-      (lawful_actions actions (both_right (is_plain_action declared action) (list_all (is_plain_action declared) actions) plain) (All-tail (λ a. is_name a.name.name ≡ true) action actions named))
+      (lawful_action action (both_left (is_plain_action declared action) (list_all (is_plain_action declared) actions) plain) (name_stands action.name.name (All-head (λ a. is_spelled a.name.name ≡ true) action actions named)))
+      (lawful_actions actions (both_right (is_plain_action declared action) (list_all (is_plain_action declared) actions) plain) (All-tail (λ a. is_spelled a.name.name ≡ true) action actions named))
 
-  lines_whole : (heads : List Head) → All (λ head. is_name head.name.name ≡ true) heads → All (All (λ byte. byte ≢ 10)) (map (λ head. head.name.name) heads)
+  lines_whole : (heads : List Head) → All (λ head. is_spelled head.name.name ≡ true) heads → All (All (λ byte. byte ≢ 10)) (map (λ head. head.name.name) heads)
   lines_whole [] spelled = All-nil (All (λ byte. byte ≢ 10))
   lines_whole (head ∷ heads) spelled =
       All-cons (All (λ byte. byte ≢ 10)) head.name.name (map (λ h. h.name.name) heads)
-      (no_line_feed head.name.name (All-head (λ h. is_name h.name.name ≡ true) head heads spelled))
-      (lines_whole heads (All-tail (λ h. is_name h.name.name ≡ true) head heads spelled))
+      (no_line_feed head.name.name (All-head (λ h. is_spelled h.name.name ≡ true) head heads spelled))
+      (lines_whole heads (All-tail (λ h. is_spelled h.name.name ≡ true) head heads spelled))
 
   pub lawful : in_form domain problem ≡ true → IsWellSpelled domain → IsLawful (numbered domain problem)
   lawful form spelled =

@@ -1,13 +1,13 @@
 -- What conditions and effects of the form mean: they are about the atoms that they name.
-use Rattle.std.proofs.Common.{◌≡◌, ℕ, Bool, true, false, not, ◌&&◌, ◌||◌, List, [], ◌∷◌, ◌++◌, map, refl, sym, ap, ◌∙◌}
+use Rattle.std.proofs.Common.{◌≡◌, Bool, true, false, ◌&&◌, ◌||◌, List, [], ◌∷◌, map, refl, sym, ap, ◌∙◌}
 use Rattle.std.specs.List.{list_all, list_any, flat_map}
 use Rattle.std.proofs.Math.Bool.{and-true}
 use Rattle.std.proofs.lemmas.List.Folds.{list_all-append, list_any-append}
 use Rattle.pddl_parser.specs.declared.types.Atom.{Atom}
-use Rattle.pddl_parser.specs.declared.types.Condition.{Condition, Condition-F, fold-Condition, map-Condition, out-Condition}
+use Rattle.pddl_parser.specs.declared.types.Condition.{Condition, Condition-F, map-Condition, out-Condition}
 use Rattle.pddl_parser.specs.declared.types.Condition.TheFolds.{fold_out-Condition}
 use Rattle.pddl_parser.specs.declared.types.Domain.{Domain}
-use Rattle.pddl_parser.specs.declared.types.Effect.{Effect, Effect-F, fold-Effect, map-Effect, out-Effect}
+use Rattle.pddl_parser.specs.declared.types.Effect.{Effect, Effect-F, map-Effect, out-Effect}
 use Rattle.pddl_parser.specs.declared.types.Effect.TheFolds.{fold_out-Effect}
 use Rattle.pddl_parser.specs.declared.types.Problem.{Problem}
 use Rattle.pddl_parser.specs.declared.types.Term.{Term}

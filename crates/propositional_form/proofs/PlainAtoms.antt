@@ -1,13 +1,12 @@
 -- In the form, conditions, effects and the initial state are made of plain atoms.
-use Rattle.std.proofs.Common.{◌≡◌, ℕ, Bool, true, false, ◌&&◌, List, [], ◌∷◌, ◌++◌, refl, sym, ap, ◌∙◌}
+use Rattle.std.proofs.Common.{◌≡◌, Bool, true, false, ◌&&◌, List, [], ◌∷◌, refl, ap, ◌∙◌}
 use Rattle.std.specs.List.{list_all, flat_map}
-use Rattle.std.proofs.Math.Bool.{and-true}
 use Rattle.std.proofs.lemmas.List.Folds.{list_all-append}
 use Rattle.pddl_parser.specs.declared.types.Atom.{Atom}
 use Rattle.pddl_parser.specs.declared.types.Condition.{Condition, Condition-F, out-Condition}
 use Rattle.pddl_parser.specs.declared.types.Effect.{Effect, Effect-F, out-Effect}
 use Rattle.pddl_parser.specs.declared.types.Init.{Init}
-use Rattle.pddl_parser.specs.declared.types.Init.TheVariants.{Holds, HoldsNot, Value}
+use Rattle.pddl_parser.specs.declared.types.Init.TheVariants.{Holds}
 use Rattle.pddl_parser.specs.Words.{Name}
 use Rattle.propositional_form.specs.Form.{is_plain, is_plain_atom, is_conjunction_layer, is_conjunction, is_change, are_changes_layer, are_changes, is_plain_init}
 use Rattle.propositional_form.specs.Numbers.{own_atom, conjuncts_layer, conjuncts, own_addition, additions_layer, additions, own_deletion, deletions_layer, deletions, stated}

@@ -1,5 +1,5 @@
 -- What two texts, and the files that hold them, come to.
-use Rattle.std.proofs.Common.{◌≡◌, ◌⊎◌, ℕ, ◌≤◌, ◌<◌, Bool, true, false, List, [], ◌∷◌, cond, length, refl, sym, ap, ◌∙◌, subst, inl, inr}
+use Rattle.std.proofs.Common.{◌≡◌, ◌≢◌, ◌⊎◌, ℕ, ◌≤◌, ◌<◌, Bool, true, false, List, [], ◌∷◌, cond, length, refl, sym, ap, ◌∙◌, subst, inl, inr}
 use Rattle.std.proofs.lemmas.Bool.{lt-ltb, le-ltb}
 use Rattle.std.specs.Prelude.{nat_lt, Ok, Err, IfOk, IfErr}
 use Rattle.std.specs.declared.option.Option.{Option}
@@ -13,6 +13,9 @@ use Rattle.pddl_lexer.specs.Faults.{tree_faults}
 use Rattle.pddl_lexer.specs.declared.fault.Fault.{Fault}
 use Rattle.pddl_parser.specs.declared.types.Domain.{Domain}
 use Rattle.pddl_parser.specs.declared.types.Problem.{Problem}
+use Rattle.pddl_parser.specs.declared.end.ParseEnd.{ParseEnd}
+use Rattle.pddl_parser.specs.declared.end.ParseEnd.TheVariants as ends
+use Rattle.pddl_parser.specs.Outcome.{Reading, Reads, Faults, faults_of, first}
 use Rattle.pddl_parser.specs.Reading.{domain_reading, problem_reading}
 use Rattle.propositional_form.specs.Form.{in_form}
 use Rattle.translate_main.specs.declared.outcome.Side.{Side}
@@ -22,8 +25,8 @@ use Rattle.translate_main.specs.declared.outcome.Outcome.{Outcome}
 use Rattle.translate_main.specs.declared.outcome.Outcome.TheVariants as outcomes
 use Rattle.translate_main.specs.declared.translation.Stop.{Stop}
 use Rattle.translate_main.specs.declared.translation.Stop.TheVariants.{NoMemory, Faulty, NotBuilt}
-use Rattle.translate_main.specs.Run.{Ending, Absent, Refused, Outside, Translated, limit, length_faults, first_of, checked, of_readings, of_texts, of_problem_file, of_files, ending, ComesTo, ComesToIfTold}
-use Rattle.translate_main.specs.Written.{too_long, IsTextOf, IsTextWhere, IsTextOfFiles, StopsWhere, StopsAtTree, StopsOnInput, StopsOnFiles}
+use Rattle.translate_main.specs.Run.{Ending, Absent, Refused, Outside, Translated, limit, length_faults, first_of, checked, of_values, of_readings, of_texts, of_problem_file, of_files, ending, ComesTo, ComesToIfTold}
+use Rattle.translate_main.specs.Written.{too_long, IsTextOf, IsTextWhere, IsTextOfFiles, StopsWhere, StopsAt, StopsOnInput, StopsOnFiles}
 
 -- ---- a pair of readings
 
@@ -31,20 +34,48 @@ pub text_in_form : (domain : Domain) (problem : Problem) (bytes : List ℕ) (sum
 text_in_form domain problem bytes summary form text =
     subst (λ (test : Bool). IsTextWhere (cond test (Translated domain problem) Outside) bytes summary) (sym form) text
 
--- ---- two texts
+-- ---- a file with faults
 
-stopped_at : (side : Side) (faults : List Fault) (after : Ending) (stop : Stop) → StopsAtTree side faults stop → StopsWhere (first_of side faults after) stop
+stopped_at : (side : Side) (faults : List Fault) (after : Ending) (stop : Stop) → StopsAt side faults stop → StopsWhere (first_of side faults after) stop
 stopped_at side faults after NoMemory stops = tt
 stopped_at side faults after (Faulty at fault) stops =
     let first : first_of side faults after ≡ Refused side fault = ap (λ (fs : List Fault). first_of side fs after) stops.1.1 in
     first ∙ ap (λ (s : Side). Refused s fault) (sym stops.0)
 stopped_at side faults after NotBuilt stops = absurd stops
 
-pub stopped_at_domain : (domain problem : List ℕ) (stop : Stop) → StopsAtTree sides.Domain (tree_faults domain) stop → StopsWhere (of_texts domain problem) stop
+-- ---- two readings
+
+-- what a function gives that reads
+pub value_given : {A : Type 0} (reading : Reading A) (value : A) → first reading ≡ Ok value → reading ≡ Reads value
+value_given (Reads found) value e = let same : found ≡ value = cc (e) in ap Reads same
+value_given (Faults fault more) value e = absurd (let no : Err (ends.Fault fault) ≡ Ok value = e in cc (no))
+
+pub faults_given : {A : Type 0} (reading : Reading A) (side : Side) (end : ParseEnd) (fault : Fault) → end ≡ ends.Fault fault → (end ≢ ends.NoMemory → first reading ≡ Err end) → StopsAt side (faults_of reading) (Faulty side fault)
+faults_given (Reads value) side end fault is given = absurd (let e = given (λ no. cc (is, no)) in cc (e))
+faults_given (Faults found more) side end fault is given =
+    let e = given (λ no. cc (is, no)) in
+    let same : found ≡ fault = cc (e, is) in
+    (refl, (more, ap (λ (f : Fault). f ∷ more) same))
+
+pub readings_stopped_at_domain : (domain : Reading Domain) (problem : Reading Problem) (stop : Stop) → StopsAt sides.Domain (faults_of domain) stop → StopsWhere (of_readings domain problem) stop
+readings_stopped_at_domain domain problem stop stops = stopped_at sides.Domain (faults_of domain) (first_of sides.Problem (faults_of problem) (of_values domain problem)) stop stops
+
+pub readings_stopped_at_problem : (domain : Reading Domain) (problem : Reading Problem) (value : Domain) (stop : Stop) → domain ≡ Reads value → StopsAt sides.Problem (faults_of problem) stop → StopsWhere (of_readings domain problem) stop
+readings_stopped_at_problem domain problem value stop is stops =
+    subst (λ (r : Reading Domain). StopsWhere (of_readings r problem) stop) (sym is)
+    (stopped_at sides.Problem (faults_of problem) (of_values (Reads value) problem) stop stops)
+
+pub readings_checked : (domain : Reading Domain) (problem : Reading Problem) (d : Domain) (p : Problem) → domain ≡ Reads d → problem ≡ Reads p → of_readings domain problem ≡ checked d p
+readings_checked domain problem d p is is' =
+    ap (λ (r : Reading Domain). of_readings r problem) is ∙ ap (λ (r : Reading Problem). of_readings (Reads d) r) is'
+
+-- ---- two texts
+
+pub stopped_at_domain : (domain problem : List ℕ) (stop : Stop) → StopsAt sides.Domain (tree_faults domain) stop → StopsWhere (of_texts domain problem) stop
 unfolding of_texts
 stopped_at_domain domain problem stop stops = stopped_at sides.Domain (tree_faults domain) (first_of sides.Problem (tree_faults problem) (of_readings (domain_reading (tree domain)) (problem_reading (tree problem)))) stop stops
 
-pub stopped_at_problem : (domain problem : List ℕ) (stop : Stop) → tree_faults domain ≡ [] → StopsAtTree sides.Problem (tree_faults problem) stop → StopsWhere (of_texts domain problem) stop
+pub stopped_at_problem : (domain problem : List ℕ) (stop : Stop) → tree_faults domain ≡ [] → StopsAt sides.Problem (tree_faults problem) stop → StopsWhere (of_texts domain problem) stop
 unfolding of_texts
 stopped_at_problem domain problem stop none stops =
     let after = first_of sides.Problem (tree_faults problem) (of_readings (domain_reading (tree domain)) (problem_reading (tree problem))) in

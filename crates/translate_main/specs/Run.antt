@@ -1,5 +1,5 @@
 -- What a run comes to, by what its files hold: the order in which a run looks at them, and the first thing that ends it.
-use Rattle.std.specs.Prelude.{◌≡◌, ◌≢◌, ℕ, List, [], ◌∷◌, length, nat_lt, codes, ⊤, Ok, Err, if◌then◌else◌}
+use Rattle.std.specs.Prelude.{◌≡◌, ◌≢◌, ℕ, List, [], ◌∷◌, length, nat_lt, codes, ⊤, if◌then◌else◌}
 use Rattle.std.specs.declared.option.Option.{Option}
 use Rattle.std.specs.declared.option.Option.TheVariants.{Some, None}
 use Rattle.std.specs.String.{string_bytes}
@@ -13,7 +13,7 @@ use Rattle.pddl_lexer.specs.declared.fault.Fault.{Fault}
 use Rattle.pddl_lexer.specs.declared.fault.Kind.TheVariants.{TooLong}
 use Rattle.pddl_parser.specs.declared.types.Domain.{Domain}
 use Rattle.pddl_parser.specs.declared.types.Problem.{Problem}
-use Rattle.pddl_parser.specs.Outcome as reading
+use Rattle.pddl_parser.specs.Outcome.{Reading, Reads, Faults, faults_of}
 use Rattle.pddl_parser.specs.Reading.{domain_reading, problem_reading}
 use Rattle.propositional_form.specs.Form.{in_form}
 use Rattle.translate_main.specs.declared.outcome.Side.{Side}
@@ -40,16 +40,21 @@ abbrev pub first_of : Side → List Fault → Ending → Ending
 first_of side [] after = after
 first_of side (fault ∷ more) after = Refused side fault
 
--- a pair of readings that is in the form is translated
+-- a domain and a problem that are in the form are translated
 abbrev pub checked : Domain → Problem → Ending
 checked domain problem = if in_form domain problem then Translated domain problem else Outside
 
-abbrev pub of_readings : reading.Outcome Domain → reading.Outcome Problem → Ending
-of_readings (Ok domain) (Ok problem) = checked domain problem
-of_readings (Ok domain) (Err end) = Outside
-of_readings (Err end) problem = Outside
+-- what is read where there is no fault
+abbrev pub of_values : Reading Domain → Reading Problem → Ending
+of_values (Reads domain) (Reads problem) = checked domain problem
+of_values (Reads domain) (Faults fault more) = Outside
+of_values (Faults fault more) problem = Outside
 
--- What two texts come to: the first fault of the domain's tree, then of the problem's, then whether they are in the form.
+-- the first shape fault of the domain, then of the problem, then whether they are in the form
+abbrev pub of_readings : Reading Domain → Reading Problem → Ending
+of_readings domain problem = first_of sides.Domain (faults_of domain) (first_of sides.Problem (faults_of problem) (of_values domain problem))
+
+-- What two texts come to: the first fault of the domain's tree, then of the problem's, then what their readings come to.
 unfoldable pub of_texts : List ℕ → List ℕ → Ending
 of_texts domain problem =
     first_of sides.Domain (tree_faults domain) (first_of sides.Problem (tree_faults problem) (of_readings (domain_reading (tree domain)) (problem_reading (tree problem))))

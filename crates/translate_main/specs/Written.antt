@@ -58,11 +58,11 @@ StopsWhere e stops.NoMemory = ⊤
 StopsWhere e (stops.Faulty side fault) = e ≡ Refused side fault
 StopsWhere e stops.NotBuilt = e ≡ Outside
 
--- why a text has no tree, by its faults
-abbrev pub StopsAtTree : Side → List Fault → Stop → Type 0
-StopsAtTree side faults stops.NoMemory = ⊤
-StopsAtTree side faults (stops.Faulty at fault) = (at ≡ side) × ((more : List Fault) × (faults ≡ fault ∷ more))
-StopsAtTree side faults stops.NotBuilt = ⊥
+-- why there is nothing to write, where a file has these faults
+abbrev pub StopsAt : Side → List Fault → Stop → Type 0
+StopsAt side faults stops.NoMemory = ⊤
+StopsAt side faults (stops.Faulty at fault) = (at ≡ side) × ((more : List Fault) × (faults ≡ fault ∷ more))
+StopsAt side faults stops.NotBuilt = ⊥
 
 -- the fault of a file that is too long
 abbrev pub too_long : Fault

@@ -119,7 +119,7 @@ struct Refusal<'a> {
 
 #[test]
 fn the_first_fault_is_printed_and_no_file_is_created(rt: HostRuntime) -> Result<(), Fail> {
-    let refusals: [Refusal<'_>; 15] = [
+    let refusals: [Refusal<'_>; 13] = [
         // A text that is cut, and one that is empty.
         Refusal {
             domain: DOMAIN,
@@ -186,17 +186,7 @@ fn the_first_fault_is_printed_and_no_file_is_created(rt: HostRuntime) -> Result<
         },
         Refusal {
             domain: DOMAIN,
-            problem: b"(define (problem one) (:domain switch) (:goal (on)) (:init (off)))",
-            printed: "translate: not built yet\n",
-        },
-        Refusal {
-            domain: DOMAIN,
             problem: b"(define (problem one) (:domain switch) (:init (off)) (:goal (not (on))))",
-            printed: "translate: not built yet\n",
-        },
-        Refusal {
-            domain: b"(define (domain d) (:predicates (and)))",
-            problem: PROBLEM,
             printed: "translate: not built yet\n",
         },
     ];
@@ -207,6 +197,142 @@ fn the_first_fault_is_printed_and_no_file_is_created(rt: HostRuntime) -> Result<
         assert_eq!(rt; outside.console.printed(), refusal.printed.as_bytes());
         assert!(rt; outside.files.content("output.sas").is_none());
     }
+    Ok(())
+}
+
+#[test]
+fn the_first_shape_fault_is_printed(rt: HostRuntime) -> Result<(), Fail> {
+    let refusals: [Refusal<'_>; 22] = [
+        Refusal {
+            domain: b"(define (domain switch) ; a lamp\n (:predicates on (off))\n (:action flip :parameters ()\n  :precondition (off)\n  :effect (and (on) (not (off)))))",
+            problem: PROBLEM,
+            printed: "translate: d.pddl:2: malformed head\n",
+        },
+        Refusal {
+            domain: b"(define (domain sw@tch) ; a lamp\n (:predicates (on) (off))\n (:action flip :parameters ()\n  :precondition (off)\n  :effect (and (on) (not (off)))))",
+            problem: PROBLEM,
+            printed: "translate: d.pddl:1: not a name\n",
+        },
+        Refusal {
+            domain: b"(define (domain switch) ; a lamp\n (:predicates (and) (off))\n (:action flip :parameters ()\n  :precondition (off)\n  :effect (and (on) (not (off)))))",
+            problem: PROBLEM,
+            printed: "translate: d.pddl:2: reserved word\n",
+        },
+        Refusal {
+            domain: DOMAIN,
+            problem: b"(define (problem one) (:domain switch)\n (:init (= (total-cost) 1.5))\n (:goal (on)))",
+            printed: "translate: p.pddl:2: not a whole number\n",
+        },
+        Refusal {
+            domain: DOMAIN,
+            problem: b"(define (problem one) (:domain switch)\n (:init (= (total-cost) 2147483648))\n (:goal (on)))",
+            printed: "translate: p.pddl:2: number too large\n",
+        },
+        Refusal {
+            domain: b"(define (domain switch) ; a lamp\n (:requirements :fluents) (:predicates (on) (off))\n (:action flip :parameters ()\n  :precondition (off)\n  :effect (and (on) (not (off)))))",
+            problem: PROBLEM,
+            printed: "translate: d.pddl:2: requirement not supported\n",
+        },
+        Refusal {
+            domain: DOMAIN,
+            problem: b"(define (problem one) (:domain switch)\n (:init (off))\n (:constraints (on)) (:goal (on)))",
+            printed: "translate: p.pddl:3: not supported\n",
+        },
+        Refusal {
+            domain: DOMAIN,
+            problem: b"(define (problem one) (:domain switch)\n (:init (off)) (:init)\n (:goal (on)))",
+            printed: "translate: p.pddl:2: repeated section\n",
+        },
+        Refusal {
+            domain: DOMAIN,
+            problem: b"(define (problem one) (:domain switch)\n (:init (off))\n )",
+            printed: "translate: p.pddl:1: missing section\n",
+        },
+        Refusal {
+            domain: b"(defin (domain d))",
+            problem: PROBLEM,
+            printed: "translate: d.pddl:1: malformed file\n",
+        },
+        Refusal {
+            domain: b"(define (domain d)\n x)",
+            problem: PROBLEM,
+            printed: "translate: d.pddl:2: malformed section\n",
+        },
+        Refusal {
+            domain: b"(define (domain d)\n (:types\n (a)))",
+            problem: PROBLEM,
+            printed: "translate: d.pddl:3: malformed name list\n",
+        },
+        Refusal {
+            domain: b"(define (domain d) (:predicates (p\n x)))",
+            problem: PROBLEM,
+            printed: "translate: d.pddl:2: malformed variable list\n",
+        },
+        Refusal {
+            domain: b"(define (domain d) (:predicates (p ?x -\n (a))))",
+            problem: PROBLEM,
+            printed: "translate: d.pddl:2: malformed type\n",
+        },
+        Refusal {
+            domain: b"(define (domain d) (:action a\n x))",
+            problem: PROBLEM,
+            printed: "translate: d.pddl:2: malformed action\n",
+        },
+        Refusal {
+            domain: b"(define (domain d) (:action a :precondition\n p))",
+            problem: PROBLEM,
+            printed: "translate: d.pddl:2: malformed condition\n",
+        },
+        Refusal {
+            domain: b"(define (domain d) (:action a :precondition (p\n (q))))",
+            problem: PROBLEM,
+            printed: "translate: d.pddl:2: malformed term\n",
+        },
+        Refusal {
+            domain: b"(define (domain d) (:action a :effect\n p))",
+            problem: PROBLEM,
+            printed: "translate: d.pddl:2: malformed effect\n",
+        },
+        Refusal {
+            domain: b"(define (domain d) (:action a :effect (increase (c)\n ())))",
+            problem: PROBLEM,
+            printed: "translate: d.pddl:2: malformed cost\n",
+        },
+        Refusal {
+            domain: DOMAIN,
+            problem: b"(define (problem p) (:domain d) (:init\n p) (:goal (on)))",
+            printed: "translate: p.pddl:2: malformed init entry\n",
+        },
+        Refusal {
+            domain: b"(defin (domain d))",
+            problem: b")",
+            printed: "translate: p.pddl:1: closing parenthesis without opening\n",
+        },
+        Refusal {
+            domain: b"(define (domain d)\n x)",
+            problem: b"(define)",
+            printed: "translate: d.pddl:2: malformed section\n",
+        },
+    ];
+    for refusal in refusals {
+        let mut outside = prepared(rt.alloc(), refusal.domain, refusal.problem)?;
+        assert_eq!(rt; run(rt.alloc(), &WORDS, &mut outside)?, Status::InputFault);
+        assert_eq!(rt; outside.console.printed(), refusal.printed.as_bytes());
+        assert!(rt; outside.files.content("output.sas").is_none());
+    }
+    Ok(())
+}
+
+#[test]
+fn sections_and_keys_stand_in_any_order(rt: HostRuntime) -> Result<(), Fail> {
+    let domain = b"(define (domain switch)
+ (:action flip :effect (and (on) (not (off))) :precondition (off))
+ (:requirements :strips :ADL)
+ (:predicates (on) (off)))";
+    let problem = b"(define (problem one) (:goal (on)) (:init (off)) (:domain switch))";
+    let mut outside = prepared(rt.alloc(), domain, problem)?;
+    assert_eq!(rt; run(rt.alloc(), &WORDS, &mut outside)?, Status::Done);
+    assert!(rt; outside.files.content("output.sas") == Some(TEXT));
     Ok(())
 }
 

@@ -3,10 +3,11 @@
 ghost use Rattle.std.specs.Prelude.{◌≡◌, [], IfOk, IfErr, length, sum_by};
 ghost use Rattle.pddl_lexer.specs.Nested.{tree};
 ghost use Rattle.pddl_lexer.specs.Faults.{tree_faults};
+ghost use Rattle.pddl_parser.specs.Outcome.{Reads, faults_of};
 ghost use Rattle.pddl_parser.specs.Reading.{domain_reading, problem_reading};
 ghost use Rattle.pddl_parser.specs.Spelled.{IsWellSpelled};
 ghost use Rattle.translate_main.specs.Run.{of_texts, of_readings, checked};
-ghost use Rattle.translate_main.specs.Written.{IsSummaryOf, IsTextWhere, StopsWhere, StopsAtTree};
+ghost use Rattle.translate_main.specs.Written.{IsSummaryOf, IsTextWhere, StopsWhere, StopsAt};
 ghost use Rattle.translate_main.specs.declared.translation.Stop.TheVariants.{NoMemory};
 
 use crate::outcome::{Side, Summary};
@@ -59,7 +60,7 @@ pub(crate) fn translate_texts(
 fn tree_of<'a>(alloc: Global, side: Side, text: &'a [u8]) -> Result<Tree<'a>, Stop>
     ensures faultless { IfOk result (λ _. tree_faults text.now ≡ []) }
     ensures tree { IfOk result (λ t. tree text.now ≡ t) }
-    ensures err { IfErr result (StopsAtTree side (tree_faults text.now)) }
+    ensures err { IfErr result (StopsAt side (tree_faults text.now)) }
 {
     match read_tree(alloc, text) {
         Ok(tree) => Ok(tree),
@@ -72,17 +73,34 @@ fn of_trees(alloc: Global, domain: &Tree<'_>, problem: &Tree<'_>) -> Result<Tran
     ensures ok { IfOk result (λ t. IsTextWhere (of_readings (domain_reading domain.now) (problem_reading problem.now)) t.text.items t.summary) }
     ensures err { IfErr result (StopsWhere (of_readings (domain_reading domain.now) (problem_reading problem.now))) }
 {
-    let domain = match parse_domain(alloc, domain) {
-        Ok(domain) => domain,
-        Err(ParseEnd::NotBuilt) => return Err(Stop::NotBuilt),
-        Err(ParseEnd::NoMemory) => return Err(Stop::NoMemory),
-    };
-    let problem = match parse_problem(alloc, problem) {
-        Ok(problem) => problem,
-        Err(ParseEnd::NotBuilt) => return Err(Stop::NotBuilt),
-        Err(ParseEnd::NoMemory) => return Err(Stop::NoMemory),
-    };
+    let domain = domain_of(alloc, domain)?;
+    let problem = problem_of(alloc, problem)?;
     of_task(alloc, &domain, &problem)
+}
+
+#[tactic(auto, using(crate::proofs::Texts::value_given))]
+fn domain_of(alloc: Global, tree: &Tree<'_>) -> Result<Domain, Stop>
+    ensures reading { IfOk result (λ domain. domain_reading tree.now ≡ Reads domain) }
+    ensures spelled { IfOk result IsWellSpelled }
+    ensures err { IfErr result (StopsAt Side.Domain (faults_of (domain_reading tree.now))) }
+{
+    match parse_domain(alloc, tree) {
+        Ok(domain) => Ok(domain),
+        Err(ParseEnd::Fault(fault)) => Err(Stop::Faulty(Side::Domain, fault)),
+        Err(ParseEnd::NoMemory) => Err(Stop::NoMemory),
+    }
+}
+
+#[tactic(auto, using(crate::proofs::Texts::value_given))]
+fn problem_of(alloc: Global, tree: &Tree<'_>) -> Result<Problem, Stop>
+    ensures reading { IfOk result (λ problem. problem_reading tree.now ≡ Reads problem) }
+    ensures err { IfErr result (StopsAt Side.Problem (faults_of (problem_reading tree.now))) }
+{
+    match parse_problem(alloc, tree) {
+        Ok(problem) => Ok(problem),
+        Err(ParseEnd::Fault(fault)) => Err(Stop::Faulty(Side::Problem, fault)),
+        Err(ParseEnd::NoMemory) => Err(Stop::NoMemory),
+    }
 }
 
 fn of_task(alloc: Global, domain: &Domain, problem: &Problem) -> Result<Translation, Stop>

@@ -1,7 +1,6 @@
-use Rattle.std.proofs.Common.{◌≡◌, not, true, false, sym, ap, ◌∙◌}
+use Rattle.std.proofs.Common.{◌≡◌, not, sym, ap, ◌∙◌}
 use Rattle.std.specs.List.{list_any}
 use Rattle.pddl_parser.specs.Words.{is_same}
-use Rattle.propositional_form.specs.Outcome.{HoldsWhere}
 use Rattle.propositional_form.proofs.NamesLemmas.{list_any-now}
 use Rattle.propositional_form.proofs.names.Names.add.Goals as goal
 use Rattle.propositional_form.proofs.names.Names.add.Goals.{then-branch, else-branch}

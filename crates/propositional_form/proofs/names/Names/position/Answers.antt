@@ -1,4 +1,4 @@
-use Rattle.std.proofs.Common.{◌≡◌, sym, ap, ◌∙◌}
+use Rattle.std.proofs.Common.{sym, ap, ◌∙◌}
 use Rattle.std.specs.List.{list_any, position_or_len}
 use Rattle.pddl_parser.specs.Words.{is_same}
 use Rattle.propositional_form.proofs.NamesLemmas.{list_any-now, position_or_len-now, position-place}

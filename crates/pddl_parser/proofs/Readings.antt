@@ -1,0 +1,35 @@
+-- The first fault, step by step as the code goes.
+use Rattle.std.proofs.Common.{◌≡◌, List, [], ◌∷◌, Ok, Err, refl}
+use Rattle.pddl_lexer.specs.declared.fault.Fault.{Fault}
+use Rattle.pddl_parser.specs.Outcome.{Reading, Reads, Faults, made, both, own, with_last, first, Outcome}
+use Rattle.pddl_parser.specs.Reading.{check_list}
+use Rattle.pddl_parser.specs.Shapes.{Check}
+
+infixl 10 ◌>>=◌
+abbrev pub ◌>>=◌ : {A B : Type 0} → Outcome A → (A → Outcome B) → Outcome B
+(Ok x) >>= f = f x
+(Err e) >>= f = Err e
+
+pub first_made : {A B : Type 0} (f : A → B) (r : Reading A) → first (made f r) ≡ (first r >>= λ x. Ok (f x))
+first_made f (Reads x) = refl
+first_made f (Faults fault more) = refl
+
+pub first_both : {A B C : Type 0} (f : A → B → C) (r : Reading A) (s : Reading B) → first (both f r s) ≡ (first r >>= λ x. first s >>= λ y. Ok (f x y))
+first_both f (Reads x) (Reads y) = refl
+first_both f (Reads x) (Faults fault more) = refl
+first_both f (Faults fault more) (Reads y) = refl
+first_both f (Faults fault more) (Faults other others) = refl
+
+-- a title has no value of its own
+pub first_titled : {A B C : Type 0} (f : B → C) (title : Check) (name : A) (r : Reading B) →
+    first (both (λ named x. f x) (own title (Reads name)) r) ≡ first (own title (made f r))
+first_titled f (Ok none) name (Reads x) = refl
+first_titled f (Ok none) name (Faults fault more) = refl
+first_titled f (Err fault) name (Reads x) = refl
+first_titled f (Err fault) name (Faults other more) = refl
+
+pub first_with_last : {A : Type 0} (last : List Fault) (r : Reading A) → first (with_last last r) ≡ (first r >>= λ x. first (own (check_list last) (Reads x)))
+first_with_last [] (Reads x) = refl
+first_with_last [] (Faults fault more) = refl
+first_with_last (fault ∷ more) (Reads x) = refl
+first_with_last (fault ∷ more) (Faults other others) = refl
