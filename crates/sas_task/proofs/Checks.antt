@@ -147,11 +147,11 @@ module _ (task : Task) where
       let two = and_parts (is_value e.var e.after) (not (is_some (layer_of task e.var))) one.1 in
       record { conditions = conditions_from_test e.conditions one.0; value = value_from_test e.var e.after two.0; basic = unnot (is_some (layer_of task e.var)) two.1 }
 
-  abbrev is_valid_operator : Operator → Bool
+  abbrev pub is_valid_operator : Operator → Bool
   is_valid_operator o =
       is_name o.name && (are_conditions o.conditions && (list_all is_valid_effect o.effects && (leb o.cost 2147483647 && (task.metric || eqb o.cost 1))))
 
-  operator_from_test : (o : Operator) → is_valid_operator o ≡ true → IsValidOperator task o
+  pub operator_from_test : (o : Operator) → is_valid_operator o ≡ true → IsValidOperator task o
   operator_from_test o test =
       let one = and_parts (is_name o.name) (are_conditions o.conditions && (list_all is_valid_effect o.effects && (leb o.cost 2147483647 && (task.metric || eqb o.cost 1)))) test in
       let two = and_parts (are_conditions o.conditions) (list_all is_valid_effect o.effects && (leb o.cost 2147483647 && (task.metric || eqb o.cost 1))) one.1 in

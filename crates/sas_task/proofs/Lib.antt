@@ -4,3 +4,4 @@ pub mod States
 pub mod Completion
 pub mod KeepsLaws
 pub mod Checks
+pub mod Steps

@@ -2,7 +2,7 @@
 use Rattle.std.proofs.Common.{◌≡◌, ℕ, suc, ◌+◌, ◌<◌, false, cond, List, [], ◌∷◌, length, map, sum, get_or, Option, Some, None, ◌⊎◌, refl, sym, ap, ◌∙◌, subst, inl, inr, arith}
 use Rattle.std.specs.Prelude.{IsNone, IsSomeAnd}
 use Rattle.std.specs.List.{All, Contains, slice_get, range_with_len}
-use Rattle.std.proofs.lemmas.Option.{slice_get_past}
+use Rattle.std.proofs.lemmas.Option.{slice_get_past, slice_get_within, get_or_from_slice_get}
 use Rattle.std.proofs.lemmas.Bool.{cases_lt}
 use Rattle.std.proofs.lemmas.List.Elements.{All-contains}
 use Rattle.std.proofs.lemmas.List.Sums.{sum_by-cons}
@@ -24,6 +24,11 @@ is_variable task var val value =
       | inl below ↦ below
       | inr past ↦ absurd (subst (λ o. IsSomeAnd o (λ v. val < length v.facts)) (slice_get_past task.variables var past) value)
     ]
+
+-- an operator at a place of a valid task is valid
+pub valid_operator : (task : Task) → IsValid task → (i : ℕ) (o : Operator) → slice_get task.operators i ≡ Some o → IsValidOperator task o
+valid_operator task valid i o at =
+    All-contains (IsValidOperator task) task.operators o valid.operators (i, slice_get_within task.operators i o at, get_or_from_slice_get task.operators i o o at)
 
 -- two successors of a state are one
 module _ (task : Task) (state : List ℕ) (operator : Operator) where

@@ -70,6 +70,16 @@ toggle =
       cost = 10;
     }
 
+-- an operator that the room hasn't: who is in the room turns the lamp on and off at once
+abbrev pub flicker : Operator
+flicker =
+    record {
+      name = codes "flicker";
+      conditions = [];
+      effects = record { conditions = pair 0 1 ∷ []; var = 1; after = 0 } ∷ record { conditions = []; var = 1; after = 1 } ∷ [];
+      cost = 1;
+    }
+
 abbrev pub room_rules : List Rule
 room_rules =
     record { conditions = pair 0 1 ∷ pair 1 0 ∷ []; var = 2; before = 1; after = 0 }

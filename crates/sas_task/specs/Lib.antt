@@ -6,3 +6,4 @@ pub mod Solution
 pub mod Keeps
 pub mod Output
 pub mod Examples
+pub mod PlainStep

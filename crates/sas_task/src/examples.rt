@@ -1,7 +1,7 @@
 //! Two small tasks that are worked by hand, for the tests of this crate and of the crates above it.
 
 ghost use Rattle.std.specs.Prelude.{◌≡◌, [], ◌∷◌, IfOk};
-ghost use Rattle.sas_task.specs.Examples.{pair, switch, switch_variables, switch_operators, room, room_variables, room_groups, enter, press, toggle, room_operators, room_rules};
+ghost use Rattle.sas_task.specs.Examples.{pair, switch, switch_variables, switch_operators, room, room_variables, room_groups, enter, press, toggle, flicker, room_operators, room_rules};
 
 use crate::{Effect, Group, List, Operator, Pair, Rule, SasTask, Text, Variable};
 use std::alloc::{AllocError, Global};
@@ -97,6 +97,28 @@ fn toggle(alloc: Global) -> Result<Operator, AllocError>
         conditions: pairs(alloc, &[])?,
         effects: List::from_vec(vec![in alloc; off, on]?),
         cost: 10,
+    })
+}
+
+/// An operator that the room hasn't: who is in the room turns the lamp on and off at once, which is a disagreement.
+pub fn flicker(alloc: Global) -> Result<Operator, AllocError>
+    ensures { IfOk result (λ o. o ≡ flicker) }
+{
+    let on = Effect {
+        conditions: pairs(alloc, &[pair(0, 1)])?,
+        var: 1,
+        after: 0,
+    };
+    let off = Effect {
+        conditions: pairs(alloc, &[])?,
+        var: 1,
+        after: 1,
+    };
+    Ok(Operator {
+        name: text(alloc, b"flicker")?,
+        conditions: pairs(alloc, &[])?,
+        effects: List::from_vec(vec![in alloc; on, off]?),
+        cost: 1,
     })
 }
 

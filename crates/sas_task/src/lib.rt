@@ -5,6 +5,7 @@
 pub mod examples;
 pub mod laws;
 pub mod parts;
+pub mod plain_step;
 pub mod task;
 
 pub use lists::{List, Text};

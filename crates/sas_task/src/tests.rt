@@ -1,6 +1,10 @@
-//! Tasks that are made of parts, read back.
+//! Tasks that are made of parts, read back, and steps of them that are worked by hand.
 
-use crate::{Pair, examples};
+ghost use Rattle.std.specs.Prelude.{◌≡◌, ◌<◌, length};
+ghost use Rattle.sas_task.specs.Examples.{room};
+
+use crate::{Pair, SasTask, examples, plain_step};
+use std::alloc::{AllocError, Global};
 use std::test::Fail;
 
 #[test]
@@ -23,5 +27,85 @@ fn parts_are_read_back(rt: HostRuntime) -> Result<(), Fail> {
         task.rule(1).conditions.as_slice(),
         [Pair { var: 2, val: 0 }].as_slice()
     );
+    Ok(())
+}
+
+/// The values in a state.
+fn values(alloc: Global, task: &SasTask, state: &[u64]) -> Result<Vec<u64>, AllocError> {
+    plain_step::values(alloc, task, state)
+}
+
+/// Whether the operator at this place is applicable.
+fn is_applicable(alloc: Global, task: &SasTask, state: &[u64], i: u64) -> Result<bool, AllocError>
+    requires { i < length task.now.operators }
+{
+    plain_step::is_applicable(alloc, task, state, task.operator(i))
+}
+
+/// The successor under the operator at this place.
+fn successor(
+    alloc: Global,
+    task: &SasTask,
+    state: &[u64],
+    i: u64,
+) -> Result<Option<Vec<u64>>, AllocError>
+    requires operator { i < length task.now.operators }
+    requires state { length state.now ≡ length task.now.variables }
+{
+    let _valid = task.metric();
+    plain_step::successor(alloc, task, state, task.operator(i))
+}
+
+/// What flickering leads to in the room.
+fn flickered(alloc: Global, task: &SasTask, state: &[u64]) -> Result<Option<Vec<u64>>, AllocError>
+    requires room { task.now ≡ room }
+    requires state { length state.now ≡ 4 }
+{
+    let flicker = examples::flicker(alloc)?;
+    plain_step::successor(alloc, task, state, &flicker)
+}
+
+#[test]
+fn derived_variables_get_their_values(rt: HostRuntime) -> Result<(), Fail> {
+    let task = examples::room(rt.alloc())?;
+    let lit = values(rt.alloc(), &task, &[1, 0, 1, 1])?;
+    assert_eq!(rt; lit.as_slice(), [1, 0, 0, 0].as_slice());
+    let dark = values(rt.alloc(), &task, &[1, 1, 1, 1])?;
+    assert_eq!(rt; dark.as_slice(), [1, 1, 1, 1].as_slice());
+    let outside = values(rt.alloc(), &task, &[0, 0, 0, 0])?;
+    assert_eq!(rt; outside.as_slice(), [0, 0, 1, 1].as_slice());
+    Ok(())
+}
+
+#[test]
+fn the_lamp_is_pressed_in_the_dark_room(rt: HostRuntime) -> Result<(), Fail> {
+    let task = examples::room(rt.alloc())?;
+    assert_eq!(rt; task.operators(), 3);
+    assert!(rt; is_applicable(rt.alloc(), &task, &[1, 1, 1, 1], 1)?);
+    assert!(rt; !is_applicable(rt.alloc(), &task, &[0, 1, 1, 1], 1)?);
+    assert!(rt; !is_applicable(rt.alloc(), &task, &[1, 0, 1, 1], 1)?);
+    Ok(())
+}
+
+#[test]
+fn effects_are_read_in_the_old_state(rt: HostRuntime) -> Result<(), Fail> {
+    let task = examples::room(rt.alloc())?;
+    assert_eq!(rt; task.operators(), 3);
+    assert_eq!(rt; task.variables(), 4);
+    let entered = successor(rt.alloc(), &task, &[0, 1, 1, 1], 0)?.ok_or("a disagreement")?;
+    assert_eq!(rt; entered.as_slice(), [1, 1, 1, 1].as_slice());
+    let turned_on = successor(rt.alloc(), &task, &[1, 1, 1, 1], 2)?.ok_or("a disagreement")?;
+    assert_eq!(rt; turned_on.as_slice(), [1, 0, 1, 1].as_slice());
+    let turned_off = successor(rt.alloc(), &task, &[1, 0, 1, 1], 2)?.ok_or("a disagreement")?;
+    assert_eq!(rt; turned_off.as_slice(), [1, 1, 1, 1].as_slice());
+    Ok(())
+}
+
+#[test]
+fn firing_effects_may_disagree(rt: HostRuntime) -> Result<(), Fail> {
+    let task = examples::room(rt.alloc())?;
+    let outside = flickered(rt.alloc(), &task, &[0, 0, 1, 1])?.ok_or("a disagreement")?;
+    assert_eq!(rt; outside.as_slice(), [0, 1, 1, 1].as_slice());
+    assert!(rt; flickered(rt.alloc(), &task, &[1, 0, 1, 1])?.is_none());
     Ok(())
 }
