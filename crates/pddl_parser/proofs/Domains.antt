@@ -1,12 +1,12 @@
 -- The sections of a domain, one at a time.
-use Rattle.std.proofs.Common.{◌≡◌, true, false, List, [], ◌∷◌, Ok, Err, refl, sym, ap, ◌∙◌}
+use Rattle.std.proofs.Common.{◌≡◌, true, false, ◌∷◌, Ok, Err, refl, sym, ap, ◌∙◌}
 use Rattle.std.specs.List.{fold}
 use Rattle.pddl_lexer.specs.Members.{Members, NoMore, WordThen, ListThen, is_empty, is_list, word, inside, rest}
 use Rattle.pddl_parser.specs.declared.domain.DomainKeys.{DomainKeys}
 use Rattle.pddl_parser.specs.declared.domain.DomainSection.{DomainSection}
 use Rattle.pddl_parser.specs.declared.end.ParseEnd.{ParseEnd}
 use Rattle.pddl_parser.specs.declared.types.Domain.{Domain}
-use Rattle.pddl_parser.specs.Outcome.{Reading, Reads, made, both, Outcome, first}
+use Rattle.pddl_parser.specs.Outcome.{made, both, Outcome, first}
 use Rattle.pddl_parser.specs.Reading.{domain_key, with_domain_key, domain_section, domain_sections, with_domain_section}
 use Rattle.pddl_parser.proofs.Folds.{changed, changed-begun, changed-ended, changed-turn, changed-fails}
 

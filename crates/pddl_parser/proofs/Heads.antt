@@ -6,7 +6,7 @@ use Rattle.pddl_lexer.specs.declared.fault.ShapePlace.TheVariants as places
 use Rattle.pddl_parser.specs.declared.end.ParseEnd.{ParseEnd}
 use Rattle.pddl_parser.specs.declared.types.Head.{Head}
 use Rattle.pddl_parser.specs.Actions.{check_number_type, check_functions, check_after_dash, heads}
-use Rattle.pddl_parser.specs.Outcome.{Reading, both, first}
+use Rattle.pddl_parser.specs.Outcome.{both, first}
 use Rattle.pddl_parser.specs.Shapes.{passes, next, malformed}
 use Rattle.pddl_parser.specs.Values.{head}
 use Rattle.pddl_parser.specs.Words.{is_dash}

@@ -1,5 +1,5 @@
 -- The keys of an action, one at a time.
-use Rattle.std.proofs.Common.{◌≡◌, ℕ, true, false, List, [], ◌∷◌, Ok, Err, refl, sym, ap, ◌∙◌}
+use Rattle.std.proofs.Common.{◌≡◌, ℕ, true, false, ◌∷◌, Ok, Err, refl, sym, ap, ◌∙◌}
 use Rattle.std.specs.List.{fold}
 use Rattle.pddl_lexer.specs.Members.{Members, NoMore, WordThen, ListThen, is_empty, is_list, line, word, rest}
 use Rattle.pddl_lexer.specs.declared.fault.Fault.{Fault}
@@ -9,7 +9,7 @@ use Rattle.pddl_parser.specs.declared.action.ActionPart.{ActionPart}
 use Rattle.pddl_parser.specs.declared.end.ParseEnd.{ParseEnd}
 use Rattle.pddl_parser.specs.declared.types.Action.{Action}
 use Rattle.pddl_parser.specs.Actions.{with_key, key_here, check_key_value, check_keys, check_keyed, action_key, part, action_parts, with_part, check_action, bare_action, action}
-use Rattle.pddl_parser.specs.Outcome.{Reading, Reads, made, both, own, Outcome, first, Gives}
+use Rattle.pddl_parser.specs.Outcome.{made, both, own, Outcome, first, Gives}
 use Rattle.pddl_parser.specs.Shapes.{Check, passes, next}
 use Rattle.pddl_parser.proofs.Folds.{changed, changed-begun, changed-ended, changed-turn, changed-fails}
 

@@ -18,4 +18,8 @@ pub mod SameAtoms
 pub mod Written
 pub mod IdleSteps
 pub mod TypeChains
+pub mod Given
 pub mod Spelling
+pub mod Numbers
+pub mod WellSpelled
+pub mod Listed

@@ -1,12 +1,12 @@
 -- The sections of a problem, one at a time.
-use Rattle.std.proofs.Common.{◌≡◌, true, false, List, [], ◌∷◌, Ok, Err, refl, sym, ap, ◌∙◌}
+use Rattle.std.proofs.Common.{◌≡◌, true, false, ◌∷◌, Ok, Err, refl, sym, ap, ◌∙◌}
 use Rattle.std.specs.List.{fold}
 use Rattle.pddl_lexer.specs.Members.{Members, NoMore, WordThen, ListThen, is_empty, is_list, word, inside, rest}
 use Rattle.pddl_parser.specs.declared.problem.ProblemKeys.{ProblemKeys}
 use Rattle.pddl_parser.specs.declared.problem.ProblemSection.{ProblemSection}
 use Rattle.pddl_parser.specs.declared.end.ParseEnd.{ParseEnd}
 use Rattle.pddl_parser.specs.declared.types.Problem.{Problem}
-use Rattle.pddl_parser.specs.Outcome.{Reading, Reads, made, both, Outcome, first}
+use Rattle.pddl_parser.specs.Outcome.{made, both, Outcome, first}
 use Rattle.pddl_parser.specs.Reading.{problem_key, problem_keys_of, with_problem_key, problem_section, problem_sections, with_problem_section}
 use Rattle.pddl_parser.proofs.Folds.{changed, changed-begun, changed-ended, changed-turn, changed-fails}
 

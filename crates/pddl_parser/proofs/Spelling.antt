@@ -1,11 +1,13 @@
--- What is read has names that can stand on a line.
-use Rattle.std.proofs.Common.{◌≡◌, ℕ, ◌+◌, ◌<◌, ◌≤◌, Bool, true, false, not, ◌&&◌, ◌||◌, ◌==◌, List, [], ◌∷◌, ◌++◌, map, cond, nat_le, nat_lt, refl, sym, ap, ◌∙◌, subst, ◌⊎◌, inl, inr, arith, IsTrue}
-use Rattle.std.specs.Prelude.{All, Ok, Err, Option, Some, None, IfOk, codes, if◌then◌else◌}
-use Rattle.std.specs.List.{list_all, list_any, fold}
+-- What is read has names, in small letters.
+use Rattle.std.proofs.Common.{◌≡◌, ℕ, ◌+◌, ◌<◌, ◌≤◌, Bool, true, false, not, ◌&&◌, ◌==◌, List, [], ◌∷◌, cond, nat_lt, refl, sym, ap, ◌∙◌, subst, arith}
+use Rattle.std.specs.Prelude.{All, Err, Option, Some, None, codes, if◌then◌else◌}
+use Rattle.std.specs.List.{list_all}
 use Rattle.std.specs.Char.{to_ascii_lowercase}
 use Rattle.std.proofs.lemmas.Bool.{le-leb, ne_eqb, ltb-true, ltb-false}
-use Rattle.std.proofs.lemmas.List.Elements.{All-nil, All-cons, All-head, All-tail, All-append}
-use Rattle.pddl_lexer.specs.Members.{Members, NoMore, WordThen, ListThen, is_empty, is_list, line, word, inside, rest}
+use Rattle.std.proofs.lemmas.Cmp.{nat_list_eq_equiv}
+use Rattle.std.proofs.lemmas.List.Elements.{All-nil, All-cons}
+use Rattle.std.proofs.lemmas.Str.Ascii.{lowercase-lowercase}
+use Rattle.pddl_lexer.specs.Members.{Members, NoMore, WordThen, ListThen, is_list, line, word, inside, rest}
 use Rattle.pddl_lexer.specs.Text.{is_word_byte}
 use Rattle.pddl_lexer.specs.declared.fault.Fault.{Fault}
 use Rattle.pddl_lexer.specs.declared.fault.Kind.{Kind}
@@ -14,95 +16,22 @@ use Rattle.pddl_lexer.specs.declared.fault.ShapePlace.{ShapePlace}
 use Rattle.pddl_lexer.specs.declared.fault.ShapePlace.TheVariants as places
 use Rattle.pddl_parser.specs.declared.expected.Expected.{Expected}
 use Rattle.pddl_parser.specs.declared.expected.Expected.TheVariants as expected
-use Rattle.pddl_parser.specs.declared.action.ActionKey.{ActionKey}
-use Rattle.pddl_parser.specs.declared.action.ActionPart.{ActionPart}
-use Rattle.pddl_parser.specs.declared.action.ActionPart.TheVariants.{Parameters, Precondition, Effect}
-use Rattle.pddl_parser.specs.declared.domain.DomainKey.{DomainKey}
-use Rattle.pddl_parser.specs.declared.domain.DomainKey.TheVariants as keys
-use Rattle.pddl_parser.specs.declared.domain.DomainKeys.{DomainKeys}
-use Rattle.pddl_parser.specs.declared.domain.DomainSection.{DomainSection}
-use Rattle.pddl_parser.specs.declared.domain.DomainSection.TheVariants as sections
-use Rattle.pddl_parser.specs.declared.types.Action.{Action}
-use Rattle.pddl_parser.specs.declared.types.Domain.{Domain}
 use Rattle.pddl_parser.specs.declared.types.Head.{Head}
 use Rattle.pddl_parser.specs.declared.types.Typed.{Typed}
-use Rattle.pddl_parser.specs.declared.types.Derived.{Derived}
-use Rattle.pddl_parser.specs.Words.{Name, is_same, is_mark, is_name_byte, begins_with_colon, is_name, lowered, is_one_of, reserved, spells}
-use Rattle.pddl_parser.specs.Outcome.{Outcome, Reading, Reads, Faults, made, both, own, refused, every, first, Gives}
-use Rattle.pddl_parser.specs.Shapes.{Check, passes, at_line, next, malformed, repeated, name_fault, word_fault, list_fault, check_member, check_all, check_head, check_typed}
-use Rattle.pddl_parser.specs.Values.{named, typed, head}
-use Rattle.pddl_parser.specs.Actions.{check_action, check_keys, no_keys, bare_action, with_part, action_parts, action}
-use Rattle.pddl_parser.specs.Reading.{domain_key, domain_section_of, has_domain_key, with_domain_key, keyed_domain_section, domain_section, domain_sections, with_domain_section, no_domain, no_domain_keys, check_file, title, domain_reading}
-use Rattle.pddl_parser.specs.Spelled.{is_spelled, IsWellSpelled}
+use Rattle.pddl_parser.specs.Actions.{heads}
+use Rattle.pddl_parser.specs.Outcome.{Reads}
+use Rattle.pddl_parser.specs.Shapes.{Check, passes, next, name_fault, word_fault, check_member, check_type, check_typed, check_after_dash, check_head}
+use Rattle.pddl_parser.specs.Spelled.{is_spelled, IsSpelled, IsSpelledType}
+use Rattle.pddl_parser.specs.Values.{named, with_types, group_types, typed, typed_after_type, names, head}
+use Rattle.pddl_parser.specs.Words.{is_dash, is_same, is_mark, is_name_byte, begins_with_colon, is_name, is_word, lowered, is_one_of, reserved}
+use Rattle.pddl_parser.proofs.Given.{own_reads, pairs_have, nothing_has, first_passes, rest_passes, no_kind, unless_empty}
+use Rattle.pddl_parser.proofs.SameAtoms.{both_left, both_right}
 
--- ---- readings that give a value
+both_hold : (a b : Bool) → a ≡ true → b ≡ true → (a && b) ≡ true
+both_hold true b left right = right
+both_hold false b left right = absurd cc
 
-own_reads : {A : Type 0} (check : Check) (reading : Reading A) (x : A) → own check reading ≡ Reads x → (check ≡ passes) × (reading ≡ Reads x)
-own_reads (Ok none) reading x e = (refl, e)
-own_reads (Err fault) reading x e = absurd cc
-
-made_reads : {A B : Type 0} (f : A → B) (reading : Reading A) (y : B) → made f reading ≡ Reads y → (x : A) × ((reading ≡ Reads x) × (f x ≡ y))
-made_reads f (Reads x) y e = (x, (refl, cc))
-made_reads f (Faults fault more) y e = absurd cc
-
-both_reads : {A B C : Type 0} (f : A → B → C) (first : Reading A) (second : Reading B) (z : C) → both f first second ≡ Reads z → (x : A) × ((y : B) × ((first ≡ Reads x) × ((second ≡ Reads y) × (f x y ≡ z))))
-both_reads f (Reads x) (Reads y) z e = (x, (y, (refl, (refl, cc))))
-both_reads f (Reads x) (Faults fault more) z e = absurd cc
-both_reads f (Faults fault more) (Reads y) z e = absurd cc
-both_reads f (Faults fault more) (Faults other others) z e = absurd cc
-
--- each value has what the rule's values have
-pairs_have : {A : Type 0} (P : A → Type 0) (first : Reading A) (others : Reading (List A)) → ((x : A) → first ≡ Reads x → P x) → ((ys : List A) → others ≡ Reads ys → All P ys) → (xs : List A) → both (λ x xs. x ∷ xs) first others ≡ Reads xs → All P xs
-pairs_have P first others one more xs e =
-    let read = both_reads (λ x xs. x ∷ xs) first others xs e in
-    subst (All P) read.1.1.1.1 (All-cons P read.0 read.1.0 (one read.0 read.1.1.0) (more read.1.0 read.1.1.1.0))
-
-nothing_has : {A : Type 0} (P : A → Type 0) (xs : List A) → Reads [] ≡ Reads xs → All P xs
-nothing_has {A} P xs e = let same : [] ≡ xs = cc in subst (All P) same (All-nil P)
-
-every_has : {A : Type 0} (P : A → Type 0) (rule : Members → Reading A) → ((m : Members) (x : A) → rule m ≡ Reads x → P x) → (m : Members) (xs : List A) → every rule m ≡ Reads xs → All P xs
-every_has P rule one NoMore xs e = nothing_has P xs e
-every_has P rule one (WordThen line word more) xs e =
-    pairs_have P (rule (WordThen line word more)) (every rule more) (one (WordThen line word more)) (every_has P rule one more) xs e
-every_has P rule one (ListThen line inside more) xs e =
-    pairs_have P (rule (ListThen line inside more)) (every rule more) (one (ListThen line inside more)) (every_has P rule one more) xs e
-
--- ---- places without a fault
-
-first_passes : (check more : Check) → next check more ≡ passes → check ≡ passes
-first_passes (Ok tt) more e = refl
-first_passes (Err fault) more e = absurd cc
-
-no_kind : (at : ℕ) (kind : Option Kind) → at_line at kind ≡ passes → kind ≡ None
-no_kind at None e = refl
-no_kind at (Some kind) e = absurd cc
-
-unless_empty : (m : Members) (fault : Fault) (check : Check) → (if is_empty m then Err fault else check) ≡ passes → check ≡ passes
-unless_empty NoMore fault check e = absurd cc
-unless_empty (WordThen line word more) fault check e = e
-unless_empty (ListThen line inside more) fault check e = e
-
-name_tested : (test : Bool) (kind : Kind) → (if test then None else Some kind) ≡ None → test ≡ true
-name_tested true kind e = refl
-name_tested false kind e = absurd cc
-
-none_reserved : (test : Bool) (kind : Kind) (more : Option Kind) → (if test then Some kind else more) ≡ None → more ≡ None
-none_reserved true kind more e = absurd cc
-none_reserved false kind more e = e
-
-word_tested : (is_a_list : Bool) (list word : Option Kind) → (if is_a_list then list else word) ≡ None → (is_a_list ≡ true → list ≡ None → ⊥) → word ≡ None
-word_tested true list word e never = absurd (never refl e)
-word_tested false list word e never = e
-
--- ---- names
-
-both_left : (a b : Bool) → (a && b) ≡ true → a ≡ true
-both_left true b e = refl
-both_left false b e = absurd cc
-
-both_right : (a b : Bool) → (a && b) ≡ true → b ≡ true
-both_right true b e = e
-both_right false b e = absurd cc
+-- ---- lowered names
 
 -- a small letter is a byte of a word
 letter_stands : (byte : ℕ) → 97 ≤ byte → byte ≤ 122 → is_word_byte byte ≡ true
@@ -120,20 +49,90 @@ lowered_byte byte stands = by (nat_lt byte 65) (nat_lt byte 91) refl refl
         letter_stands (byte + 32) (omega (arith, above)) (omega (arith, below))
     by false false low high = stands
 
-lowered_bytes : (bytes : List ℕ) → list_all is_name_byte bytes ≡ true → list_all is_word_byte (lowered bytes) ≡ true
+-- lowering makes no byte a mark, and takes none away
+mark_kept : (byte mark : ℕ) → mark < 65 → (to_ascii_lowercase byte == mark) ≡ (byte == mark)
+mark_kept byte mark below = by (nat_lt byte 65) (nat_lt byte 91) refl
+  where
+    by : (small middle : Bool) → nat_lt byte 65 ≡ small → (cond small byte (cond middle (byte + 32) byte) == mark) ≡ (byte == mark)
+    by true middle low = refl
+    by false true low =
+        let above : 65 ≤ byte = ltb-false byte 65 low in
+        ne_eqb (byte + 32) mark (λ e. omega (arith, e, above, below)) ∙ sym (ne_eqb byte mark (λ e. omega (arith, e, above, below)))
+    by false false low = refl
+
+marks_kept : (byte : ℕ) → is_mark (to_ascii_lowercase byte) ≡ is_mark byte
+marks_kept byte =
+    let question = mark_kept byte 63 (omega arith) in
+    let at = mark_kept byte 64 (omega arith) in
+    let comma = mark_kept byte 44 (omega arith) in
+    cc (question, at, comma)
+
+lowered_bytes : (bytes : List ℕ) → list_all is_name_byte bytes ≡ true → list_all is_name_byte (lowered bytes) ≡ true
 lowered_bytes [] all = refl
 lowered_bytes (byte ∷ bytes) all =
-    let here = lowered_byte byte (both_left (is_word_byte byte) (not (is_mark byte)) (both_left (is_name_byte byte) (list_all is_name_byte bytes) all)) in
-    let rest = lowered_bytes bytes (both_right (is_name_byte byte) (list_all is_name_byte bytes) all) in
-    rw (here, rest) refl
+    let here = both_left (is_name_byte byte) (list_all is_name_byte bytes) all in
+    let of_word = lowered_byte byte (both_left (is_word_byte byte) (not (is_mark byte)) here) in
+    let no_mark = ap not (marks_kept byte) ∙ both_right (is_word_byte byte) (not (is_mark byte)) here in
+    both_hold (is_name_byte (to_ascii_lowercase byte)) (list_all is_name_byte (lowered bytes))
+    (both_hold (is_word_byte (to_ascii_lowercase byte)) (not (is_mark (to_ascii_lowercase byte))) of_word no_mark)
+    (lowered_bytes bytes (both_right (is_name_byte byte) (list_all is_name_byte bytes) all))
+
+lowered_none : (bytes : List ℕ) → is_same (lowered bytes) [] ≡ is_same bytes []
+lowered_none [] = refl
+lowered_none (byte ∷ bytes) = refl
+
+lowered_mark : (mark : ℕ) → mark < 65 → (bytes : List ℕ) → is_same (lowered bytes) (mark ∷ []) ≡ is_same bytes (mark ∷ [])
+lowered_mark mark below [] = refl
+lowered_mark mark below (byte ∷ bytes) =
+    let here = mark_kept byte mark below in
+    let rest = lowered_none bytes in
+    cc (here, rest)
+
+lowered_colon : (bytes : List ℕ) → begins_with_colon (lowered bytes) ≡ begins_with_colon bytes
+lowered_colon [] = refl
+lowered_colon (byte ∷ bytes) = mark_kept byte 58 (omega arith)
+
+lowered_name : (bytes : List ℕ) → is_name bytes ≡ true → is_name (lowered bytes) ≡ true
+lowered_name bytes e =
+    let a = both_left _ (not (is_same bytes (codes "="))) e in
+    let b = both_left _ (not (is_same bytes (codes "-"))) a in
+    let c = both_left _ (not (is_same bytes [])) b in
+    let all = both_left (list_all is_name_byte bytes) (not (begins_with_colon bytes)) c in
+    let all_kept = lowered_bytes bytes all in
+    let colon = lowered_colon bytes in
+    let none = lowered_none bytes in
+    let dash = lowered_mark 45 (omega arith) bytes in
+    let equals = lowered_mark 61 (omega arith) bytes in
+    cc (all, all_kept, colon, none, dash, equals, e)
+
+lowered_twice : (bytes : List ℕ) → lowered (lowered bytes) ≡ lowered bytes
+lowered_twice [] = refl
+lowered_twice (byte ∷ bytes) =
+    let here = lowercase-lowercase byte in
+    let rest = lowered_twice bytes in
+    cc (here, rest)
 
 name_spelled : (bytes : List ℕ) → is_name bytes ≡ true → is_spelled (lowered bytes) ≡ true
-name_spelled [] e = absurd cc
-name_spelled (byte ∷ bytes) e =
-    let a = both_left _ (not (is_same (byte ∷ bytes) (codes "="))) e in
-    let b = both_left _ (not (is_same (byte ∷ bytes) (codes "-"))) a in
-    let c = both_left _ (not (is_same (byte ∷ bytes) [])) b in
-    lowered_bytes (byte ∷ bytes) (both_left (list_all is_name_byte (byte ∷ bytes)) (not (begins_with_colon (byte ∷ bytes))) c)
+name_spelled bytes e =
+    let same = ap (λ twice. is_same twice (lowered bytes)) (lowered_twice bytes) ∙ nat_list_eq_equiv.refl (lowered bytes) in
+    both_hold (is_name (lowered bytes)) (is_same (lowered (lowered bytes)) (lowered bytes)) (lowered_name bytes e) same
+
+pub named_spelled : (m : Members) → is_name (word m) ≡ true → IsSpelled (named m)
+named_spelled m e = name_spelled (word m) e
+
+-- ---- places of names
+
+name_tested : (test : Bool) (kind : Kind) → (if test then None else Some kind) ≡ None → test ≡ true
+name_tested true kind e = refl
+name_tested false kind e = absurd cc
+
+none_reserved : (test : Bool) (kind : Kind) (more : Option Kind) → (if test then Some kind else more) ≡ None → more ≡ None
+none_reserved true kind more e = absurd cc
+none_reserved false kind more e = e
+
+word_tested : (is_a_list : Bool) (list word : Option Kind) → (if is_a_list then list else word) ≡ None → (is_a_list ≡ true → list ≡ None → ⊥) → word ≡ None
+word_tested true list word e never = absurd (never refl e)
+word_tested false list word e never = e
 
 symbol_passes : (place : ShapePlace) (m : Members) → check_member (expected.Symbol place) m ≡ passes → is_name (word m) ≡ true
 symbol_passes place m e =
@@ -141,15 +140,88 @@ symbol_passes place m e =
     let worded = word_tested (is_list m) (Some (Shape place)) (word_fault (expected.Symbol place) (word m)) none (λ is impossible. cc) in
     name_tested (is_name (word m)) BadName (none_reserved (is_one_of reserved (word m)) ReservedWord (name_fault (word m)) worded)
 
-name_passes : (place : ShapePlace) (m : Members) → check_member (expected.Name place) m ≡ passes → is_name (word m) ≡ true
+pub name_passes : (place : ShapePlace) (m : Members) → check_member (expected.Name place) m ≡ passes → is_name (word m) ≡ true
 name_passes place m e =
     let none = no_kind (line m) _ e in
     let worded = word_tested (is_list m) (Some (Shape place)) (word_fault (expected.Name place) (word m)) none (λ is impossible. cc) in
     name_tested (is_name (word m)) BadName worded
 
--- ---- heads, actions and sections
+always_at_fault : (test : Bool) (one other : Fault) → (if test then Err one else Err other) ≡ passes → ⊥
+always_at_fault true one other e = cc
+always_at_fault false one other e = cc
 
-head_spelled : (m : Members) (h : Head) → head m ≡ Reads h → is_spelled h.name.name ≡ true
+type_passes : (m : Members) → check_type m ≡ passes → is_name (word m) ≡ true
+type_passes NoMore e = name_tested (is_name []) BadName (no_kind 0 (name_fault []) e)
+type_passes (WordThen line word more) e = name_tested (is_name word) BadName (no_kind line (name_fault word) e)
+type_passes (ListThen line inside more) e = absurd (always_at_fault (is_word (codes "either") inside) _ _ e)
+
+-- ---- names with types
+
+after_dash_passes : (item : Expected) (place : ShapePlace) (at : ℕ) (m : Members) → check_after_dash item place at m ≡ passes → is_name (word m) ≡ true
+unfolding check_after_dash
+after_dash_passes item place at NoMore e = absurd cc
+after_dash_passes item place at (WordThen line word more) e = type_passes (WordThen line word more) (first_passes _ _ e)
+after_dash_passes item place at (ListThen line inside more) e = type_passes (ListThen line inside more) (first_passes _ _ e)
+
+-- the type of a group is a name
+group_spelled : (item : Expected) (place : ShapePlace) (at : ℕ) (m : Members) → check_typed item place at m ≡ passes → All IsSpelled (group_types m)
+unfolding check_typed
+group_spelled item place at NoMore e = All-nil IsSpelled
+group_spelled item place at (WordThen line word more) e = by (is_dash word) (group_spelled item place at more) e
+  where
+    by : (dash : Bool) → (check_typed item place at more ≡ passes → All IsSpelled (group_types more)) →
+        (if dash then check_after_dash item place at more else next (check_member item (WordThen line word more)) (check_typed item place at more)) ≡ passes → All IsSpelled (if dash then named more ∷ [] else group_types more)
+    by true others found = All-cons IsSpelled (named more) [] (named_spelled more (after_dash_passes item place at more found)) (All-nil IsSpelled)
+    by false others found = others (rest_passes _ _ found)
+group_spelled item place at (ListThen line inside more) e = group_spelled item place at more (rest_passes _ _ e)
+
+module _ (place section : ShapePlace) (at : ℕ) where
+  abbrev name_check : Members → Check
+  name_check = check_typed (expected.Name place) section at
+
+  entry_spelled : (m more : Members) → check_member (expected.Name place) m ≡ passes → name_check more ≡ passes → All IsSpelledType (typed more) → All IsSpelledType (with_types (group_types more) (named m) ∷ typed more)
+  entry_spelled m more here passing others =
+      All-cons IsSpelledType (with_types (group_types more) (named m)) (typed more)
+      (named_spelled m (name_passes place m here), group_spelled (expected.Name place) section at more passing)
+      others
+
+  mutual
+    unfolding check_typed check_after_dash typed typed_after_type
+
+    typed_spelled : (m : Members) → name_check m ≡ passes → All IsSpelledType (typed m)
+    typed_spelled NoMore e = All-nil IsSpelledType
+    typed_spelled (WordThen line word more) e = by (is_dash word) (after_type_spelled more) (typed_spelled more) e
+      where
+        by : (dash : Bool) → (check_after_dash (expected.Name place) section at more ≡ passes → All IsSpelledType (typed_after_type more)) → (name_check more ≡ passes → All IsSpelledType (typed more)) →
+            (if dash then check_after_dash (expected.Name place) section at more else next (check_member (expected.Name place) (WordThen line word more)) (name_check more)) ≡ passes →
+            All IsSpelledType (if dash then typed_after_type more else with_types (group_types more) (named (WordThen line word more)) ∷ typed more)
+        by true after others found = after found
+        by false after others found =
+            let passing = rest_passes _ _ found in
+            entry_spelled (WordThen line word more) more (first_passes _ _ found) passing (others passing)
+    typed_spelled (ListThen line inside more) e =
+        let here = first_passes (check_member (expected.Name place) (ListThen line inside more)) (name_check more) e in
+        let passing = rest_passes (check_member (expected.Name place) (ListThen line inside more)) (name_check more) e in
+        entry_spelled (ListThen line inside more) more here passing (typed_spelled more passing)
+
+    after_type_spelled : (m : Members) → check_after_dash (expected.Name place) section at m ≡ passes → All IsSpelledType (typed_after_type m)
+    after_type_spelled NoMore e = All-nil IsSpelledType
+    after_type_spelled (WordThen line word more) e = typed_spelled more (rest_passes _ _ e)
+    after_type_spelled (ListThen line inside more) e = typed_spelled more (rest_passes _ _ e)
+
+pub names_spelled : (at : ℕ) (m : Members) (types : List Typed) → names at m ≡ Reads types → All IsSpelledType types
+names_spelled at m types e =
+    let read = own_reads (check_typed (expected.Name places.NameList) places.Section at m) (Reads (typed m)) types e in
+    let same : typed m ≡ types = cc (read.1) in
+    subst (All IsSpelledType) same (typed_spelled places.NameList places.Section at m read.0)
+
+-- the names alone, without their types
+pub without_types : (types : List Typed) → All IsSpelledType types → All (λ type. IsSpelled type.name) types
+without_types types all = λ k d within. (all k d within).0
+
+-- ---- heads
+
+pub head_spelled : (m : Members) (h : Head) → head m ≡ Reads h → IsSpelled h.name
 unfolding head
 head_spelled m h e =
     let read = own_reads (check_head (line m) (inside m)) (Reads (record { name = named (inside m); variables = typed (rest (inside m)) })) h e in
@@ -157,111 +229,11 @@ head_spelled m h e =
     let named_well = symbol_passes places.Head (inside m) (first_passes _ _ checked) in
     let made_of : Head = record { name = named (inside m); variables = typed (rest (inside m)) } in
     let same : made_of ≡ h = cc (read.1) in
-    subst (λ (k : Head). is_spelled k.name.name ≡ true) same (name_spelled (word (inside m)) named_well)
+    subst (λ (k : Head). IsSpelled k.name) same (named_spelled (inside m) named_well)
 
-parts_keep_name : (action : Action) (parts : List ActionPart) → (fold with_part action parts).name ≡ action.name
-parts_keep_name action [] = refl
-parts_keep_name action (Parameters variables ∷ parts) = parts_keep_name (record action { parameters = variables }) parts
-parts_keep_name action (Precondition condition ∷ parts) = parts_keep_name (record action { precondition = condition }) parts
-parts_keep_name action (Effect effect ∷ parts) = parts_keep_name (record action { effect = effect }) parts
-
-action_spelled : (at : ℕ) (m : Members) (a : Action) → action at m ≡ Reads a → is_spelled a.name.name ≡ true
-unfolding action
-action_spelled at m a e =
-    let read = own_reads (check_action at m) (made (fold with_part (bare_action at m)) (action_parts (rest m))) a e in
-    let checked = unless_empty m _ _ read.0 in
-    let named_well = name_passes places.Action m (first_passes _ _ checked) in
-    let parts = made_reads (fold with_part (bare_action at m)) (action_parts (rest m)) a read.1 in
-    let kept = parts_keep_name (bare_action at m) parts.0 in
-    subst (λ (k : Action). is_spelled k.name.name ≡ true) parts.1.1 (subst (λ n. is_spelled n.name ≡ true) (sym kept) (name_spelled (word m) named_well))
-
--- what a section says has names
-abbrev IsSpelledSection : DomainSection → Type 0
-IsSpelledSection sections.Requirements = Unit {0}
-IsSpelledSection (sections.Types types) = Unit {0}
-IsSpelledSection (sections.Constants constants) = Unit {0}
-IsSpelledSection (sections.Predicates predicates) = All (λ head. is_spelled head.name.name ≡ true) predicates
-IsSpelledSection (sections.Functions functions) = Unit {0}
-IsSpelledSection (sections.Action action) = is_spelled action.name.name ≡ true
-IsSpelledSection (sections.Derived derived) = Unit {0}
-
-section_of_spelled : (key : DomainKey) (at : ℕ) (m : Members) (s : DomainSection) → domain_section_of key at m ≡ Reads s → IsSpelledSection s
-unfolding domain_section_of
-section_of_spelled keys.Requirements at m s e =
-    let read = own_reads (check_all expected.Requirement m) (Reads sections.Requirements) s e in
-    let same : sections.Requirements ≡ s = cc (read.1) in
-    subst IsSpelledSection same tt
-section_of_spelled keys.Types at m s e = let read = made_reads sections.Types _ s e in subst IsSpelledSection read.1.1 tt
-section_of_spelled keys.Constants at m s e = let read = made_reads sections.Constants _ s e in subst IsSpelledSection read.1.1 tt
-section_of_spelled keys.Predicates at m s e =
-    let read = made_reads sections.Predicates _ s e in
-    let heads = own_reads (check_all (expected.List places.Head) m) (every head m) read.0 read.1.0 in
-    subst IsSpelledSection read.1.1 (every_has (λ h. is_spelled h.name.name ≡ true) head head_spelled m read.0 heads.1)
-section_of_spelled keys.Functions at m s e = let read = made_reads sections.Functions _ s e in subst IsSpelledSection read.1.1 tt
-section_of_spelled keys.Action at m s e =
-    let read = made_reads sections.Action (action at m) s e in
-    subst IsSpelledSection read.1.1 (action_spelled at m read.0 read.1.0)
-section_of_spelled keys.Derived at m s e = let read = made_reads sections.Derived _ s e in subst IsSpelledSection read.1.1 tt
-
-refused_never : {A : Type 0} (fault : Fault) (x : A) → refused fault ≡ Reads x → ⊥
-refused_never fault x e = cc
-
-keyed_section_spelled : (seen : DomainKeys) (key : Option DomainKey) (at : ℕ) (m : Members) (s : DomainSection) → keyed_domain_section seen key at m ≡ Reads s → IsSpelledSection s
-keyed_section_spelled seen None at m s e = absurd (refused_never _ s e)
-keyed_section_spelled seen (Some key) at m s e = by (has_domain_key key seen) e
-  where
-    by : (repeats : Bool) → (if repeats then refused (repeated at) else domain_section_of key at m) ≡ Reads s → IsSpelledSection s
-    by true found = absurd (refused_never (repeated at) s found)
-    by false found = section_of_spelled key at m s found
-
-section_spelled : (seen : DomainKeys) (m : Members) (s : DomainSection) → domain_section seen m ≡ Reads s → IsSpelledSection s
-unfolding domain_section
-section_spelled seen m s e = by (begins_with_colon (word (inside m))) e
-  where
-    by : (keyed : Bool) → (if keyed then keyed_domain_section seen (domain_key (word (inside m))) (line m) (rest (inside m)) else refused (malformed places.Section (line m))) ≡ Reads s → IsSpelledSection s
-    by true found = keyed_section_spelled seen (domain_key (word (inside m))) (line m) (rest (inside m)) s found
-    by false found = absurd (refused_never (malformed places.Section (line m)) s found)
-
-sections_spelled : (seen : DomainKeys) (m : Members) (ss : List DomainSection) → domain_sections seen m ≡ Reads ss → All IsSpelledSection ss
-unfolding domain_sections
-sections_spelled seen NoMore ss e = nothing_has IsSpelledSection ss e
-sections_spelled seen (WordThen line word more) ss e = sections_spelled seen more ss e
-sections_spelled seen (ListThen line inside more) ss e =
-    pairs_have IsSpelledSection (domain_section seen (ListThen line inside more)) (domain_sections (with_domain_key (domain_key (word inside)) seen) more)
-    (section_spelled seen (ListThen line inside more)) (sections_spelled (with_domain_key (domain_key (word inside)) seen) more) ss e
-
--- ---- domains
-
-with_section_spelled : (domain : Domain) (s : DomainSection) → IsWellSpelled domain → IsSpelledSection s → IsWellSpelled (with_domain_section domain s)
-with_section_spelled domain sections.Requirements well here = well
-with_section_spelled domain (sections.Types types) well here = record { predicates = well.predicates; actions = well.actions }
-with_section_spelled domain (sections.Constants constants) well here = record { predicates = well.predicates; actions = well.actions }
-with_section_spelled domain (sections.Predicates predicates) well here = record { predicates = here; actions = well.actions }
-with_section_spelled domain (sections.Functions functions) well here = record { predicates = well.predicates; actions = well.actions }
-with_section_spelled domain (sections.Action action) well here =
-    record { predicates = well.predicates; actions = All-append (λ a. is_spelled a.name.name ≡ true) domain.actions (action ∷ []) well.actions (All-cons (λ a. is_spelled a.name.name ≡ true) action [] here (All-nil (λ a. is_spelled a.name.name ≡ true))) }
-with_section_spelled domain (sections.Derived derived) well here = record { predicates = well.predicates; actions = well.actions }
-
-all_sections_spelled : (domain : Domain) (ss : List DomainSection) → IsWellSpelled domain → All IsSpelledSection ss → IsWellSpelled (fold with_domain_section domain ss)
-all_sections_spelled domain [] well all = well
-all_sections_spelled domain (s ∷ ss) well all =
-    all_sections_spelled (with_domain_section domain s) ss (with_section_spelled domain s well (All-head IsSpelledSection s ss all)) (All-tail IsSpelledSection s ss all)
-
--- a domain that is read is well spelled
-pub domain_spelled : (m : Members) (domain : Domain) → domain_reading m ≡ Reads domain → IsWellSpelled domain
-unfolding domain_reading
-domain_spelled m domain e =
-    let read = own_reads (check_file (line m) (inside m)) _ domain e in
-    let parts = both_reads _ (title (codes "domain") (rest (inside m))) (domain_sections no_domain_keys (rest (rest (inside m)))) domain read.1 in
-    let well = all_sections_spelled no_domain parts.1.0 (record { predicates = All-nil (λ h. is_spelled h.name.name ≡ true); actions = All-nil (λ a. is_spelled a.name.name ≡ true) })
-    (sections_spelled no_domain_keys (rest (rest (inside m))) parts.1.0 parts.1.1.1.0) in
-    subst IsWellSpelled parts.1.1.1.1 well
-
--- the same of a function that gives the reading
-pub given_spelled : (given : Outcome Domain) (m : Members) → Gives given (first (domain_reading m)) → IfOk given IsWellSpelled
-given_spelled (Ok domain) m gives = by (domain_reading m) refl gives
-  where
-    by : (reading : Reading Domain) → domain_reading m ≡ reading → first reading ≡ Ok domain → IsWellSpelled domain
-    by (Reads found) is e = let same : found ≡ domain = cc (e) in domain_spelled m domain (is ∙ ap Reads same)
-    by (Faults fault more) is e = absurd cc
-given_spelled (Err end) m gives = tt
+pub heads_spelled : (m : Members) (hs : List Head) → heads m ≡ Reads hs → All (λ h. IsSpelled h.name) hs
+unfolding heads
+heads_spelled NoMore hs e = nothing_has (λ (h : Head). IsSpelled h.name) hs e
+heads_spelled (WordThen line word more) hs e = heads_spelled more hs e
+heads_spelled (ListThen line inside more) hs e =
+    pairs_have (λ (h : Head). IsSpelled h.name) (head (ListThen line inside more)) (heads more) (head_spelled (ListThen line inside more)) (heads_spelled more) hs e

@@ -19,13 +19,13 @@ use std::alloc::Global;
 
 /// What a key of an action says of it.
 #[derive(Clone, Copy, Debug)]
-enum ActionKey {
+pub(crate) enum ActionKey {
     Parameters,
     Precondition,
     Effect,
 }
 
-fn action_key(word: &[u8]) -> Option<ActionKey>
+pub(crate) fn action_key(word: &[u8]) -> Option<ActionKey>
     ensures { result ≡ spec.action_key word.now }
 {
     if spells(word, b":parameters") {
@@ -148,7 +148,7 @@ fn check_keys(members: &Cursor<'_>) -> Result<(), Fault>
     Ok(())
 }
 
-fn check_action(line: u64, members: &Cursor<'_>) -> Result<(), Fault>
+pub(crate) fn check_action(line: u64, members: &Cursor<'_>) -> Result<(), Fault>
     ensures { result ≡ spec.check_action line members.now }
 {
     if members.is_empty() {

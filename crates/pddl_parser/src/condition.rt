@@ -20,7 +20,7 @@ use std::alloc::Global;
 
 /// What the first word of a condition says.
 #[derive(Clone, Copy, Debug)]
-enum ConditionHead {
+pub(crate) enum ConditionHead {
     And,
     Or,
     Not,
@@ -33,7 +33,7 @@ enum ConditionHead {
     Atom,
 }
 
-fn condition_head(word: &[u8]) -> ConditionHead
+pub(crate) fn condition_head(word: &[u8]) -> ConditionHead
     ensures { result ≡ spec.condition_head word.now }
 {
     if spells(word, b"and") {
@@ -67,9 +67,9 @@ fn is_unsupported(word: &[u8]) -> bool
         || spells(word, b"preference")
 }
 
-const CONDITION: Expected = Expected::List(ShapePlace::Condition);
+pub(crate) const CONDITION: Expected = Expected::List(ShapePlace::Condition);
 
-const VARIABLES: Expected = Expected::List(ShapePlace::VariableList);
+pub(crate) const VARIABLES: Expected = Expected::List(ShapePlace::VariableList);
 
 /// The condition here.
 #[cycle(condition)]

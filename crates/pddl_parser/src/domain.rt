@@ -21,7 +21,7 @@ use std::alloc::{AllocError, Global};
 
 /// What a section of a domain is about.
 #[derive(Clone, Copy, Debug)]
-enum DomainKey {
+pub(crate) enum DomainKey {
     Requirements,
     Types,
     Constants,
@@ -31,7 +31,7 @@ enum DomainKey {
     Derived,
 }
 
-fn domain_key(word: &[u8]) -> Option<DomainKey>
+pub(crate) fn domain_key(word: &[u8]) -> Option<DomainKey>
     ensures { result ≡ spec.domain_key word.now }
 {
     if spells(word, b":requirements") {
@@ -55,7 +55,7 @@ fn domain_key(word: &[u8]) -> Option<DomainKey>
 
 /// The sections before a place, of those that stand at most once.
 #[derive(Clone, Copy, Debug)]
-struct DomainKeys {
+pub(crate) struct DomainKeys {
     requirements: bool,
     types: bool,
     constants: bool,
@@ -64,7 +64,7 @@ struct DomainKeys {
 }
 
 impl DomainKeys {
-    fn none() -> DomainKeys
+    pub(crate) fn none() -> DomainKeys
         ensures { result ≡ spec.no_domain_keys }
     {
         DomainKeys {
@@ -76,7 +76,7 @@ impl DomainKeys {
         }
     }
 
-    fn has(self, key: DomainKey) -> bool
+    pub(crate) fn has(self, key: DomainKey) -> bool
         ensures { result ≡ spec.has_domain_key key self }
     {
         match key {
@@ -89,7 +89,7 @@ impl DomainKeys {
         }
     }
 
-    fn with(self, key: Option<DomainKey>) -> DomainKeys
+    pub(crate) fn with(self, key: Option<DomainKey>) -> DomainKeys
         ensures { result ≡ spec.with_domain_key key self }
     {
         let mut keys = self;
@@ -222,10 +222,10 @@ fn sections(alloc: Global, members: &Cursor<'_>) -> Result<Domain, ParseEnd>
 ///
 /// The error is the first fault of the file's shape: a list's own faults come before those of its members, and members stand
 /// from left to right.
-#[tactic(auto, using(crate::proofs::Spelling::given_spelled))]
+#[tactic(auto, using(crate::proofs::WellSpelled::given_domain))]
 pub fn parse_domain(alloc: Global, tree: &Tree<'_>) -> Result<Domain, ParseEnd>
     ensures reading { Gives result (first (spec.domain_reading tree.now)) }
-    // The predicates and actions in it have names that can stand on a line.
+    // What it declares has names, and no cost in it is too large.
     ensures spelled { IfOk result IsWellSpelled }
 {
     read(alloc, tree)

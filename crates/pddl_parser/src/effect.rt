@@ -21,7 +21,7 @@ use std::alloc::Global;
 
 /// What the first word of an effect says.
 #[derive(Clone, Copy, Debug)]
-enum EffectHead {
+pub(crate) enum EffectHead {
     And,
     When,
     Forall,
@@ -32,7 +32,7 @@ enum EffectHead {
     Atom,
 }
 
-fn effect_head(word: &[u8]) -> EffectHead
+pub(crate) fn effect_head(word: &[u8]) -> EffectHead
     ensures { result ≡ spec.effect_head word.now }
 {
     if spells(word, b"and") {
@@ -61,7 +61,7 @@ fn is_unsupported(word: &[u8]) -> bool
         || spells(word, b"scale-down")
 }
 
-const EFFECT: Expected = Expected::List(ShapePlace::Effect);
+pub(crate) const EFFECT: Expected = Expected::List(ShapePlace::Effect);
 
 const CONDITION: Expected = Expected::List(ShapePlace::Condition);
 

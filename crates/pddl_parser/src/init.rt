@@ -16,11 +16,11 @@ use lists::List;
 use pddl_lexer::ShapePlace;
 use std::alloc::Global;
 
-const ENTRY: Expected = Expected::List(ShapePlace::InitEntry);
+pub(crate) const ENTRY: Expected = Expected::List(ShapePlace::InitEntry);
 
 /// Whether a list stands among the members.
 #[tactic(auto, using(crate::proofs::Initials::list_none, crate::proofs::Initials::list_here, crate::proofs::Initials::list_after, crate::proofs::Rows::fewer))]
-fn has_list(members: &Cursor<'_>) -> bool
+pub(crate) fn has_list(members: &Cursor<'_>) -> bool
     ensures { result ≡ spec.has_list members.now }
 {
     let mut cursor = members.copy();

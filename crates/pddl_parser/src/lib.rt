@@ -12,6 +12,7 @@ mod expected;
 mod function;
 mod init;
 pub mod laws;
+mod listing;
 mod number;
 mod problem;
 mod title;
@@ -21,6 +22,7 @@ mod words;
 
 pub use domain::parse_domain;
 pub use end::ParseEnd;
+pub use listing::{domain_shape_faults, problem_shape_faults};
 pub use lists::{Boxed, List, Text};
 pub use problem::parse_problem;
 pub use types::{

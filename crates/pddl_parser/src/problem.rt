@@ -1,8 +1,9 @@
 // Problem files.
-ghost use Rattle.std.specs.Prelude.{◌≡◌};
+ghost use Rattle.std.specs.Prelude.{◌≡◌, IfOk};
 ghost use Rattle.std.specs.List.{fold};
 ghost use Rattle.pddl_parser.specs.Outcome.{first, made, Gives};
 ghost use Rattle.pddl_parser.specs.Reading as spec;
+ghost use Rattle.pddl_parser.specs.Spelled.{IsWellSpelledProblem};
 
 use crate::checks::{check_all, check_exact};
 use crate::condition::condition;
@@ -20,7 +21,7 @@ use std::alloc::Global;
 
 /// What a section of a problem is about.
 #[derive(Clone, Copy, Debug)]
-enum ProblemKey {
+pub(crate) enum ProblemKey {
     Requirements,
     Domain,
     Objects,
@@ -29,7 +30,7 @@ enum ProblemKey {
     Metric,
 }
 
-fn problem_key(word: &[u8]) -> Option<ProblemKey>
+pub(crate) fn problem_key(word: &[u8]) -> Option<ProblemKey>
     ensures { result ≡ spec.problem_key word.now }
 {
     if spells(word, b":requirements") {
@@ -51,17 +52,17 @@ fn problem_key(word: &[u8]) -> Option<ProblemKey>
 
 /// The sections before a place.
 #[derive(Clone, Copy, Debug)]
-struct ProblemKeys {
+pub(crate) struct ProblemKeys {
     requirements: bool,
-    domain: bool,
+    pub(crate) domain: bool,
     objects: bool,
-    init: bool,
-    goal: bool,
+    pub(crate) init: bool,
+    pub(crate) goal: bool,
     metric: bool,
 }
 
 impl ProblemKeys {
-    fn none() -> ProblemKeys
+    pub(crate) fn none() -> ProblemKeys
         ensures { result ≡ spec.no_problem_keys }
     {
         ProblemKeys {
@@ -74,7 +75,7 @@ impl ProblemKeys {
         }
     }
 
-    fn has(self, key: ProblemKey) -> bool
+    pub(crate) fn has(self, key: ProblemKey) -> bool
         ensures { result ≡ spec.has_problem_key key self }
     {
         match key {
@@ -87,7 +88,7 @@ impl ProblemKeys {
         }
     }
 
-    fn with(self, key: Option<ProblemKey>) -> ProblemKeys
+    pub(crate) fn with(self, key: Option<ProblemKey>) -> ProblemKeys
         ensures { result ≡ spec.with_problem_key key self }
     {
         let mut keys = self;
@@ -116,7 +117,7 @@ enum ProblemSection {
 }
 
 /// Whether the members say that the total cost is to be minimised.
-fn is_total_cost(members: &Cursor<'_>) -> bool
+pub(crate) fn is_total_cost(members: &Cursor<'_>) -> bool
     ensures { result ≡ spec.is_total_cost members.now }
 {
     let function = members.rest();
@@ -220,7 +221,7 @@ fn sections(alloc: Global, line: u64, members: &Cursor<'_>) -> Result<Problem, P
 
 /// The keywords of these sections.
 #[tactic(auto, using(crate::proofs::Problems::keys_none, crate::proofs::Problems::keys_list, crate::proofs::Problems::keys_word, crate::proofs::Rows::fewer))]
-fn keys_of(members: &Cursor<'_>) -> ProblemKeys
+pub(crate) fn keys_of(members: &Cursor<'_>) -> ProblemKeys
     ensures { result ≡ spec.problem_keys_of spec.no_problem_keys members.now }
 {
     let mut cursor = members.copy();
@@ -251,8 +252,17 @@ fn check_missing(line: u64, keys: ProblemKeys) -> Result<(), Fault>
 ///
 /// The error is the first fault of the file's shape: a list's own faults come before those of its members, members stand from
 /// left to right, and a missing section comes last.
-#[tactic(auto, using(crate::proofs::Readings::first_titled, crate::proofs::Readings::first_with_last), unfolding(crate::specs::Reading::problem_reading))]
+#[tactic(auto, using(crate::proofs::WellSpelled::given_problem))]
 pub fn parse_problem(alloc: Global, tree: &Tree<'_>) -> Result<Problem, ParseEnd>
+    ensures reading { Gives result (first (spec.problem_reading tree.now)) }
+    // Its objects have names, and no value in `:init` is too large.
+    ensures spelled { IfOk result IsWellSpelledProblem }
+{
+    read(alloc, tree)
+}
+
+#[tactic(auto, using(crate::proofs::Readings::first_titled, crate::proofs::Readings::first_with_last), unfolding(crate::specs::Reading::problem_reading))]
+fn read(alloc: Global, tree: &Tree<'_>) -> Result<Problem, ParseEnd>
     ensures { Gives result (first (spec.problem_reading tree.now)) }
 {
     let root = Cursor::at_root(tree);

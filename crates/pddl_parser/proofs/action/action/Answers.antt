@@ -1,4 +1,4 @@
-use Rattle.std.proofs.Common.{rules, ◌≡◌, false, sym, ◌∙◌}
+use Rattle.std.proofs.Common.{rules, ◌≡◌, false, sym}
 use Rattle.pddl_lexer.specs.Members.{is_empty, is_list}
 use Rattle.pddl_parser.proofs.Keys.{action_fails}
 use Rattle.pddl_parser.proofs.action.action.Goals as goal
