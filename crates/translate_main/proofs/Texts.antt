@@ -1,12 +1,12 @@
 -- What two texts, and the files that hold them, come to.
-use Rattle.std.proofs.Common.{◌≡◌, ◌≢◌, ◌⊎◌, ℕ, ◌≤◌, ◌<◌, Bool, true, false, List, [], ◌∷◌, cond, length, refl, sym, ap, ◌∙◌, subst, inl, inr}
+use Rattle.std.proofs.Common.{◌≡◌, ◌≢◌, ℕ, ◌≤◌, ◌<◌, Bool, true, List, [], ◌∷◌, cond, length, refl, sym, ap, ◌∙◌, subst, inl, inr}
 use Rattle.std.proofs.lemmas.Bool.{lt-ltb, le-ltb}
-use Rattle.std.specs.Prelude.{nat_lt, Ok, Err, IfOk, IfErr}
+use Rattle.std.specs.Prelude.{Ok, Err}
 use Rattle.std.specs.declared.option.Option.{Option}
 use Rattle.std.specs.declared.option.Option.TheVariants.{Some, None}
 use Rattle.std.specs.FinMap.{get}
 use Rattle.tl_device.specs.Contents.{Contents, Holds, HoldsMoreThan}
-use Rattle.tl_device.specs.Causes.{Rose, IsAbsent}
+use Rattle.tl_device.specs.Causes.{IsAbsent}
 use Rattle.pddl_lexer.specs.Members.{Members}
 use Rattle.pddl_lexer.specs.Nested.{tree}
 use Rattle.pddl_lexer.specs.Faults.{tree_faults}
@@ -18,21 +18,53 @@ use Rattle.pddl_parser.specs.declared.end.ParseEnd.TheVariants as ends
 use Rattle.pddl_parser.specs.Outcome.{Reading, Reads, Faults, faults_of, first}
 use Rattle.pddl_parser.specs.Reading.{domain_reading, problem_reading}
 use Rattle.propositional_form.specs.Form.{in_form}
-use Rattle.translate_main.specs.declared.outcome.Side.{Side}
-use Rattle.translate_main.specs.declared.outcome.Side.TheVariants as sides
+use Rattle.type_checker.specs.declared.end.CheckEnd.{CheckEnd}
+use Rattle.type_checker.specs.declared.end.CheckEnd.TheVariants as check_ends
+use Rattle.type_checker.specs.Checked.{Pair, head, ChecksTo}
+use Rattle.type_checker.specs.Faults.{SidedFault, check_faults}
+use Rattle.type_checker.specs.declared.end.Side.{Side}
+use Rattle.type_checker.specs.declared.end.Side.TheVariants as sides
 use Rattle.translate_main.specs.declared.outcome.Summary.{Summary}
 use Rattle.translate_main.specs.declared.outcome.Outcome.{Outcome}
 use Rattle.translate_main.specs.declared.outcome.Outcome.TheVariants as outcomes
 use Rattle.translate_main.specs.declared.translation.Stop.{Stop}
 use Rattle.translate_main.specs.declared.translation.Stop.TheVariants.{NoMemory, Faulty, NotBuilt}
-use Rattle.translate_main.specs.Run.{Ending, Absent, Refused, Outside, Translated, limit, length_faults, first_of, checked, of_values, of_readings, of_texts, of_problem_file, of_files, ending, ComesTo, ComesToIfTold}
+use Rattle.translate_main.specs.Run.{Ending, Absent, Refused, Outside, Translated, limit, length_faults, first_of, first_sided, accepted, checked, of_values, of_readings, of_texts, of_problem_file, of_files, ending, ComesTo, ComesToIfTold}
 use Rattle.translate_main.specs.Written.{too_long, IsTextOf, IsTextWhere, IsTextOfFiles, StopsWhere, StopsAt, StopsOnInput, StopsOnFiles}
 
 -- ---- a pair of readings
 
-pub text_in_form : (domain : Domain) (problem : Problem) (bytes : List ℕ) (summary : Summary) → in_form domain problem ≡ true → IsTextOf domain problem bytes summary → IsTextWhere (checked domain problem) bytes summary
+pub text_in_form : (domain : Domain) (problem : Problem) (bytes : List ℕ) (summary : Summary) → in_form domain problem ≡ true → IsTextOf domain problem bytes summary → IsTextWhere (accepted domain problem) bytes summary
 text_in_form domain problem bytes summary form text =
     subst (λ (test : Bool). IsTextWhere (cond test (Translated domain problem) Outside) bytes summary) (sym form) text
+
+-- ---- the check of a pair
+
+pub checked_through : (domain : Domain) (problem : Problem) → check_faults domain problem ≡ [] → checked domain problem ≡ accepted domain problem
+unfolding checked
+checked_through domain problem none = ap (λ (faults : List SidedFault). first_sided faults (accepted domain problem)) none
+
+refused_first : (faults : List SidedFault) (after : Ending) (side : Side) (fault : Fault) → head faults ≡ Some (side, fault) → first_sided faults after ≡ Refused side fault
+refused_first [] after side fault is = absurd (let e : None ≡ Some (side, fault) = is in cc (e))
+refused_first ((found, its) ∷ more) after side fault is =
+    let same : (found, its) ≡ (side, fault) = cc (is) in
+    ap (λ (f : SidedFault). Refused f.0 f.1) same
+
+pub checked_refused : (domain : Domain) (problem : Problem) (side : Side) (fault : Fault) → head (check_faults domain problem) ≡ Some (side, fault) → checked domain problem ≡ Refused side fault
+unfolding checked
+checked_refused domain problem side fault is = refused_first (check_faults domain problem) (accepted domain problem) side fault is
+
+-- a pair that was answered unchanged, as it is read from what was answered
+pub checked_as : (domain shown : Domain) (problem shown' : Problem) (pair : Pair) → pair ≡ record { domain = domain; problem = problem } → check_faults domain problem ≡ [] → shown ≡ pair.domain → shown' ≡ pair.problem
+    → checked domain problem ≡ accepted shown shown'
+checked_as domain shown problem shown' pair same none is is' =
+    let first : shown ≡ domain = is ∙ ap (λ (p : Pair). p.domain) same in
+    let second : shown' ≡ problem = is' ∙ ap (λ (p : Pair). p.problem) same in
+    checked_through domain problem none ∙ ap (λ (d : Domain). accepted d problem) (sym first) ∙ ap (accepted shown) (sym second)
+
+pub check_stops : (domain : Domain) (problem : Problem) (end : CheckEnd) (side : Side) (fault : Fault) → end ≡ check_ends.Fault side fault → ChecksTo domain problem (Err end) → checked domain problem ≡ Refused side fault
+check_stops domain problem end side fault is stops =
+    checked_refused domain problem side fault (subst (λ (e : CheckEnd). ChecksTo domain problem (Err e)) is stops)
 
 -- ---- a file with faults
 

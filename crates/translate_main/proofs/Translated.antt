@@ -1,5 +1,5 @@
 -- The encoding of a domain and a problem in the form translates them.
-use Rattle.std.proofs.Common.{◌≡◌, ℕ, true, List, [], refl, sym, ap, subst}
+use Rattle.std.proofs.Common.{◌≡◌, ℕ, true, List, [], sym, subst}
 use Rattle.std.specs.Prelude.{All}
 use Rattle.std.proofs.lemmas.List.Elements.{All-nil}
 use Rattle.pddl_parser.specs.declared.types.Domain.{Domain}
@@ -12,7 +12,6 @@ use Rattle.propositional.specs.Simulates.{Simulates}
 use Rattle.propositional_form.specs.Form.{in_form}
 use Rattle.propositional_form.specs.Numbers.{numbered}
 use Rattle.propositional_form.specs.Plans.{SamePlans}
-use Rattle.sas_task.specs.declared.parts.Group.{Group}
 use Rattle.sas_task.specs.Task.{Task}
 use Rattle.sas_task.specs.Valid.{IsValid}
 use Rattle.sas_task.specs.Values.{values}
@@ -20,8 +19,8 @@ use Rattle.sas_task.specs.Output.{text_of}
 use Rattle.sas_task.specs.Keeps.{AtMostOne, GroupsAreExclusive}
 use Rattle.translate_main.specs.declared.outcome.Summary.{Summary}
 use Rattle.translate_main.specs.Theorem.{Translates}
-use Rattle.translate_main.specs.Run.{checked}
-use Rattle.translate_main.specs.Written.{IsSummaryOf, IsTextOf, IsTextWhere}
+use Rattle.translate_main.specs.Run.{accepted}
+use Rattle.translate_main.specs.Written.{IsSummaryOf, IsTextWhere}
 use Rattle.translate_main.proofs.Texts.{text_in_form}
 
 -- where there are no groups, no group has two true facts
@@ -41,7 +40,7 @@ module _ (domain : Domain) (problem : Problem) (planning : Propositional) (task 
       }
 
   pub translation_of : (bytes : List ℕ) (summary : Summary) → in_form domain problem ≡ true → planning ≡ numbered domain problem → SamePlans domain problem planning → IsEncoding planning task → Simulates planning task
-      → ((names : List Name) (cost : ℕ) → HasPlan domain problem names cost → HasShorterPlan domain problem names cost) → IsValid task → bytes ≡ text_of task → IsSummaryOf task summary → IsTextWhere (checked domain problem) bytes summary
+      → ((names : List Name) (cost : ℕ) → HasPlan domain problem names cost → HasShorterPlan domain problem names cost) → IsValid task → bytes ≡ text_of task → IsSummaryOf task summary → IsTextWhere (accepted domain problem) bytes summary
   translation_of bytes summary form is same encodes simulates idle valid text sizes =
       text_in_form domain problem bytes summary form (record {
         task = task;

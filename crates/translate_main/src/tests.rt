@@ -5,6 +5,8 @@ use std::alloc::{AllocError, Global};
 use std::test::Fail;
 use tl_device::{MemConsole, MemFiles};
 
+mod checks;
+
 const DOMAIN: &[u8] = b"(define (domain switch) ; a lamp
  (:predicates (on) (off))
  (:action flip :parameters ()
@@ -119,7 +121,7 @@ struct Refusal<'a> {
 
 #[test]
 fn the_first_fault_is_printed_and_no_file_is_created(rt: HostRuntime) -> Result<(), Fail> {
-    let refusals: [Refusal<'_>; 13] = [
+    let refusals: [Refusal<'_>; 10] = [
         // A text that is cut, and one that is empty.
         Refusal {
             domain: DOMAIN,
@@ -165,22 +167,7 @@ fn the_first_fault_is_printed_and_no_file_is_created(rt: HostRuntime) -> Result<
         },
         // What lies outside the form that is built.
         Refusal {
-            domain: b"(define (domain switch) (:predicates (on) (off) (on)))",
-            problem: PROBLEM,
-            printed: "translate: not built yet\n",
-        },
-        Refusal {
-            domain: DOMAIN,
-            problem: b"(define (problem one) (:domain switch) (:init (off)) (:goal (up)))",
-            printed: "translate: not built yet\n",
-        },
-        Refusal {
-            domain: b"(define (domain d) (:predicates (on ?x) (off)))",
-            problem: PROBLEM,
-            printed: "translate: not built yet\n",
-        },
-        Refusal {
-            domain: b"(define (domain d) (:predicates (on) (off)) (:action a :effect (on)) (:action a :effect (off)))",
+            domain: b"(define (domain d) (:predicates (on) (off) (p ?x)))",
             problem: PROBLEM,
             printed: "translate: not built yet\n",
         },

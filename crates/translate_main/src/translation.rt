@@ -5,12 +5,13 @@ ghost use Rattle.pddl_lexer.specs.Nested.{tree};
 ghost use Rattle.pddl_lexer.specs.Faults.{tree_faults};
 ghost use Rattle.pddl_parser.specs.Outcome.{Reads, faults_of};
 ghost use Rattle.pddl_parser.specs.Reading.{domain_reading, problem_reading};
-ghost use Rattle.pddl_parser.specs.Spelled.{IsWellSpelled};
-ghost use Rattle.translate_main.specs.Run.{of_texts, of_readings, checked};
+ghost use Rattle.pddl_parser.specs.Spelled.{IsWellSpelled, IsWellSpelledProblem};
+ghost use Rattle.translate_main.specs.Run.{of_texts, of_readings, checked, accepted};
+ghost use Rattle.type_checker.specs.Faults.{check_faults};
 ghost use Rattle.translate_main.specs.Written.{IsSummaryOf, IsTextWhere, StopsWhere, StopsAt};
 ghost use Rattle.translate_main.specs.declared.translation.Stop.TheVariants.{NoMemory};
 
-use crate::outcome::{Side, Summary};
+use crate::outcome::Summary;
 use pddl_lexer::{Fault, Tree, TreeEnd, read_tree};
 use pddl_parser::laws::idle_steps;
 use pddl_parser::{Domain, ParseEnd, Problem, parse_domain, parse_problem};
@@ -19,6 +20,7 @@ use propositional_form::{FormEnd, numbered};
 use sas_task::{SasTask, Variable};
 use sas_writer::text_of;
 use std::alloc::{AllocError, Global};
+use type_checker::{CheckEnd, Side, check};
 
 /// Why two texts give nothing to write.
 #[derive(Clone, Copy, Debug, PartialEq, Eq)]
@@ -75,7 +77,7 @@ fn of_trees(alloc: Global, domain: &Tree<'_>, problem: &Tree<'_>) -> Result<Tran
 {
     let domain = domain_of(alloc, domain)?;
     let problem = problem_of(alloc, problem)?;
-    of_task(alloc, &domain, &problem)
+    of_values(alloc, domain, problem)
 }
 
 #[tactic(auto, using(crate::proofs::Texts::value_given))]
@@ -94,6 +96,7 @@ fn domain_of(alloc: Global, tree: &Tree<'_>) -> Result<Domain, Stop>
 #[tactic(auto, using(crate::proofs::Texts::value_given))]
 fn problem_of(alloc: Global, tree: &Tree<'_>) -> Result<Problem, Stop>
     ensures reading { IfOk result (λ problem. problem_reading tree.now ≡ Reads problem) }
+    ensures spelled { IfOk result IsWellSpelledProblem }
     ensures err { IfErr result (StopsAt Side.Problem (faults_of (problem_reading tree.now))) }
 {
     match parse_problem(alloc, tree) {
@@ -103,10 +106,23 @@ fn problem_of(alloc: Global, tree: &Tree<'_>) -> Result<Problem, Stop>
     }
 }
 
-fn of_task(alloc: Global, domain: &Domain, problem: &Problem) -> Result<Translation, Stop>
+fn of_values(alloc: Global, domain: Domain, problem: Problem) -> Result<Translation, Stop>
+    requires domain { IsWellSpelled domain }
+    requires problem { IsWellSpelledProblem problem }
+    ensures ok { IfOk result (λ t. IsTextWhere (checked domain problem) t.text.items t.summary) }
+    ensures err { IfErr result (StopsWhere (checked domain problem)) }
+{
+    match check(alloc, domain, problem) {
+        Ok(checked) => of_checked(alloc, checked.domain(), checked.problem()),
+        Err(CheckEnd::Fault(side, fault)) => Err(Stop::Faulty(side, fault)),
+        Err(CheckEnd::NoMemory) => Err(Stop::NoMemory),
+    }
+}
+
+fn of_checked(alloc: Global, domain: &Domain, problem: &Problem) -> Result<Translation, Stop>
     requires { IsWellSpelled domain.now }
-    ensures ok { IfOk result (λ t. IsTextWhere (checked domain.now problem.now) t.text.items t.summary) }
-    ensures err { IfErr result (StopsWhere (checked domain.now problem.now)) }
+    ensures ok { IfOk result (λ t. IsTextWhere (accepted domain.now problem.now) t.text.items t.summary) }
+    ensures err { IfErr result (StopsWhere (accepted domain.now problem.now)) }
 {
     let planning = match numbered(alloc, domain, problem) {
         Ok(planning) => planning,

@@ -1,0 +1,2 @@
+pub mod AllRows
+pub mod Capping

@@ -1,0 +1,8 @@
+use Rattle.std.proofs.Common.{not, take, ◌≡◌}
+use Rattle.check_plain.specs.Shown.{all_now}
+use Rattle.type_checker.specs.Lines.{lines_where}
+use Rattle.type_checker.specs.Names.{is_declared}
+use Rattle.check_plain.proofs.uses.unknown_predicates.Given as goal
+
+abbrev pub invariant-loop-named : goal.invariant-loop-named
+invariant-loop-named l = l.lines.items ≡ lines_where (λ name. not (is_declared l.domain.predicates name.name)) (all_now (take l.named-index l.named-items))

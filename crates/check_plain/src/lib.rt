@@ -1,0 +1,18 @@
+//! A plain, slow program beside the definition of check faults: it lists all faults of the first kind that has any.
+//! It has no tables: each use walks over all declarations.
+#![tactic(auto)]
+
+mod faults;
+mod increases;
+mod initial;
+mod links;
+mod listed;
+mod names;
+mod scopes;
+mod sizes;
+mod uses;
+
+pub use faults::check_faults;
+
+#[cfg(test)]
+mod tests;

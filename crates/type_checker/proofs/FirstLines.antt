@@ -1,0 +1,14 @@
+-- One round of a loop that looks for the first line.
+use Rattle.std.proofs.Common.{◌≡◌, ℕ, ◌+◌, ◌<◌, List, take, length, get_or, Option, sym, ap, ◌∙◌}
+use Rattle.std.specs.List.{flat_map}
+use Rattle.type_checker.specs.Lines.{earlier, earliest}
+use Rattle.type_checker.proofs.Earliest.{earliest_more}
+
+module _ {X : Type 0} (lines_of : X → List ℕ) (items : List X) (i : ℕ) (item : X) (within : i < length items) (is : item ≡ get_or items i item) where
+  pub first_after : (before now here : Option ℕ) → before ≡ earliest (flat_map lines_of (take i items)) → here ≡ earliest (lines_of item) → now ≡ earlier before here →
+      now ≡ earliest (flat_map lines_of (take (i + 1) items))
+  first_after before now here held in_item made =
+      made
+      ∙ ap (λ first. earlier first here) held
+      ∙ ap (earlier (earliest (flat_map lines_of (take i items)))) (in_item ∙ ap (λ (x : X). earliest (lines_of x)) is)
+      ∙ sym (earliest_more lines_of items i item within)

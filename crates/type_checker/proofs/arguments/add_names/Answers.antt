@@ -1,0 +1,11 @@
+use Rattle.std.proofs.Common.{arith}
+use Rattle.std.specs.List.{list_any}
+use Rattle.pddl_parser.specs.Words.{is_same}
+use Rattle.type_checker.proofs.NameTests.{names_turn}
+use Rattle.type_checker.proofs.arguments.add_names.Goals as goal
+
+pub loop-typed-preserved : goal.loop-typed-preserved
+loop-typed-preserved c =
+    names_turn (λ typed. typed.name.name) (λ other. list_any (is_same other) c.args.names.now)
+    c.args.list.now c.loop-typed.typed-index c.typed-item.result (omega arith) c.typed-item.is
+    c.loop-typed.names c.add.new.self c.as_slice.result.now c.as_slice.ensures c.in_ok-add.ensures.added c.loop-typed.invariant
