@@ -13,6 +13,3 @@ mod sizes;
 mod uses;
 
 pub use faults::check_faults;
-
-#[cfg(test)]
-mod tests;

@@ -1,18 +1,21 @@
-use super::*;
-use pddl_lexer::{Fault, Kind, ShapePlace, read_tree};
+//! What the parser reads, its first fault, and all faults that are listed.
+
+use crate::reading::{File, domain_of, has_first_fault, has_shape_faults, problem_of};
+use pddl_lexer::{Fault, Kind, ShapePlace};
+use pddl_parser::{Action, Condition, Derived, Domain, Effect, Head, Init, Named, Problem, Typed};
 use std::test::*;
 
-const DOMAIN: &[u8] = b"(define (domain switch) ; a lamp
+const DOMAIN: &str = "(define (domain switch) ; a lamp
 (:predicates (on) (off))
 (:action FLIP :parameters ()
  :precondition (off)
  :effect (and (on) (not (OFF)))))";
 
-const PROBLEM: &[u8] = b"(define (problem one) (:domain switch)
+const PROBLEM: &str = "(define (problem one) (:domain switch)
 (:init (off))
 (:goal (on)))";
 
-const TYPED: &[u8] = b"(define (domain t)
+const TYPED: &str = "(define (domain t)
 (:constants a b - thing c)
 (:functions (total-cost) (far ?x ?y - place) - number)
 (:types thing - object)
@@ -21,191 +24,209 @@ const TYPED: &[u8] = b"(define (domain t)
 (:action go :effect (forall (?z) (when () (increase (total-cost) 12)))
  :parameters (?x)))";
 
-fn domain_of(rt: HostRuntime, text: &[u8]) -> Result<Domain, ParseEnd> {
-    match read_tree(rt.alloc(), text) {
-        Ok(tree) => parse_domain(rt.alloc(), &tree),
-        Err(_) => Err(ParseEnd::NoMemory),
+fn is_at(name: &Named, word: &str, line: u64) -> bool {
+    name.name.as_slice() == word.as_bytes() && name.line == line
+}
+
+fn is_atom(condition: &Condition, predicate: &str, line: u64) -> bool {
+    matches!(condition, Condition::Atom(atom) if is_at(&atom.predicate, predicate, line))
+}
+
+fn is_flip(actions: &[Action]) -> bool {
+    match actions {
+        [action] => {
+            is_at(&action.name, "flip", 3)
+                && is_atom(&action.precondition, "off", 4)
+                && matches!(&action.effect, Effect::And(members, 5) if members.as_slice().len() == 2)
+        }
+        _ => false,
     }
 }
 
-fn problem_of(rt: HostRuntime, text: &[u8]) -> Result<Problem, ParseEnd> {
-    match read_tree(rt.alloc(), text) {
-        Ok(tree) => parse_problem(rt.alloc(), &tree),
-        Err(_) => Err(ParseEnd::NoMemory),
-    }
+fn is_off(init: &[Init]) -> bool {
+    matches!(init, [Init::Holds(atom)] if is_at(&atom.predicate, "off", 2))
 }
 
-fn is_at(name: &Named, word: &[u8], line: u64) -> bool {
-    name.name.as_slice() == word && name.line == line
+fn is_switch(domain: &Domain) -> bool {
+    domain.predicates.as_slice().len() == 2 && is_flip(domain.actions.as_slice())
 }
 
-fn is_fault<T: Drop>(answer: Result<T, ParseEnd>, kind: Kind, line: u64) -> bool {
-    match answer {
-        Err(ParseEnd::Fault(fault)) => fault.kind == kind && fault.line == line,
-        Err(ParseEnd::NoMemory) | Ok(_) => false,
-    }
+fn is_lamp(problem: &Problem) -> bool {
+    !problem.metric && is_off(problem.init.as_slice()) && is_atom(&problem.goal, "on", 3)
 }
 
 #[test]
 fn the_switch_files_are_read(rt: HostRuntime) {
-    let domain = domain_of(rt, DOMAIN).ok().expect(&rt, "read");
-    assert_eq!(rt; domain.predicates.as_slice().len(), 2);
-    let actions = domain.actions.as_slice();
-    assert_eq!(rt; actions.len(), 1);
-    assert!(rt; is_at(&actions[0].name, b"flip", 3));
-    assert!(rt;
-        matches!(&actions[0].precondition, Condition::Atom(atom) if is_at(&atom.predicate, b"off", 4))
-    );
-    assert!(rt;
-        matches!(&actions[0].effect, Effect::And(members, 5) if members.as_slice().len() == 2)
-    );
-    let problem = problem_of(rt, PROBLEM).ok().expect(&rt, "read");
-    assert!(rt; !problem.metric);
-    assert!(rt;
-        matches!(problem.init.as_slice(), [Init::Holds(atom)] if is_at(&atom.predicate, b"off", 2))
-    );
-    assert!(rt; matches!(&problem.goal, Condition::Atom(atom) if is_at(&atom.predicate, b"on", 3)));
+    assert!(rt; matches!(&domain_of(rt.alloc(), DOMAIN), Ok(domain) if is_switch(domain)));
+    assert!(rt; matches!(&problem_of(rt.alloc(), PROBLEM), Ok(problem) if is_lamp(problem)));
+}
+
+/// Whether the second of three constants has one type, and the third none.
+fn are_typed(constants: &[Typed]) -> bool {
+    match constants {
+        [_, typed, untyped] => {
+            matches!(typed.types.as_slice(), [only] if is_at(only, "thing", 2))
+                && untyped.types.as_slice().is_empty()
+        }
+        _ => false,
+    }
+}
+
+/// Whether the second of two functions has two variables.
+fn are_functions(functions: &[Head]) -> bool {
+    matches!(functions, [_, far] if far.variables.as_slice().len() == 2)
+}
+
+fn is_exists(axioms: &[Derived]) -> bool {
+    matches!(axioms, [axiom] if matches!(axiom.body, Condition::Exists(_, _, 6)))
+}
+
+/// Whether the one action is for all objects, and has no precondition.
+fn is_forall(actions: &[Action]) -> bool {
+    match actions {
+        [go] => {
+            matches!(go.effect, Effect::Forall(_, _, 7))
+                && matches!(go.precondition, Condition::True(7))
+        }
+        _ => false,
+    }
+}
+
+fn is_typed(domain: &Domain) -> bool {
+    are_typed(domain.constants.as_slice())
+        && domain.types.as_slice().len() == 1
+        && are_functions(domain.functions.as_slice())
+        && is_exists(domain.axioms.as_slice())
+        && is_forall(domain.actions.as_slice())
 }
 
 #[test]
 fn sections_and_keys_stand_in_any_order(rt: HostRuntime) {
-    let domain = domain_of(rt, TYPED).ok().expect(&rt, "read");
-    let constants = domain.constants.as_slice();
-    assert_eq!(rt; constants.len(), 3);
-    assert!(rt; matches!(constants[1].types.as_slice(), [only] if is_at(only, b"thing", 2)));
-    assert!(rt; constants[2].types.as_slice().is_empty());
-    assert_eq!(rt; domain.types.as_slice().len(), 1);
-    let functions = domain.functions.as_slice();
-    assert_eq!(rt; functions.len(), 2);
-    assert_eq!(rt; functions[1].variables.as_slice().len(), 2);
-    assert!(rt;
-        matches!(domain.axioms.as_slice(), [axiom] if matches!(axiom.body, Condition::Exists(_, _, 6)))
-    );
-    assert!(rt;
-        matches!(domain.actions.as_slice(), [go] if matches!(go.effect, Effect::Forall(_, _, 7)))
-    );
-    assert!(rt;
-        matches!(domain.actions.as_slice(), [go] if matches!(go.precondition, Condition::True(7)))
-    );
+    assert!(rt; matches!(&domain_of(rt.alloc(), TYPED), Ok(domain) if is_typed(domain)));
 }
 
 #[test]
-fn first_faults_of_domains(rt: HostRuntime) {
-    let cases: [(&[u8], Kind, u64); 12] = [
+fn first_faults(rt: HostRuntime) {
+    let cases: [(File, &str, Kind, u64); 19] = [
         (
-            b"(define (domain d)\n(:predicates on (off)))",
+            File::Domain,
+            "(define (domain d)\n(:predicates on (off)))",
             Kind::Shape(ShapePlace::Head),
             2,
         ),
-        (b"(define (domain sw@tch))", Kind::BadName, 1),
+        (File::Domain, "(define (domain sw@tch))", Kind::BadName, 1),
         (
-            b"(define (domain d)\n(:predicates (and) (off)))",
+            File::Domain,
+            "(define (domain d)\n(:predicates (and) (off)))",
             Kind::ReservedWord,
             2,
         ),
         (
-            b"(define (domain d)\n(:requirements :fluents))",
+            File::Domain,
+            "(define (domain d)\n(:requirements :fluents))",
             Kind::UnsupportedRequirement,
             2,
         ),
         (
-            b"(define (domain d) (:predicates (p))\n(x)\ny)",
+            File::Domain,
+            "(define (domain d) (:predicates (p))\n(x)\ny)",
             Kind::Shape(ShapePlace::Section),
             3,
         ),
         (
-            b"(define (domain d) (:types a -\n(either b c)))",
+            File::Domain,
+            "(define (domain d) (:types a -\n(either b c)))",
             Kind::UnsupportedSection,
             2,
         ),
         (
-            b"(define (domain d)\n(:types a -\n))",
+            File::Domain,
+            "(define (domain d)\n(:types a -\n))",
             Kind::Shape(ShapePlace::Section),
             2,
         ),
         (
-            b"(define (domain d) (:functions (f) - number\n- number))",
+            File::Domain,
+            "(define (domain d) (:functions (f) - number\n- number))",
             Kind::Shape(ShapePlace::Head),
             2,
         ),
         (
-            b"(define (domain d) (:action a :precondition\n:effect (p)))",
+            File::Domain,
+            "(define (domain d) (:action a :precondition\n:effect (p)))",
             Kind::Shape(ShapePlace::Condition),
             2,
         ),
         (
-            b"(define (domain d) (:action a :effect ()\n:effect))",
+            File::Domain,
+            "(define (domain d) (:action a :effect ()\n:effect))",
             Kind::RepeatedSection,
             2,
         ),
         (
-            b"(define (domain d) (:action a :precondition\n(< (f) 1)))",
+            File::Domain,
+            "(define (domain d) (:action a :precondition\n(< (f) 1)))",
             Kind::UnsupportedSection,
             2,
         ),
         (
-            b"(define (domain d) (:action a :effect (= a b)))",
+            File::Domain,
+            "(define (domain d) (:action a :effect (= a b)))",
             Kind::BadName,
             1,
         ),
-    ];
-    for (text, kind, line) in cases {
-        assert!(rt; is_fault(domain_of(rt, text), kind, line));
-    }
-}
-
-#[test]
-fn first_faults_of_problems(rt: HostRuntime) {
-    let cases: [(&[u8], Kind, u64); 7] = [
         (
-            b"(define (problem p)\n(:init (= (total-cost) 1.5)))",
+            File::Problem,
+            "(define (problem p)\n(:init (= (total-cost) 1.5)))",
             Kind::NotWhole,
             2,
         ),
         (
-            b"(define (problem p)\n(:init (= (total-cost) 2147483648)))",
+            File::Problem,
+            "(define (problem p)\n(:init (= (total-cost) 2147483648)))",
             Kind::NumberTooLarge,
             2,
         ),
         (
-            b"(define (problem p)\n(:constraints (on)))",
+            File::Problem,
+            "(define (problem p)\n(:constraints (on)))",
             Kind::UnsupportedSection,
             2,
         ),
         (
-            b"(define (problem p) (:init (off))\n(:init))",
+            File::Problem,
+            "(define (problem p) (:init (off))\n(:init))",
             Kind::RepeatedSection,
             2,
         ),
         (
-            b"(define (problem p)\n(:domain d) (:init))",
+            File::Problem,
+            "(define (problem p)\n(:domain d) (:init))",
             Kind::MissingSection,
             1,
         ),
         (
-            b"(define (problem p) (:metric minimize (total-cost))\n(:metric maximize (x)))",
+            File::Problem,
+            "(define (problem p) (:metric minimize (total-cost))\n(:metric maximize (x)))",
             Kind::RepeatedSection,
             2,
         ),
         (
-            b"(define (problem p) (:init (< (p) 1)))",
+            File::Problem,
+            "(define (problem p) (:init (< (p) 1)))",
             Kind::ReservedWord,
             1,
         ),
     ];
-    for (text, kind, line) in cases {
-        assert!(rt; is_fault(problem_of(rt, text), kind, line));
+    for (file, text, kind, line) in cases {
+        assert!(rt;
+            has_first_fault(rt.alloc(), file, text, Fault { kind, line }),
+            "{text}"
+        );
     }
 }
 
-/// Which sort of file a text is.
-#[derive(Clone, Copy)]
-enum File {
-    Domain,
-    Problem,
-}
-
-const DOMAIN_AT_FAULT: &[u8] = b"(define (domain d,)
+const DOMAIN_AT_FAULT: &str = "(define (domain d,)
 (:requirements :strips :fluents)
 (:types a - (either b c) d -)
 (:predicates (p ?x)
@@ -224,7 +245,7 @@ const DOMAIN_AT_FAULT: &[u8] = b"(define (domain d,)
 (:derived (r ?x) (p ?x)
 (p ?x)))";
 
-const PROBLEM_AT_FAULT: &[u8] = b"(define (problem p)
+const PROBLEM_AT_FAULT: &str = "(define (problem p)
 (:objects a
 :b c -)
 (:init (p a)
@@ -236,7 +257,7 @@ b)
 (:metric maximize (total-cost))
 (:metric minimize (total-cost)))";
 
-const DANGLING: &[u8] = b"(define (domain d)
+const DANGLING: &str = "(define (domain d)
 (:types a
 -)
 (:constants b
@@ -250,7 +271,7 @@ const DANGLING: &[u8] = b"(define (domain d)
 (?x
 -)))";
 
-const NO_TYPES: &[u8] = b"(define (domain d)
+const NO_TYPES: &str = "(define (domain d)
 (:types a -
 (b))
 (:constants c -
@@ -262,7 +283,7 @@ const NO_TYPES: &[u8] = b"(define (domain d)
 (:action a :parameters (?x -
 (either a b))))";
 
-const NO_LISTS: &[u8] = b"(define (domain d)
+const NO_LISTS: &str = "(define (domain d)
 (:action a :effect (not
 p))
 (:action b :effect (increase
@@ -276,7 +297,7 @@ f 1))
 (:action f :effect ()
 :effect))";
 
-const RESERVED: &[u8] = b"(define (domain d)
+const RESERVED: &str = "(define (domain d)
 (:action a :effect
 (preference p (q)))
 (:action b :effect (not
@@ -286,7 +307,7 @@ const RESERVED: &[u8] = b"(define (domain d)
 (:action d :effect
 (assign (f) 1)))";
 
-const ODD_HEADS: &[u8] = b"(define (domain d) (:predicates
+const ODD_HEADS: &str = "(define (domain d) (:predicates
 (:p)
 (?p)
 (p@q)
@@ -307,7 +328,7 @@ const ODD_HEADS: &[u8] = b"(define (domain d) (:predicates
 (p ?x - -)
 (p?x)))";
 
-const ODD_ACTIONS: &[u8] = b"(define (domain d)
+const ODD_ACTIONS: &str = "(define (domain d)
 (:action :a)
 (:action ?a)
 (:action a,b)
@@ -332,7 +353,7 @@ const ODD_ACTIONS: &[u8] = b"(define (domain d)
 (increase (f) @)
 (increase (f) (g =)))))";
 
-const ODD_ENTRIES: &[u8] = b"(define (problem p) (:domain d) (:goal ()) (:init
+const ODD_ENTRIES: &str = "(define (problem p) (:domain d) (:goal ()) (:init
 (p ?x)
 (:p)
 (p a -)
@@ -360,24 +381,10 @@ const ENTRY: Kind = Kind::Shape(ShapePlace::InitEntry);
 
 const COST: Kind = Kind::Shape(ShapePlace::Cost);
 
-fn all_faults(rt: HostRuntime, file: File, text: &[u8]) -> Option<Vec<Fault>> {
-    let tree = read_tree(rt.alloc(), text).ok()?;
-    match file {
-        File::Domain => domain_shape_faults(rt.alloc(), &tree).ok(),
-        File::Problem => problem_shape_faults(rt.alloc(), &tree).ok(),
-    }
-}
-
-fn are(faults: &[Fault], expected: &[(Kind, u64)]) -> bool {
-    let mut pairs = faults.iter().zip(expected);
-    faults.len() == expected.len()
-        && pairs.all(|(fault, (kind, line))| fault.kind == *kind && fault.line == *line)
-}
-
 // A list at fault isn't looked into, so that it has one fault. Missing sections come last.
 #[test]
 fn all_faults_in_order(rt: HostRuntime) {
-    let cases: [(File, &[u8], &[(Kind, u64)]); 18] = [
+    let cases: [(File, &str, &[(Kind, u64)]); 18] = [
         (File::Domain, DOMAIN, &[]),
         (File::Domain, TYPED, &[]),
         (File::Problem, PROBLEM, &[]),
@@ -462,7 +469,7 @@ fn all_faults_in_order(rt: HostRuntime) {
         ),
         (
             File::Problem,
-            b"(define (problem p) (:domain d) (:objects a\n-) (:init (not\np) (=\nx 1)\n((p))))",
+            "(define (problem p) (:domain d) (:objects a\n-) (:init (not\np) (=\nx 1)\n((p))))",
             &[
                 (SECTION, 1),
                 (ENTRY, 3),
@@ -473,55 +480,57 @@ fn all_faults_in_order(rt: HostRuntime) {
         ),
         (
             File::Problem,
-            b"(define (problem p) (:domain d) (:init) (:goal ())\n(:metric minimize (total-cost))\n(:metric maximize (x)))",
+            "(define (problem p) (:domain d) (:init) (:goal ())\n(:metric minimize (total-cost))\n(:metric maximize (x)))",
             &[(Kind::RepeatedSection, 3)],
         ),
         (
             File::Problem,
-            b"(define (problem p) (:domain d) (:init) (:goal ())\n(:metric minimize))",
+            "(define (problem p) (:domain d) (:init) (:goal ())\n(:metric minimize))",
             &[(Kind::UnsupportedSection, 2)],
         ),
         (
             File::Domain,
-            b"(define (domain d) (:predicates (p))\n(x)\ny)",
+            "(define (domain d) (:predicates (p))\n(x)\ny)",
             &[(SECTION, 3)],
         ),
         (
             File::Domain,
-            b"(define (domain d) (:predicates (p))\n(x)\n(:types a - (b)))",
+            "(define (domain d) (:predicates (p))\n(x)\n(:types a - (b)))",
             &[(SECTION, 2), (TYPE_NAME, 3)],
         ),
         (
             File::Domain,
-            b"(define (domain d) (:functions (f) (g) - number (h)\n- number\n- number))",
+            "(define (domain d) (:functions (f) (g) - number (h)\n- number\n- number))",
             &[(HEAD, 3)],
         ),
         (
             File::Domain,
-            b"(define (domain d) (:functions\n- number (f)))",
+            "(define (domain d) (:functions\n- number (f)))",
             &[(HEAD, 2)],
         ),
         (
             File::Domain,
-            b"(define (domain d) (:functions (f)\nnumber))",
+            "(define (domain d) (:functions (f)\nnumber))",
             &[(HEAD, 2)],
         ),
         (
             File::Domain,
-            b"(define (domain d) (:functions (f) -\nreal))",
+            "(define (domain d) (:functions (f) -\nreal))",
             &[(Kind::UnsupportedSection, 2)],
         ),
     ];
     for (file, text, expected) in cases {
-        let faults = all_faults(rt, file, text).expect(&rt, "listed");
-        assert!(rt; are(&faults, expected));
+        assert!(rt;
+            has_shape_faults(rt.alloc(), file, text, expected),
+            "{text}"
+        );
     }
 }
 
 // Names have none of `?`, `@` and `,`, don't begin with `:`, and aren't `-` or `=`. A `?` begins another word.
 #[test]
 fn odd_names(rt: HostRuntime) {
-    let cases: [(File, &[u8], &[(Kind, u64)]); 16] = [
+    let cases: [(File, &str, &[(Kind, u64)]); 16] = [
         (
             File::Domain,
             ODD_HEADS,
@@ -590,72 +599,140 @@ fn odd_names(rt: HostRuntime) {
         ),
         (
             File::Domain,
-            b"(define (domain :d)\n(:types a - ?b)\n(:constants a@))",
+            "(define (domain :d)\n(:types a - ?b)\n(:constants a@))",
             THREE_NAMES,
         ),
         (
             File::Domain,
-            b"(define (domain ?d)\n(:types a - =)\n(:constants :c))",
+            "(define (domain ?d)\n(:types a - =)\n(:constants :c))",
             THREE_NAMES,
         ),
         (
             File::Domain,
-            b"(define (domain @)\n(:types a - -)\n(:constants =))",
+            "(define (domain @)\n(:types a - -)\n(:constants =))",
             THREE_NAMES,
         ),
         (
             File::Domain,
-            b"(define (domain d,e)\n(:types a - :b)\n(:constants ?c))",
+            "(define (domain d,e)\n(:types a - :b)\n(:constants ?c))",
             THREE_NAMES,
         ),
         (
             File::Domain,
-            b"(define (domain =)\n(:types a - b,)\n(:constants c - t ,))",
+            "(define (domain =)\n(:types a - b,)\n(:constants c - t ,))",
             THREE_NAMES,
         ),
         (
             File::Domain,
-            b"(define (domain -)\n(:types a - b@)\n(:constants c d:e :f))",
+            "(define (domain -)\n(:types a - b@)\n(:constants c d:e :f))",
             THREE_NAMES,
         ),
         (
             File::Problem,
-            b"(define (problem :p)\n(:domain ?d)\n(:objects =) (:init) (:goal ()))",
+            "(define (problem :p)\n(:domain ?d)\n(:objects =) (:init) (:goal ()))",
             THREE_NAMES,
         ),
         (
             File::Problem,
-            b"(define (problem ?p)\n(:domain =)\n(:objects :o) (:init) (:goal ()))",
+            "(define (problem ?p)\n(:domain =)\n(:objects :o) (:init) (:goal ()))",
             THREE_NAMES,
         ),
         (
             File::Problem,
-            b"(define (problem @)\n(:domain :d)\n(:objects o,) (:init) (:goal ()))",
+            "(define (problem @)\n(:domain :d)\n(:objects o,) (:init) (:goal ()))",
             THREE_NAMES,
         ),
         (
             File::Problem,
-            b"(define (problem p,q)\n(:domain -)\n(:objects ?o) (:init) (:goal ()))",
+            "(define (problem p,q)\n(:domain -)\n(:objects ?o) (:init) (:goal ()))",
             THREE_NAMES,
         ),
         (
             File::Problem,
-            b"(define (problem -)\n(:domain d@)\n(:objects a - ?) (:init) (:goal ()))",
+            "(define (problem -)\n(:domain d@)\n(:objects a - ?) (:init) (:goal ()))",
             THREE_NAMES,
         ),
         (
             File::Domain,
-            b"(define (domain d\n?e))",
+            "(define (domain d\n?e))",
             &[(Kind::Shape(ShapePlace::File), 2)],
         ),
         (
             File::Problem,
-            b"(define (problem p)\n(:domain d?e)\n(:objects -) (:init) (:goal ()))",
+            "(define (problem p)\n(:domain d?e)\n(:objects -) (:init) (:goal ()))",
             &[(SECTION, 2), (SECTION, 3)],
         ),
     ];
     for (file, text, expected) in cases {
-        let faults = all_faults(rt, file, text).expect(&rt, "listed");
-        assert!(rt; are(&faults, expected));
+        assert!(rt;
+            has_shape_faults(rt.alloc(), file, text, expected),
+            "{text}"
+        );
+    }
+}
+
+#[test]
+fn one_change_of_the_switch_files_is_the_one_fault_listed(rt: HostRuntime) {
+    let rows: [(File, &str, Kind, u64); 9] = [
+        (
+            File::Domain,
+            "(define (domain switch)\n(:predicates on (off)))",
+            Kind::Shape(ShapePlace::Head),
+            2,
+        ),
+        (
+            File::Domain,
+            "(define (domain sw@tch)\n(:predicates (on) (off)))",
+            Kind::BadName,
+            1,
+        ),
+        (
+            File::Domain,
+            "(define (domain switch)\n(:predicates (and) (off)))",
+            Kind::ReservedWord,
+            2,
+        ),
+        (
+            File::Domain,
+            "(define (domain switch)\n(:requirements :fluents) (:predicates (on) (off)))",
+            Kind::UnsupportedRequirement,
+            2,
+        ),
+        (
+            File::Problem,
+            "(define (problem one) (:domain switch)\n(:init (= (total-cost) 1.5))\n(:goal (on)))",
+            Kind::NotWhole,
+            2,
+        ),
+        (
+            File::Problem,
+            "(define (problem one) (:domain switch)\n(:init (= (total-cost) 2147483648))\n(:goal (on)))",
+            Kind::NumberTooLarge,
+            2,
+        ),
+        (
+            File::Problem,
+            "(define (problem one) (:domain switch)\n(:init (off))\n(:constraints (on)) (:goal (on)))",
+            Kind::UnsupportedSection,
+            3,
+        ),
+        (
+            File::Problem,
+            "(define (problem one) (:domain switch)\n(:init (off)) (:init)\n(:goal (on)))",
+            Kind::RepeatedSection,
+            2,
+        ),
+        (
+            File::Problem,
+            "(define (problem one) (:domain switch)\n(:init (off)))",
+            Kind::MissingSection,
+            1,
+        ),
+    ];
+    for (file, text, kind, line) in rows {
+        assert!(rt;
+            has_shape_faults(rt.alloc(), file, text, &[(kind, line)]),
+            "{text}"
+        );
     }
 }
