@@ -6,7 +6,6 @@ pub mod Groups
 pub mod Readings
 pub mod Nested
 pub mod NestedEffects
-pub mod Folds
 pub mod Keys
 pub mod Heads
 pub mod Initials
@@ -17,6 +16,7 @@ pub mod EffectCases
 pub mod SameAtoms
 pub mod Written
 pub mod IdleSteps
+pub mod ListTests
 pub mod TypeChains
 pub mod Given
 pub mod Spelling

@@ -25,11 +25,8 @@ use Rattle.pddl_parser.specs.Spelled.{is_spelled, IsSpelled, IsSpelledType}
 use Rattle.pddl_parser.specs.Values.{named, with_types, group_types, typed, typed_after_type, names, head}
 use Rattle.pddl_parser.specs.Words.{is_dash, is_same, is_mark, is_name_byte, begins_with_colon, is_name, is_word, lowered, is_one_of, reserved}
 use Rattle.pddl_parser.proofs.Given.{own_reads, pairs_have, nothing_has, first_passes, rest_passes, no_kind, unless_empty}
+use Rattle.pddl_parser.proofs.ListTests.{both}
 use Rattle.pddl_parser.proofs.SameAtoms.{both_left, both_right}
-
-both_hold : (a b : Bool) → a ≡ true → b ≡ true → (a && b) ≡ true
-both_hold true b left right = right
-both_hold false b left right = absurd cc
 
 -- ---- lowered names
 
@@ -73,8 +70,8 @@ lowered_bytes (byte ∷ bytes) all =
     let here = both_left (is_name_byte byte) (list_all is_name_byte bytes) all in
     let of_word = lowered_byte byte (both_left (is_word_byte byte) (not (is_mark byte)) here) in
     let no_mark = ap not (marks_kept byte) ∙ both_right (is_word_byte byte) (not (is_mark byte)) here in
-    both_hold (is_name_byte (to_ascii_lowercase byte)) (list_all is_name_byte (lowered bytes))
-    (both_hold (is_word_byte (to_ascii_lowercase byte)) (not (is_mark (to_ascii_lowercase byte))) of_word no_mark)
+    both (is_name_byte (to_ascii_lowercase byte)) (list_all is_name_byte (lowered bytes))
+    (both (is_word_byte (to_ascii_lowercase byte)) (not (is_mark (to_ascii_lowercase byte))) of_word no_mark)
     (lowered_bytes bytes (both_right (is_name_byte byte) (list_all is_name_byte bytes) all))
 
 lowered_none : (bytes : List ℕ) → is_same (lowered bytes) [] ≡ is_same bytes []
@@ -115,7 +112,7 @@ lowered_twice (byte ∷ bytes) =
 name_spelled : (bytes : List ℕ) → is_name bytes ≡ true → is_spelled (lowered bytes) ≡ true
 name_spelled bytes e =
     let same = ap (λ twice. is_same twice (lowered bytes)) (lowered_twice bytes) ∙ nat_list_eq_equiv.refl (lowered bytes) in
-    both_hold (is_name (lowered bytes)) (is_same (lowered (lowered bytes)) (lowered bytes)) (lowered_name bytes e) same
+    both (is_name (lowered bytes)) (is_same (lowered (lowered bytes)) (lowered bytes)) (lowered_name bytes e) same
 
 pub named_spelled : (m : Members) → is_name (word m) ≡ true → IsSpelled (named m)
 named_spelled m e = name_spelled (word m) e

@@ -1,80 +1,12 @@
 -- A chain of entries of `:types`, however long, can be made one that goes through no entry twice.
 use Rattle.std.proofs.Common.{◌≡◌, ℕ, zero, suc, Bool, true, false, ◌&&◌, ◌||◌, ◌⊎◌, inl, inr, List, [], ◌∷◌, ◌++◌, length, refl, sym, ap, ◌∙◌, subst, arith, length-append}
 use Rattle.std.specs.List.{list_any}
-use Rattle.std.proofs.lemmas.List.Folds.{list_any-append}
 use Rattle.pddl_parser.specs.declared.types.Named.{Named}
 use Rattle.pddl_parser.specs.declared.types.Typed.{Typed}
 use Rattle.pddl_parser.specs.Words.{Name, is_same}
 use Rattle.pddl_parser.specs.Objects.{declares, leads}
+use Rattle.pddl_parser.proofs.ListTests.{both, left_or_right, or_left, or_right, Found, found, any_found, any_more, any_with, one_or_others}
 use Rattle.pddl_parser.proofs.SameAtoms.{both_left, both_right}
-
--- ---- tests of lists
-
-both : (a b : Bool) → a ≡ true → b ≡ true → (a && b) ≡ true
-both true b p q = q
-both false b p q = absurd cc
-
-left_or_right : (a b : Bool) → (a || b) ≡ true → (a ≡ true) ⊎ (b ≡ true)
-left_or_right true b e = inl refl
-left_or_right false b e = inr e
-
-or_left : (a b : Bool) → a ≡ true → (a || b) ≡ true
-or_left true b e = refl
-or_left false b e = absurd cc
-
-or_right : (a b : Bool) → b ≡ true → (a || b) ≡ true
-or_right true b e = refl
-or_right false b e = e
-
--- an item that passes, and where it stands
-record Found {X : Type 0} (test : X → Bool) (xs : List X) : Type 0 where
-  before : List X
-  item : X
-  later : List X
-  parts : xs ≡ before ++ item ∷ later
-  passes : test item ≡ true
-
-found : {X : Type 0} (test : X → Bool) (xs : List X) → list_any test xs ≡ true → Found test xs
-found test [] some = absurd cc
-found test (x ∷ xs) some = by_first (found test xs) (left_or_right (test x) (list_any test xs) some)
-  where
-    by_first : (list_any test xs ≡ true → Found test xs) → (test x ≡ true) ⊎ (list_any test xs ≡ true) → Found test (x ∷ xs)
-    by_first rest (inl here) = record { before = []; item = x; later = xs; parts = refl; passes = here }
-    by_first rest (inr there) =
-        let r = rest there in
-        record { before = x ∷ r.before; item = r.item; later = r.later; parts = ap (λ ys. x ∷ ys) r.parts; passes = r.passes }
-
-any_found : {X : Type 0} (test : X → Bool) (before : List X) (item : X) (later : List X) → test item ≡ true → list_any test (before ++ item ∷ later) ≡ true
-any_found test before item later passes =
-    list_any-append test before (item ∷ later) ∙ or_right (list_any test before) (list_any test (item ∷ later)) (or_left (test item) (list_any test later) passes)
-
--- what passes with an item left out passes with it
-any_more : {X : Type 0} (test wider : X → Bool) → ((x : X) → test x ≡ true → wider x ≡ true) → (xs : List X) → list_any test xs ≡ true → list_any wider xs ≡ true
-any_more test wider widens [] some = absurd cc
-any_more test wider widens (x ∷ xs) some = by_first (any_more test wider widens xs) (left_or_right (test x) (list_any test xs) some)
-  where
-    by_first : (list_any test xs ≡ true → list_any wider xs ≡ true) → (test x ≡ true) ⊎ (list_any test xs ≡ true) → list_any wider (x ∷ xs) ≡ true
-    by_first rest (inl here) = or_left (wider x) (list_any wider xs) (widens x here)
-    by_first rest (inr there) = or_right (wider x) (list_any wider xs) (rest there)
-
-any_with : {X : Type 0} (test : X → Bool) (before : List X) (item : X) (later : List X) → list_any test (before ++ later) ≡ true → list_any test (before ++ item ∷ later) ≡ true
-any_with test before item later some = by_half (left_or_right (list_any test before) (list_any test later) (sym (list_any-append test before later) ∙ some))
-  where
-    by_half : (list_any test before ≡ true) ⊎ (list_any test later ≡ true) → list_any test (before ++ item ∷ later) ≡ true
-    by_half (inl first) = list_any-append test before (item ∷ later) ∙ or_left (list_any test before) (list_any test (item ∷ later)) first
-    by_half (inr last) = list_any-append test before (item ∷ later) ∙ or_right (list_any test before) (list_any test (item ∷ later)) (or_right (test item) (list_any test later) last)
-
--- an item that passes is the one left out, or stands among the others
-one_or_others : {X : Type 0} (test : X → Bool) (before : List X) (item : X) (later : List X) → list_any test (before ++ item ∷ later) ≡ true → (test item ≡ true) ⊎ (list_any test (before ++ later) ≡ true)
-one_or_others test before item later some = by_half (left_or_right (list_any test before) (list_any test (item ∷ later)) (sym (list_any-append test before (item ∷ later)) ∙ some))
-  where
-    by_last : (test item ≡ true) ⊎ (list_any test later ≡ true) → (test item ≡ true) ⊎ (list_any test (before ++ later) ≡ true)
-    by_last (inl here) = inl here
-    by_last (inr there) = inr (list_any-append test before later ∙ or_right (list_any test before) (list_any test later) there)
-
-    by_half : (list_any test before ≡ true) ⊎ (list_any test (item ∷ later) ≡ true) → (test item ≡ true) ⊎ (list_any test (before ++ later) ≡ true)
-    by_half (inl first) = inr (list_any-append test before later ∙ or_left (list_any test before) (list_any test later) first)
-    by_half (inr last) = by_last (left_or_right (test item) (list_any test later) last)
 
 -- ---- chains
 

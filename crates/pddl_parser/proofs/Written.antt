@@ -10,17 +10,10 @@ use Rattle.pddl_parser.specs.Holds.{GroundAtom, is_same_atom, State, ground, hol
 use Rattle.pddl_parser.specs.Step.{writes_step, writes}
 use Rattle.pddl_parser.proofs.ConditionCases.{Each}
 use Rattle.pddl_parser.proofs.EffectCases as e
+use Rattle.pddl_parser.proofs.ListTests.{or_left, or_right}
 use Rattle.pddl_parser.proofs.SameAtoms.{both_right}
 
 -- ---- tests of lists
-
-either_left : (a b : Bool) → a ≡ true → (a || b) ≡ true
-either_left true b held = refl
-either_left false b held = absurd cc
-
-either_right : (a b : Bool) → b ≡ true → (a || b) ≡ true
-either_right true b held = refl
-either_right false b held = held
 
 -- one list passes where the other does, member by member
 any_implies : {X Y : Type 0} (test : Y → Bool) (given : X → Bool) (made : X → List Y) → ((x : X) → given x ≡ true → list_any test (made x) ≡ true) → (xs : List X) → list_any given xs ≡ true → list_any test (flat_map made xs) ≡ true
@@ -28,8 +21,8 @@ any_implies test given made implies [] held = absurd cc
 any_implies test given made implies (x ∷ xs) held = list_any-append test (made x) (flat_map made xs) ∙ by_first (any_implies test given made implies xs) (given x) refl
   where
     by_first : (list_any given xs ≡ true → list_any test (flat_map made xs) ≡ true) → (b : Bool) → given x ≡ b → (list_any test (made x) || list_any test (flat_map made xs)) ≡ true
-    by_first rest true here = either_left (list_any test (made x)) (list_any test (flat_map made xs)) (implies x here)
-    by_first rest false other = either_right (list_any test (made x)) (list_any test (flat_map made xs)) (rest (sym (ap (λ b. b || list_any given xs) other) ∙ held))
+    by_first rest true here = or_left (list_any test (made x)) (list_any test (flat_map made xs)) (implies x here)
+    by_first rest false other = or_right (list_any test (made x)) (list_any test (flat_map made xs)) (rest (sym (ap (λ b. b || list_any given xs) other) ∙ held))
 
 -- ---- the atoms of an effect
 
@@ -77,13 +70,13 @@ module _ (domain : Domain) (problem : Problem) (state : State) (adds : Bool) (at
       by_first : (list_any (λ m. m binding atom) (map (writes domain problem state adds) members) ≡ true → is_among (flat_map (λ m. m binding) (map (written domain problem) members)) atom ≡ true) →
           (b : Bool) → writes domain problem state adds member binding atom ≡ b →
           (is_among (written domain problem member binding) atom || is_among (flat_map (λ m. m binding) (map (written domain problem) members)) atom) ≡ true
-      by_first rest true here = either_left (is_among (written domain problem member binding) atom) (is_among (flat_map (λ m. m binding) (map (written domain problem) members)) atom) (each.0 binding here)
+      by_first rest true here = or_left (is_among (written domain problem member binding) atom) (is_among (flat_map (λ m. m binding) (map (written domain problem) members)) atom) (each.0 binding here)
       by_first rest false other =
-          either_right (is_among (written domain problem member binding) atom) (is_among (flat_map (λ m. m binding) (map (written domain problem) members)) atom)
+          or_right (is_among (written domain problem member binding) atom) (is_among (flat_map (λ m. m binding) (map (written domain problem) members)) atom)
           (rest (sym (ap (λ b. b || list_any (λ m. m binding atom) (map (writes domain problem state adds) members)) other) ∙ held))
 
   one : (known : GroundAtom) (test : Bool) → (test && is_same_atom known atom) ≡ true → is_among (known ∷ []) atom ≡ true
-  one known test held = either_left (is_same_atom known atom) false (both_right test (is_same_atom known atom) held)
+  one known test held = or_left (is_same_atom known atom) false (both_right test (is_same_atom known atom) held)
 
   pub written_has : (effect : Effect) → IsListed effect
   written_has = e.effect_by_cases IsListed record {
