@@ -1,65 +1,21 @@
 -- Parts that are counted up to a cap, and the lines of the conditions with too many.
-use Rattle.std.proofs.Common.{◌≡◌, ℕ, zero, suc, ◌+◌, ◌*◌, ◌<◌, Bool, true, false, not, nat_le, List, [], ◌∷◌, ◌++◌, map, take, length, get_or, refl, sym, ap, ◌∙◌, append_assoc, if◌then◌else◌, arith}
+use Rattle.std.proofs.Common.{◌≡◌, ℕ, ◌+◌, ◌*◌, ◌<◌, Bool, true, false, not, List, [], ◌∷◌, ◌++◌, map, take, length, get_or, refl, sym, ap, ◌∙◌, append_assoc, if◌then◌else◌, arith}
 use Rattle.std.specs.Prelude.{min}
-use Rattle.std.specs.List.{filter, flat_map}
 use Rattle.std.proofs.lemmas.List.{take_more, map-append, append-nil}
 use Rattle.pddl_parser.specs.declared.types.Condition.{Condition, Condition-F}
 use Rattle.pddl_parser.specs.declared.types.Condition.TheVariants.{Imply, Forall, Exists}
 use Rattle.pddl_parser.specs.declared.types.Effect.{Effect}
 use Rattle.pddl_parser.specs.declared.types.Effect.TheVariants.{When}
 use Rattle.pddl_parser.specs.declared.types.Typed.{Typed}
-use Rattle.pddl_parser.proofs.ConditionCases.{Each, fold-Imply, fold-Forall, fold-Exists}
-use Rattle.pddl_parser.proofs.EffectCases.{effect_by_cases, fold-Nothing, fold-Add, fold-Delete, fold-And as fold-Joined, fold-When, fold-Forall as fold-Quantified, fold-Increase}
+use Rattle.pddl_parser.proofs.ConditionCases.{fold-Imply, fold-Forall, fold-Exists}
+use Rattle.pddl_parser.proofs.EffectCases.{fold-When}
 use Rattle.check_plain.specs.Cuts.{cap, cut}
-use Rattle.type_checker.specs.Sizes.{Size, Cut, product, paired, size_step, size_of, line_of, cuts_beside, effect_step, effect_cuts, most_parts, too_large}
-
--- ---- numbers
-
-cap_left : (n a b : ℕ) → min (a * b) n ≡ min (min a n * b) n
-cap_left n a zero = grind arith
-cap_left n a (suc b) = grind arith
-
-times_comm : (a b : ℕ) → a * b ≡ b * a
-times_comm a b = grind arith
-
-cap_right : (n a b : ℕ) → min (a * b) n ≡ min (a * min b n) n
-cap_right n a b = ap (λ parts. min parts n) (times_comm a b) ∙ cap_left n b a ∙ ap (λ parts. min parts n) (times_comm (min b n) a)
-
-cap_product : (n a b : ℕ) → min (a * b) n ≡ min (min a n * min b n) n
-cap_product n a b = cap_left n a b ∙ cap_right n (min a n) b
-
-le_cap : (n a : ℕ) → nat_le (min a (n + 1)) n ≡ nat_le a n
-le_cap n a = grind arith
+use Rattle.type_checker.specs.Sizes.{Size, Cut, product, paired, size_step, size_of, cuts_beside, effect_step, effect_cuts, most_parts, too_large}
+use Rattle.type_checker.proofs.Capping.{cap_product, product_append, le_cap, large_cut, too_large_append}
+use Rattle.type_checker.proofs.EffectCuts.{effect_capped}
 
 times_one : (n : ℕ) → n * 1 ≡ n
 times_one n = omega arith
-
-product_append : (xs ys : List ℕ) → product (xs ++ ys) ≡ product xs * product ys
-product_append [] ys = grind arith
-product_append (x ∷ xs) ys = grind (arith, product_append xs ys)
-
--- ---- cuts
-
-large_cut : (parts line : ℕ) (more : List Cut) → too_large (cut parts line ∷ more) ≡ (if nat_le parts most_parts then too_large more else line ∷ too_large more)
-large_cut parts line more = by (nat_le parts most_parts)
-  where
-    by : (small : Bool) →
-        map (λ (c : Cut). c.line) (if not small then cut parts line ∷ filter (λ c. not (nat_le c.parts most_parts)) more else filter (λ c. not (nat_le c.parts most_parts)) more)
-        ≡ (if small then too_large more else line ∷ too_large more)
-    by true = refl
-    by false = refl
-
-too_large_append : (cuts more : List Cut) → too_large (cuts ++ more) ≡ too_large cuts ++ too_large more
-too_large_append [] more = refl
-too_large_append (first ∷ cuts) more =
-    large_cut first.parts first.line (cuts ++ more)
-    ∙ ap (λ lines. if nat_le first.parts most_parts then lines else first.line ∷ lines) (too_large_append cuts more)
-    ∙ apart (nat_le first.parts most_parts) (too_large cuts) (too_large more)
-    ∙ sym (ap (λ lines. lines ++ too_large more) (large_cut first.parts first.line cuts))
-  where
-    apart : (small : Bool) (lines others : List ℕ) → (if small then lines ++ others else first.line ∷ lines ++ others) ≡ (if small then lines else first.line ∷ lines) ++ others
-    apart true lines others = refl
-    apart false lines others = refl
 
 -- a cut whose parts are counted up to the cap, before others
 cut_before : (parts line : ℕ) (more : List Cut) → too_large (cut (min parts cap) line ∷ []) ++ too_large more ≡ too_large (cut parts line ∷ more)
@@ -129,59 +85,7 @@ module _ (variables : List Typed) (inside : Condition) (line : ℕ) where
       cut_before (size_of inside true).parts line (size_of inside true).replaced
       ∙ sym (ap (λ (f : Bool → Size). too_large (f false).replaced) (fold-Exists (Bool → Size) size_step variables inside line))
 
--- ---- effects: only so many of the parts around count
-
-abbrev IsCapped : Effect → Type 0
-IsCapped e = (around : ℕ) → too_large (effect_cuts e around) ≡ too_large (effect_cuts e (min around cap))
-
-through : (f g : ℕ → List Cut) → f ≡ g → (a b : ℕ) → too_large (g a) ≡ too_large (g b) → too_large (f a) ≡ too_large (f b)
-through f g same a b held = ap (λ (h : ℕ → List Cut). too_large (h a)) same ∙ held ∙ sym (ap (λ (h : ℕ → List Cut). too_large (h b)) same)
-
-abbrev of_members : List Effect → ℕ → List Cut
-of_members members around = flat_map (λ (cuts : ℕ → List Cut). cuts around) (map effect_cuts members)
-
-members_capped : (members : List Effect) → Each IsCapped members → (around : ℕ) → too_large (of_members members around) ≡ too_large (of_members members (min around cap))
-members_capped [] each around = refl
-members_capped (member ∷ members) each around =
-    too_large_append (effect_cuts member around) (of_members members around)
-    ∙ ap (λ lines. lines ++ too_large (of_members members around)) (each.0 around)
-    ∙ ap (λ lines. too_large (effect_cuts member (min around cap)) ++ lines) (members_capped members each.1 around)
-    ∙ sym (too_large_append (effect_cuts member (min around cap)) (of_members members (min around cap)))
-
-same_small : (around parts : ℕ) → nat_le (around * parts) most_parts ≡ nat_le (min around cap * parts) most_parts
-same_small around parts =
-    sym (le_cap most_parts (around * parts))
-    ∙ ap (λ n. nat_le n most_parts) (cap_left cap around parts)
-    ∙ le_cap most_parts (min around cap * parts)
-
-beside_capped : (condition : Condition) (around : ℕ) → too_large (cuts_beside around condition) ≡ too_large (cuts_beside (min around cap) condition)
-beside_capped condition around =
-    let size = size_of condition true in
-    large_cut (around * size.parts) (line_of condition) size.replaced
-    ∙ ap (λ small. if small then too_large size.replaced else line_of condition ∷ too_large size.replaced) (same_small around size.parts)
-    ∙ sym (large_cut (min around cap * size.parts) (line_of condition) size.replaced)
-
-when_capped : (condition : Condition) (inside : Effect) → IsCapped inside → (around : ℕ) →
-    too_large (cuts_beside around condition ++ effect_cuts inside (around * (size_of condition true).parts))
-    ≡ too_large (cuts_beside (min around cap) condition ++ effect_cuts inside (min around cap * (size_of condition true).parts))
-when_capped condition inside held around =
-    let parts = (size_of condition true).parts in
-    too_large_append (cuts_beside around condition) (effect_cuts inside (around * parts))
-    ∙ ap (λ lines. lines ++ too_large (effect_cuts inside (around * parts))) (beside_capped condition around)
-    ∙ ap (λ lines. too_large (cuts_beside (min around cap) condition) ++ lines)
-    (held (around * parts) ∙ ap (λ n. too_large (effect_cuts inside n)) (cap_left cap around parts) ∙ sym (held (min around cap * parts)))
-    ∙ sym (too_large_append (cuts_beside (min around cap) condition) (effect_cuts inside (min around cap * parts)))
-
-effect_capped : (e : Effect) → IsCapped e
-effect_capped = effect_by_cases IsCapped (record {
-  at_nothing = λ line around. through _ _ (fold-Nothing (ℕ → List Cut) effect_step line) around (min around cap) refl;
-  at_add = λ atom around. through _ _ (fold-Add (ℕ → List Cut) effect_step atom) around (min around cap) refl;
-  at_delete = λ atom around. through _ _ (fold-Delete (ℕ → List Cut) effect_step atom) around (min around cap) refl;
-  at_and = λ members line each around. through _ _ (fold-Joined (ℕ → List Cut) effect_step members line) around (min around cap) (members_capped members each around);
-  at_when = λ condition inside line held around. through _ _ (fold-When (ℕ → List Cut) effect_step condition inside line) around (min around cap) (when_capped condition inside held around);
-  at_forall = λ variables inside line held around. through _ _ (fold-Quantified (ℕ → List Cut) effect_step variables inside line) around (min around cap) (held around);
-  at_increase = λ term cost line around. through _ _ (fold-Increase (ℕ → List Cut) effect_step term cost line) around (min around cap) refl;
-})
+-- ---- effects
 
 -- a `when`
 when_cuts : (condition : Condition) (inside : Effect) (line around : ℕ) →

@@ -1,4 +1,3 @@
-pub mod NamesLemmas
 pub mod Repeats
 pub mod PlainAtoms
 pub mod Parts

@@ -6,9 +6,10 @@ ghost use Rattle.propositional_form.specs.Form.{is_plain, is_plain_atom, is_conj
 ghost use Rattle.propositional_form.specs.Numbers.{own_atom, conjuncts as atoms_of, number_of, numbers_of};
 ghost use Rattle.propositional_form.specs.Outcome.{GivesWhere, HoldsWhere};
 
+use crate::declared::number;
 use crate::end::FormEnd;
-use crate::names::Names;
 use lists::List;
+use names::Names;
 use pddl_parser::{Atom, Condition};
 use std::alloc::Global;
 
@@ -32,7 +33,7 @@ fn only(alloc: Global, declared: &Names<'_>, atom: &Atom) -> Result<List<u64>, F
     ensures { GivesWhere result (is_plain declared.now atom.now) (number_of declared.now atom.now ∷ []) }
 {
     let mut numbers = Vec::new(alloc);
-    numbers.push(declared.number(atom)?)?;
+    numbers.push(number(declared, atom)?)?;
     Ok(List::from_vec(numbers))
 }
 
@@ -56,7 +57,7 @@ fn push_member(
 {
     match member {
         Condition::Atom(atom) => {
-            numbers.push(declared.number(atom)?)?;
+            numbers.push(number(declared, atom)?)?;
             Ok(())
         }
         _ => Err(FormEnd::NotBuilt),

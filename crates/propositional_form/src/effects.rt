@@ -6,8 +6,9 @@ ghost use Rattle.propositional_form.specs.Form.{is_change, are_changes};
 ghost use Rattle.propositional_form.specs.Numbers.{own_addition, own_deletion, additions, deletions, numbers_of};
 ghost use Rattle.propositional_form.specs.Outcome.{HoldsWhere};
 
+use crate::declared::number;
 use crate::end::FormEnd;
-use crate::names::Names;
+use names::Names;
 use pddl_parser::Effect;
 
 /// Adds the numbers of the atoms that an effect adds to one list, and of those that it deletes to
@@ -26,11 +27,11 @@ pub(crate) fn push_changes(
         Effect::Nothing(_) => Ok(()),
         Effect::And(members, _) => push_members(added, deleted, declared, members.as_slice()),
         Effect::Add(atom) => {
-            added.push(declared.number(atom)?)?;
+            added.push(number(declared, atom)?)?;
             Ok(())
         }
         Effect::Delete(atom) => {
-            deleted.push(declared.number(atom)?)?;
+            deleted.push(number(declared, atom)?)?;
             Ok(())
         }
         _ => Err(FormEnd::NotBuilt),
@@ -65,11 +66,11 @@ fn push_member(
 {
     match member {
         Effect::Add(atom) => {
-            added.push(declared.number(atom)?)?;
+            added.push(number(declared, atom)?)?;
             Ok(())
         }
         Effect::Delete(atom) => {
-            deleted.push(declared.number(atom)?)?;
+            deleted.push(number(declared, atom)?)?;
             Ok(())
         }
         _ => Err(FormEnd::NotBuilt),

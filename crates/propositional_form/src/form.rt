@@ -10,10 +10,11 @@ ghost use Rattle.propositional_form.specs.declared.end.FormEnd.TheVariants as Fo
 ghost use Rattle.propositional.specs.Lawful.{IsLawful};
 
 use crate::conditions::conjuncts;
+use crate::declared::{add_new, number};
 use crate::effects::push_changes;
 use crate::end::FormEnd;
-use crate::names::Names;
 use lists::{List, Text};
+use names::Names;
 use pddl_parser::{Domain, Head, Init, Problem};
 use propositional::{Action, Propositional};
 use std::alloc::{AllocError, Global};
@@ -91,7 +92,7 @@ fn declared_names(alloc: Global, heads: &[Head]) -> Result<Names<'_>, FormEnd>
 {
     let mut names = Names::new(alloc);
     for head in heads {
-        names.add(head.name.name.as_slice())?;
+        add_new(&mut names, head.name.name.as_slice())?;
     }
     Ok(names)
 }
@@ -102,7 +103,7 @@ fn check_action_names(alloc: Global, actions: &[pddl_parser::Action]) -> Result<
 {
     let mut names = Names::new(alloc);
     for action in actions {
-        names.add(action.name.name.as_slice())?;
+        add_new(&mut names, action.name.name.as_slice())?;
     }
     Ok(())
 }
@@ -139,7 +140,7 @@ fn push_entry(numbers: &mut Vec<u64>, declared: &Names<'_>, entry: &Init) -> Res
 {
     match entry {
         Init::Holds(atom) => {
-            numbers.push(declared.number(atom)?)?;
+            numbers.push(number(declared, atom)?)?;
             Ok(())
         }
         _ => Err(FormEnd::NotBuilt),

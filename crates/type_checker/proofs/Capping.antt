@@ -37,7 +37,7 @@ cap_sum n a b = omega arith
 pub le_cap : (n a : ℕ) → nat_le (min a (n + 1)) n ≡ nat_le a n
 le_cap n a = grind arith
 
-product_append : (xs ys : List ℕ) → product (xs ++ ys) ≡ product xs * product ys
+pub product_append : (xs ys : List ℕ) → product (xs ++ ys) ≡ product xs * product ys
 product_append [] ys = grind arith
 product_append (x ∷ xs) ys = grind (arith, product_append xs ys)
 

@@ -18,7 +18,7 @@ use Rattle.type_checker.proofs.Capping.{cap_left, cap_right, le_cap, large_cut, 
 
 -- ---- only so many of the parts around count
 
-abbrev IsCapped : Effect → Type 0
+abbrev pub IsCapped : Effect → Type 0
 IsCapped e = (around : ℕ) → too_large (effect_cuts e around) ≡ too_large (effect_cuts e (min around cap))
 
 through : (f g : ℕ → List Cut) → f ≡ g → (a b : ℕ) → too_large (g a) ≡ too_large (g b) → too_large (f a) ≡ too_large (f b)

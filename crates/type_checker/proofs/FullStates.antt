@@ -9,12 +9,13 @@ use Rattle.pddl_parser.specs.Words.{Name, is_same}
 use Rattle.pddl_parser.specs.Objects.{bound}
 use Rattle.pddl_parser.specs.Holds.{GroundAtom, State, is_derived, derives, IsFull}
 use Rattle.pddl_parser.proofs.SameAtoms.{same_name}
-use Rattle.type_checker.specs.Links.{Link, link, dependence_links, axiom_links}
+use Rattle.names.specs.Links.{Link, link}
+use Rattle.type_checker.specs.Links.{dependence_links, axiom_links}
 use Rattle.type_checker.specs.Mentions.{in_condition, asked_predicates}
 use Rattle.type_checker.specs.Faults.{check_faults}
 use Rattle.type_checker.specs.FullStates.{HasOneFullState}
-use Rattle.type_checker.proofs.Among.{Among, among_map, among_flat_map, same_any}
-use Rattle.type_checker.proofs.Chains.{Ends, NoCycles, chains_end}
+use Rattle.names.proofs.Items.{Among, among_map, among_flat_map, same_any}
+use Rattle.names.proofs.Chains.{Ends, NoCycles, chains_end}
 use Rattle.type_checker.proofs.SameTruth.{Agree, same_truth}
 use Rattle.type_checker.proofs.NoFaults.{no_cycles}
 

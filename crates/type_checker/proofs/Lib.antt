@@ -1,8 +1,5 @@
 pub mod Earliest
-pub mod NameSets
 pub mod RowHeads
-pub mod Among
-pub mod Chains
 pub mod SameTruth
 pub mod NoFaults
 pub mod FullStates
@@ -24,7 +21,4 @@ pub mod EffectCuts
 pub mod BoundNames
 pub mod ScopeTable
 pub mod Unbound
-pub mod LinkChains
 pub mod TestedLines
-pub mod Evidence
-pub mod NameTables

@@ -9,11 +9,12 @@ use Rattle.pddl_parser.specs.declared.types.Problem.{Problem}
 use Rattle.type_checker.specs.declared.end.Side.TheVariants as sides
 use Rattle.pddl_parser.specs.Words.{Name}
 use Rattle.type_checker.specs.Lines.{placed, in_file_order}
-use Rattle.type_checker.specs.Links.{Link, link, dependence_links, axiom_links, is_on_cycle}
+use Rattle.names.specs.Links.{Link, link, is_on_cycle}
+use Rattle.type_checker.specs.Links.{dependence_links, axiom_links}
 use Rattle.type_checker.specs.Mentions.{in_condition, asked_predicates}
 use Rattle.type_checker.specs.Faults.{Row, row, rows, row_faults, faults_at, SidedFault, first_of, recursive_axioms, check_faults}
-use Rattle.type_checker.proofs.Among.{Among, among_map, map_source, flat_map_piece}
-use Rattle.type_checker.proofs.Chains.{NoCycles}
+use Rattle.names.proofs.Items.{Among, among_map, map_source, flat_map_piece}
+use Rattle.names.proofs.Chains.{NoCycles}
 
 -- ---- empty lists
 

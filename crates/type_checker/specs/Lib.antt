@@ -18,5 +18,3 @@ pub mod Arguments
 pub mod FirstIncreases
 pub mod CappedSizes
 pub mod Binding
-pub mod Components
-pub mod Cycles

@@ -3,8 +3,8 @@ ghost use Rattle.std.specs.Prelude.{◌≡◌, IfOk};
 ghost use Rattle.type_checker.specs.Heads.{takes};
 ghost use Rattle.type_checker.specs.Names.{is_declared};
 
-use crate::names::Names;
 use indexmap::IndexSet;
+use names::Names;
 use pddl_parser::{Domain, Head};
 use std::alloc::{AllocError, Global};
 use std::marker::Model;

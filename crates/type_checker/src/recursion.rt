@@ -1,15 +1,15 @@
 // Derived predicates that depend on themselves.
 ghost use Rattle.std.specs.Prelude.{◌≡◌, ◌++◌, map, IfOk, OnOk};
 ghost use Rattle.std.specs.List.{filter, flat_map};
+ghost use Rattle.names.specs.Links.{link, is_on_cycle};
 ghost use Rattle.type_checker.specs.Lines.{earliest};
 ghost use Rattle.type_checker.specs.Links as spec;
-ghost use Rattle.type_checker.specs.Links.{link, is_on_cycle};
 ghost use Rattle.type_checker.specs.Mentions.{asked_predicates};
 ghost use Rattle.type_checker.specs.Seen.{seen, all_seen};
 
-use crate::cycles::Links;
 use crate::lines::earlier;
 use crate::mentions::{Mention, mentions_in_condition};
+use names::Links;
 use pddl_parser::Derived;
 use std::alloc::{AllocError, Global};
 

@@ -9,7 +9,7 @@ ghost use Rattle.type_checker.specs.Seen.{all_seen};
 
 use crate::lines::earlier;
 use crate::mentions::Mention;
-use crate::names::Names;
+use names::Names;
 use pddl_parser::{Action, Domain, Head, Named, Problem, Typed};
 use std::alloc::{AllocError, Global};
 

@@ -6,10 +6,10 @@ use Rattle.propositional_form.specs.Outcome.{FailsWhere}
 use Rattle.propositional_form.proofs.Repeats.{names_more, has_no_repeats-more, fails_at}
 use Rattle.propositional_form.proofs.form.declared_names.Goals as goal
 
-pub returns-in_err-add : goal.returns-in_err-add
-returns-in_err-add c =
-    let end = c.in_err-add.field-0.0 in
-    let is_known = subst (λ (name : Name). FailsWhere end (not (list_any (is_same name) c.loop-head.names))) c.as_slice.ensures c.in_err-add.ensures.new in
+pub returns-in_err-add_new : goal.returns-in_err-add_new
+returns-in_err-add_new c =
+    let end = c.in_err-add_new.field-0.0 in
+    let is_known = subst (λ (name : Name). FailsWhere end (not (list_any (is_same name) c.loop-head.names))) c.as_slice.ensures c.in_err-add_new.ensures.new in
     let fails = fails_at (λ (head : Head). head.name.name) c.args.heads.now c.loop-head.head-index c.head-item.result c.loop-head-test.true c.loop-head.names c.head-item.is c.loop-head.invariant.1 end is_known in
     search (rules, fails)
 

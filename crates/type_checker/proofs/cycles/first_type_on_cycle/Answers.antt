@@ -2,7 +2,8 @@ use Rattle.std.proofs.Common.{◌≡◌, ℕ, Bool, sym, ap, ◌∙◌}
 use Rattle.std.specs.List.{list_any}
 use Rattle.pddl_parser.specs.declared.types.Typed.{Typed}
 use Rattle.pddl_parser.specs.Words.{is_same}
-use Rattle.type_checker.specs.Links.{is_on_cycle, type_links}
+use Rattle.names.specs.Links.{is_on_cycle}
+use Rattle.type_checker.specs.Links.{type_links}
 use Rattle.type_checker.proofs.TestedLines.{first_with, first_without}
 use Rattle.type_checker.proofs.cycles.first_type_on_cycle.Goals as goal
 use Rattle.type_checker.proofs.cycles.first_type_on_cycle.Goals.{then-has, else-has}

@@ -2,7 +2,8 @@ use Rattle.std.proofs.Common.{◌≡◌, ℕ, Bool, sym, ap, ◌∙◌}
 use Rattle.std.specs.List.{list_any}
 use Rattle.pddl_parser.specs.declared.types.Derived.{Derived}
 use Rattle.pddl_parser.specs.Words.{is_same}
-use Rattle.type_checker.specs.Links.{is_on_cycle, axiom_links}
+use Rattle.names.specs.Links.{is_on_cycle}
+use Rattle.type_checker.specs.Links.{axiom_links}
 use Rattle.type_checker.proofs.TestedLines.{first_with, first_without}
 use Rattle.type_checker.proofs.recursion.first_recursive_axiom.Goals as goal
 use Rattle.type_checker.proofs.recursion.first_recursive_axiom.Goals.{then-has, else-has}

@@ -1,7 +1,8 @@
 use Rattle.std.proofs.Common.{◌≡◌, map, take}
 use Rattle.std.specs.List.{filter}
 use Rattle.type_checker.specs.Lines.{earliest}
-use Rattle.type_checker.specs.Links.{is_on_cycle, axiom_links}
+use Rattle.names.specs.Links.{is_on_cycle}
+use Rattle.type_checker.specs.Links.{axiom_links}
 use Rattle.type_checker.proofs.recursion.first_recursive_axiom.Given as goal
 
 abbrev pub invariant-loop-rule : goal.invariant-loop-rule

@@ -1,4 +1,4 @@
-use Rattle.std.proofs.Common.{length, take_all, ap, subst, arith}
+use Rattle.std.proofs.Common.{length, take_all, ap, subst}
 use Rattle.type_checker.specs.Heads.{Know}
 use Rattle.type_checker.proofs.HeadTables.{know_none, know_more}
 use Rattle.type_checker.proofs.heads.Heads.of.Goals as goal
@@ -8,7 +8,7 @@ loop-head-init c = know_none c.new-names.result c.new-keys.result.keys c.new-nam
 
 pub loop-head-preserved : goal.loop-head-preserved
 loop-head-preserved c =
-    know_more c.args.heads.now c.loop-head.head-index c.head-item.result (omega arith) c.head-item.is
+    know_more c.args.heads.now c.loop-head.head-index c.head-item.result c.loop-head-test.true c.head-item.is
     c.loop-head.names c.add.new.self c.loop-head.keys.keys c.insert.new.self.keys
     (c.as_slice-name.result, length c.as_slice.result.now) c.as_slice-name.ensures (ap length c.as_slice.ensures)
     c.in_ok-add.ensures.added c.in_ok-insert.ensures.updates.0

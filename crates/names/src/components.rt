@@ -1,0 +1,292 @@
+// Numbers that lead to each other by arcs. Two searches in depth find them, by Kosaraju's way: along the arcs, and then
+// against them, from the number that the first search left last. What they found is checked, so that nothing rests on
+// the searches.
+ghost use Rattle.std.specs.Prelude.{◌≡◌, ℕ, ◌<◌, true, map, IfOk};
+ghost use Rattle.std.specs.List.{list_all};
+ghost use Rattle.names.specs.Components as spec;
+
+use std::alloc::{AllocError, Global};
+
+/// A link between two numbers.
+#[derive(Clone, Copy, Debug)]
+pub(crate) struct Arc {
+    pub(crate) from: usize,
+    pub(crate) to: usize,
+}
+
+/// How a search came to a number.
+#[derive(Clone, Copy, Debug)]
+pub(crate) struct Place {
+    /// Where it had begun.
+    pub(crate) root: usize,
+    /// How many numbers it had found before.
+    pub(crate) order: usize,
+    /// The position of the arc that it took.
+    pub(crate) arc: usize,
+}
+
+// ---- the searches
+
+/// The places of the numbers in the two searches.
+#[derive(Drop)]
+pub(crate) struct Searches {
+    pub(crate) along: Vec<Option<Place>>,
+    pub(crate) against: Vec<Option<Place>>,
+}
+
+impl Searches {
+    /// Searches all numbers below `count`.
+    pub(crate) fn new(alloc: Global, count: usize, arcs: &[Arc]) -> Result<Searches, AllocError> {
+        let mut along = Search::new(alloc, count, arcs)?;
+        for start in 0..count {
+            along.search_from(start)?;
+        }
+        let turned = turned(alloc, arcs)?;
+        let mut against = Search::new(alloc, count, turned.as_slice())?;
+        for start in along.left.iter().rev() {
+            against.search_from(*start)?;
+        }
+        Ok(Searches {
+            along: along.places,
+            against: against.places,
+        })
+    }
+}
+
+fn turned(alloc: Global, arcs: &[Arc]) -> Result<Vec<Arc>, AllocError> {
+    let mut turned = Vec::new(alloc);
+    for arc in arcs {
+        turned.push(Arc {
+            from: arc.to,
+            to: arc.from,
+        })?;
+    }
+    Ok(turned)
+}
+
+/// A search in depth.
+#[derive(Drop)]
+struct Search<'a> {
+    arcs: &'a [Arc],
+    /// For each number the first of its arcs that wasn't taken.
+    first: Vec<Option<usize>>,
+    /// For each arc the next one from the same number.
+    next: Vec<Option<usize>>,
+    places: Vec<Option<Place>>,
+    found: usize,
+    /// The numbers that were found and not left, the last one on top.
+    open: Vec<usize>,
+    /// The numbers that were left, in order.
+    left: Vec<usize>,
+}
+
+impl<'a> Search<'a> {
+    fn new(alloc: Global, count: usize, arcs: &'a [Arc]) -> Result<Search<'a>, AllocError> {
+        let mut first = vec![in alloc; None; count]?;
+        let mut next = Vec::new(alloc);
+        for (position, arc) in arcs.iter().enumerate() {
+            let rest = match first.as_mut_slice().get_mut(arc.from) {
+                Some(slot) => slot.replace(position),
+                None => None,
+            };
+            next.push(rest)?;
+        }
+        Ok(Search {
+            arcs,
+            first,
+            next,
+            places: vec![in alloc; None; count]?,
+            found: 0,
+            open: Vec::new(alloc),
+            left: Vec::new(alloc),
+        })
+    }
+
+    /// Finds all that the number leads to and that wasn't found before. Each turn takes an arc or leaves a number.
+    fn search_from(&mut self, start: usize) -> Result<(), AllocError> {
+        self.find(start, start, 0)?;
+        let turns = self.arcs.len().saturating_add(self.places.len());
+        for _ in 0..turns {
+            let Some(number) = self.open.pop() else {
+                break;
+            };
+            match self.take_arc(number) {
+                Some(position) => {
+                    self.open.push(number)?;
+                    self.follow(position, start)?;
+                }
+                None => self.left.push(number)?,
+            }
+        }
+        Ok(())
+    }
+
+    /// The next arc from the number.
+    fn take_arc(&mut self, number: usize) -> Option<usize> {
+        let slot = self.first.as_mut_slice().get_mut(number)?;
+        let position = (*slot)?;
+        *slot = *self.next.get(position)?;
+        Some(position)
+    }
+
+    fn follow(&mut self, position: usize, root: usize) -> Result<(), AllocError> {
+        match self.arcs.get(position) {
+            Some(arc) => self.find(arc.to, root, position),
+            None => Ok(()),
+        }
+    }
+
+    fn find(&mut self, number: usize, root: usize, arc: usize) -> Result<(), AllocError> {
+        if let Some(slot) = self.places.as_mut_slice().get_mut(number) {
+            if slot.is_none() {
+                *slot = Some(Place {
+                    root,
+                    order: self.found,
+                    arc,
+                });
+                self.found = self.found.wrapping_add(1);
+                self.open.push(number)?;
+            }
+        }
+        Ok(())
+    }
+}
+
+// ---- the check
+
+fn place_at(places: &[Option<Place>], number: usize) -> Place
+    ensures { result ≡ spec.place_at places.now number }
+{
+    if number < places.len() {
+        if let Some(place) = places[number] {
+            return place;
+        }
+    }
+    Place {
+        root: 0,
+        order: 0,
+        arc: 0,
+    }
+}
+
+fn arc_at(arcs: &[Arc], number: usize) -> Arc
+    ensures { result ≡ spec.arc_at arcs.now number }
+{
+    if number < arcs.len() {
+        arcs[number]
+    } else {
+        Arc { from: 0, to: 0 }
+    }
+}
+
+fn has_one_root(places: &[Option<Place>], number: usize, other: usize) -> bool
+    ensures { result ≡ spec.has_one_root places.now number other }
+{
+    place_at(places, number).root == place_at(places, other).root
+}
+
+fn rank(places: &[Option<Place>], number: usize) -> usize
+    ensures { result ≡ spec.rank places.now number }
+{
+    place_at(places, place_at(places, number).root).order
+}
+
+fn leads_on(count: usize, against: &[Option<Place>], arc: Arc) -> bool
+    ensures { result ≡ spec.leads_on count against.now arc }
+{
+    arc.from < count
+        && arc.to < count
+        && (has_one_root(against, arc.from, arc.to)
+            || rank(against, arc.from) < rank(against, arc.to))
+}
+
+fn all_lead_on(count: usize, against: &[Option<Place>], arcs: &[Arc]) -> bool
+    ensures { result ≡ list_all (spec.leads_on count against.now) arcs.now }
+{
+    for arc in arcs {
+        if !leads_on(count, against, *arc) {
+            return false;
+        }
+    }
+    true
+}
+
+fn leads_to_root(arcs: &[Arc], against: &[Option<Place>], number: usize) -> bool
+    ensures { result ≡ spec.leads_to_root arcs.now against.now number }
+{
+    let place = place_at(against, number);
+    let arc = arc_at(arcs, place.arc);
+    place.arc < arcs.len()
+        && arc.from == number
+        && has_one_root(against, arc.to, number)
+        && place_at(against, arc.to).order < place.order
+}
+
+fn is_led_to(
+    arcs: &[Arc],
+    against: &[Option<Place>],
+    along: &[Option<Place>],
+    number: usize,
+) -> bool
+    ensures { result ≡ spec.is_led_to arcs.now against.now along.now number }
+{
+    let place = place_at(along, number);
+    let arc = arc_at(arcs, place.arc);
+    place.arc < arcs.len()
+        && arc.to == number
+        && has_one_root(against, arc.from, number)
+        && place_at(along, arc.from).order < place.order
+}
+
+fn is_joined(
+    arcs: &[Arc],
+    against: &[Option<Place>],
+    along: &[Option<Place>],
+    number: usize,
+) -> bool
+    ensures { result ≡ spec.is_joined arcs.now against.now along.now number }
+{
+    place_at(against, number).root == number
+        || leads_to_root(arcs, against, number) && is_led_to(arcs, against, along, number)
+}
+
+fn are_joined(
+    count: usize,
+    arcs: &[Arc],
+    against: &[Option<Place>],
+    along: &[Option<Place>],
+) -> bool
+    ensures { result ≡ true → (number : ℕ) → number < count → spec.is_joined arcs.now against.now along.now number ≡ true }
+{
+    for number in 0..count {
+        if !is_joined(arcs, against, along, number) {
+            return false;
+        }
+    }
+    true
+}
+
+impl Searches {
+    /// Whether they show which numbers lead to each other, as searches of these arcs do.
+    pub(crate) fn are_right(&self, count: usize, arcs: &[Arc]) -> bool
+        ensures { result ≡ true → spec.IsShown count arcs.now self.now.against.items self.now.along.items }
+    {
+        let against = self.against.as_slice();
+        all_lead_on(count, against, arcs) && are_joined(count, arcs, against, self.along.as_slice())
+    }
+
+    /// Of each arc, whether it stays at one root.
+    pub(crate) fn stay(&self, alloc: Global, arcs: &[Arc]) -> Result<Vec<bool>, AllocError>
+        ensures { IfOk result (λ answers. answers.items ≡ map (λ arc. spec.has_one_root self.now.against.items arc.from arc.to) arcs.now) }
+    {
+        let against = self.against.as_slice();
+        let mut answers = Vec::new(alloc);
+        for arc in arcs {
+            answers.push(has_one_root(against, arc.from, arc.to))?;
+        }
+        Ok(answers)
+    }
+}
+
+#[cfg(test)]
+mod tests;

@@ -1,0 +1,97 @@
+// Which names are on a cycle of links.
+ghost use Rattle.std.specs.Prelude.{◌≡◌, map, IfOk};
+ghost use Rattle.std.specs.List.{list_any};
+ghost use Rattle.pddl_parser.specs.Words.{Name, is_same};
+ghost use Rattle.names.specs.Cycles.{closes, arc_of, pair_links};
+ghost use Rattle.names.specs.Links as spec;
+ghost use Rattle.names.specs.Links.{link};
+
+use crate::components::{Arc, Searches};
+use crate::links::Pair;
+use crate::table::Names;
+use std::alloc::{AllocError, Global};
+
+pub(crate) fn on_cycles<'a>(alloc: Global, pairs: &[Pair<'a>]) -> Result<Names<'a>, AllocError>
+    ensures { IfOk result (λ names. (name : Name) → list_any (is_same name) names ≡ spec.is_on_cycle (pair_links pairs.now) name) }
+{
+    let answers = closing(alloc, pairs)?;
+    let mut names = Names::new(alloc);
+    for (position, pair) in pairs.iter().enumerate() {
+        if answers[position] {
+            names.add(pair.from)?;
+        }
+    }
+    Ok(names)
+}
+
+/// Of each link, whether a chain leads from its end back to its beginning.
+fn closing(alloc: Global, pairs: &[Pair]) -> Result<Vec<bool>, AllocError>
+    ensures { IfOk result (λ answers. answers.items ≡ map (closes (pair_links pairs.now)) (pair_links pairs.now)) }
+{
+    let names = names_of(alloc, pairs)?;
+    let arcs = arcs_of(alloc, &names, pairs)?;
+    let searches = Searches::new(alloc, names.len(), &arcs)?;
+    if searches.are_right(names.len(), &arcs) {
+        searches.stay(alloc, &arcs)
+    } else {
+        closing_by_definition(alloc, pairs)
+    }
+}
+
+/// The same by the definition. It is slow, and is there for searches that aren't right, which there should be none of.
+fn closing_by_definition(alloc: Global, pairs: &[Pair]) -> Result<Vec<bool>, AllocError>
+    ensures { IfOk result (λ answers. answers.items ≡ map (closes (pair_links pairs.now)) (pair_links pairs.now)) }
+{
+    let mut answers = Vec::new(alloc);
+    for pair in pairs {
+        answers.push(leads(pairs, pairs.len(), pair.to, pair.from))?;
+    }
+    Ok(answers)
+}
+
+/// Whether a chain of at most so many links leads from one name to another.
+fn leads(pairs: &[Pair], steps: usize, from: &[u8], to: &[u8]) -> bool
+    ensures { result ≡ spec.leads (pair_links pairs.now) steps from.now to.now }
+{
+    if from == to {
+        return true;
+    }
+    if steps == 0 {
+        return false;
+    }
+    for pair in pairs {
+        if pair.from == from && leads(pairs, steps - 1, pair.to, to) {
+            return true;
+        }
+    }
+    false
+}
+
+fn names_of<'a>(alloc: Global, pairs: &[Pair<'a>]) -> Result<Names<'a>, AllocError> {
+    let mut names = Names::new(alloc);
+    for pair in pairs {
+        names.add(pair.from)?;
+        names.add(pair.to)?;
+    }
+    Ok(names)
+}
+
+/// The links as arcs between the positions of the names.
+fn arcs_of(alloc: Global, names: &Names, pairs: &[Pair]) -> Result<Vec<Arc>, AllocError>
+    ensures { IfOk result (λ arcs. arcs.items ≡ map (arc_of names.now) (pair_links pairs.now)) }
+{
+    let mut arcs = Vec::new(alloc);
+    for pair in pairs {
+        arcs.push(arc_between(names, pair))?;
+    }
+    Ok(arcs)
+}
+
+fn arc_between(names: &Names, pair: &Pair) -> Arc
+    ensures { result ≡ arc_of names.now (link pair.now.from.now pair.now.to.now) }
+{
+    Arc {
+        from: names.position(pair.from),
+        to: names.position(pair.to),
+    }
+}

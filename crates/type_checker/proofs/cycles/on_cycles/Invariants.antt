@@ -1,9 +1,0 @@
-use Rattle.std.proofs.Common.{◌≡◌, take}
-use Rattle.std.specs.List.{list_any}
-use Rattle.pddl_parser.specs.Words.{Name, is_same}
-use Rattle.type_checker.specs.Cycles.{pair_links}
-use Rattle.type_checker.proofs.NameTables.{turns}
-use Rattle.type_checker.proofs.cycles.on_cycles.Given as goal
-
-abbrev pub invariant-loop-position : goal.invariant-loop-position
-invariant-loop-position l = (name : Name) → list_any (is_same name) l.names ≡ list_any (turns (pair_links l.pairs) name) (pair_links (take l.position l.pairs))
