@@ -18,11 +18,11 @@ use Rattle.names.proofs.Chains.{NoCycles}
 
 -- ---- empty lists
 
-map_empty : {X Y : Type 0} (f : X → Y) (xs : List X) → map f xs ≡ [] → xs ≡ []
+pub map_empty : {X Y : Type 0} (f : X → Y) (xs : List X) → map f xs ≡ [] → xs ≡ []
 map_empty f [] none = refl
 map_empty f (x ∷ xs) none = absurd cc
 
-left_empty : {X : Type 0} (xs ys : List X) → xs ++ ys ≡ [] → xs ≡ []
+pub left_empty : {X : Type 0} (xs ys : List X) → xs ++ ys ≡ [] → xs ≡ []
 left_empty [] ys none = refl
 left_empty (x ∷ xs) ys none = absurd cc
 
@@ -43,13 +43,13 @@ placed_some line (other ∷ more) none = by_order (nat_le line other) refl
     by_order true first = cc (none, first)
     by_order false later = cc (none, later)
 
-order_empty : (lines : List ℕ) → in_file_order lines ≡ [] → lines ≡ []
+pub order_empty : (lines : List ℕ) → in_file_order lines ≡ [] → lines ≡ []
 order_empty [] none = refl
 order_empty (line ∷ more) none = absurd (placed_some line (in_file_order more) none)
 
 -- ---- rows
 
-firsts_empty : (lists : List (List SidedFault)) → first_of lists ≡ [] → (faults : List SidedFault) → Among faults lists → faults ≡ []
+pub firsts_empty : (lists : List (List SidedFault)) → first_of lists ≡ [] → (faults : List SidedFault) → Among faults lists → faults ≡ []
 firsts_empty [] none faults there = absurd there
 firsts_empty ([] ∷ more) none faults (inl here) = sym here
 firsts_empty ([] ∷ more) none faults (inr there) = firsts_empty more none faults there
