@@ -1,4 +1,4 @@
--- In the form, a domain and a problem have the plans of their task.
+-- A checked domain and problem in the form have the plans of their task.
 use Rattle.std.proofs.Common.{◌≡◌, ℕ, zero, suc, ◌<◌, Bool, true, false, not, ◌&&◌, ◌||◌, List, [], ◌∷◌, map, length, Option, Some, None, refl, sym, ap, ◌∙◌, subst, append-nil, arith, Contains}
 use Rattle.std.specs.Prelude.{IsSome, slice_get, unwrap_or}
 use Rattle.std.specs.List.{list_all, list_any, flat_map}
@@ -16,6 +16,8 @@ use Rattle.pddl_parser.specs.Objects.{Binding, is_choice}
 use Rattle.pddl_parser.specs.Holds.{GroundAtom, State, is_derived, holds, IsFull}
 use Rattle.pddl_parser.specs.Step.{Step, writes, shown, name_of, binding_of, action_cost, cost_of, changed, Takes, IsIdle, TakesBusy}
 use Rattle.pddl_parser.specs.Plan.{initial, MeetsGoal, HasPlan, HasBusyPlan}
+use Rattle.type_checker.specs.Faults.{check_faults}
+use Rattle.type_checker.specs.Mentions.{in_action}
 use Rattle.propositional.specs.declared.task.Action as numbers
 use Rattle.propositional.specs.declared.task.Propositional.{Propositional}
 use Rattle.propositional.specs.Plan as task
@@ -23,9 +25,9 @@ use Rattle.propositional_form.specs.Form.{is_conjunction, is_plain_action, predi
 use Rattle.propositional_form.specs.Numbers.{conjuncts, additions, deletions, stated, numbers_of, numbered_action, numbered}
 use Rattle.propositional_form.specs.Plans.{SamePlans}
 use Rattle.propositional_form.proofs.Meaning.{plain, is_one_of, holds-conjunction, writes-additions, writes-deletions}
-use Rattle.propositional_form.proofs.Numbering.{is_known, place, Shows, set_of-numbers, list_all-numbers, is_one_of-other, is_one_of-unknown, placed, initially}
+use Rattle.propositional_form.proofs.Numbering.{place, Shows, set_of-numbers, list_all-numbers, is_one_of-other, is_one_of-unknown, placed, initially}
 use Rattle.propositional_form.proofs.Parts.{IsPlainAction, plain_action, IsInForm, parts_of_form}
-use Rattle.propositional_form.proofs.PlainAtoms.{both_left, both_right, conjuncts_plain, additions_plain, deletions_plain, all_stated_plain}
+use Rattle.propositional_form.proofs.DeclaredAtoms.{both_left, both_right, is_known, is_known_mention, AreDeclared}
 
 -- ---- places of lists
 
@@ -91,14 +93,16 @@ module _ (domain : Domain) (problem : Problem) (form : IsInForm domain problem) 
   full_same state full is_full atom = is_full.basic atom (underived atom.predicate)
 
   -- a conjunction holds where its numbers are in the state
-  condition_in : (state full : State) (numbered_state : task.State) → Shows declared state numbered_state → IsFull domain problem state full → (condition : Condition) → is_conjunction declared condition ≡ true → (binding : Binding) →
+  condition_in : (state full : State) (numbered_state : task.State) → Shows declared state numbered_state → IsFull domain problem state full → (condition : Condition) → is_conjunction condition ≡ true → AreDeclared declared (conjuncts condition) → (binding : Binding) →
       holds domain problem full condition binding ≡ list_all numbered_state (numbers_of declared (conjuncts condition))
-  condition_in state full numbered_state shows is_full condition conjunction binding =
-      holds-conjunction declared domain problem full condition conjunction binding
-      ∙ sym (list_all-numbers declared full numbered_state (λ name known. shows name known ∙ sym (full_same state full is_full (plain name))) (conjuncts condition) (conjuncts_plain declared condition conjunction))
+  condition_in state full numbered_state shows is_full condition conjunction asked binding =
+      holds-conjunction domain problem full condition conjunction binding
+      ∙ sym (list_all-numbers declared full numbered_state (λ name known. shows name known ∙ sym (full_same state full is_full (plain name))) (conjuncts condition) asked)
 
   plain_at : (position : ℕ) (action : Action) → slice_get domain.actions position ≡ Some action → IsPlainAction declared action
-  plain_at position action at = plain_action declared action (all_at (is_plain_action declared) domain.actions position action form.actions at)
+  plain_at position action at =
+      plain_action declared action (all_at is_plain_action domain.actions position action form.actions at)
+      (all_at (λ (a : Action). list_all (is_known_mention declared) (in_action a)) domain.actions position action form.actions_known at)
 
   same_name : (step : Step) (action : Action) → slice_get domain.actions step.action ≡ Some action → step.objects ≡ [] → action.name.name ≡ name_of domain step
   same_name step action at none =
@@ -123,8 +127,8 @@ module _ (domain : Domain) (problem : Problem) (form : IsInForm domain problem) 
       task.after (numbered_action declared action) numbered_state (place declared name) ≡ next_of state full step action (plain name)
   next_known state full numbered_state shows step action parts name known =
       let binding = binding_of action step in
-      let a = writes-additions declared domain problem full binding (plain name) action.effect parts.changes ∙ sym (set_of-numbers declared (additions action.effect) (additions_plain declared action.effect parts.changes) name known) in
-      let d = writes-deletions declared domain problem full binding (plain name) action.effect parts.changes ∙ sym (set_of-numbers declared (deletions action.effect) (deletions_plain declared action.effect parts.changes) name known) in
+      let a = writes-additions domain problem full binding (plain name) action.effect parts.changes ∙ sym (set_of-numbers declared (additions action.effect) parts.added name known) in
+      let d = writes-deletions domain problem full binding (plain name) action.effect parts.changes ∙ sym (set_of-numbers declared (deletions action.effect) parts.deleted name known) in
       let s = shows name known in
       cc (a, d, s)
 
@@ -133,8 +137,8 @@ module _ (domain : Domain) (problem : Problem) (form : IsInForm domain problem) 
       next_of state full step action atom ≡ state atom
   next_other state full step action parts atom not_added not_deleted =
       let binding = binding_of action step in
-      let a = writes-additions declared domain problem full binding atom action.effect parts.changes ∙ not_added in
-      let d = writes-deletions declared domain problem full binding atom action.effect parts.changes ∙ not_deleted in
+      let a = writes-additions domain problem full binding atom action.effect parts.changes ∙ not_added in
+      let d = writes-deletions domain problem full binding atom action.effect parts.changes ∙ not_deleted in
       cc (a, d, keeps (state atom))
 
   -- a step of the files is one of the task
@@ -147,7 +151,7 @@ module _ (domain : Domain) (problem : Problem) (form : IsInForm domain problem) 
         next = task.after (numbered_action declared takes.action) numbered_state;
         step = record {
           of_task = contains_image (numbered_action declared) domain.actions step.action takes.action takes.declared;
-          applicable = sym (condition_in state takes.full numbered_state shows takes.is_full takes.action.precondition parts.condition (binding_of takes.action step)) ∙ takes.applicable;
+          applicable = sym (condition_in state takes.full numbered_state shows takes.is_full takes.action.precondition parts.condition parts.asked (binding_of takes.action step)) ∙ takes.applicable;
           successor = λ atom. refl;
         };
         same_name = same_name step takes.action takes.declared (no_objects domain problem takes.action.parameters step.objects parts.no_parameters takes.typed);
@@ -169,8 +173,8 @@ module _ (domain : Domain) (problem : Problem) (form : IsInForm domain problem) 
       by_known : (name : Name) (known : Bool) → is_known declared name ≡ known → next (plain name) ≡ state (plain name)
       by_known name true known = sym (shows_next name known) ∙ same (place declared name) ∙ shows name known
       by_known name false unknown =
-          other (plain name) (is_one_of-unknown declared (additions takes.action.effect) (additions_plain declared takes.action.effect parts.changes) name unknown)
-          (is_one_of-unknown declared (deletions takes.action.effect) (deletions_plain declared takes.action.effect parts.changes) name unknown)
+          other (plain name) (is_one_of-unknown declared (additions takes.action.effect) parts.added name unknown)
+          (is_one_of-unknown declared (deletions takes.action.effect) parts.deleted name unknown)
 
       by_objects : (predicate : Name) (objects : List Name) → next (record { predicate = predicate; objects = objects }) ≡ state (record { predicate = predicate; objects = objects })
       by_objects predicate [] = by_known predicate (is_known declared predicate) refl
@@ -209,7 +213,7 @@ module _ (domain : Domain) (problem : Problem) (form : IsInForm domain problem) 
           is_full = full_itself state;
           typed = subst (λ (ps : List Typed). is_choice domain problem ps [] ≡ true) (sym parts.no_parameters) refl;
           applicable =
-              condition_in state state numbered_state shows (full_itself state) origin.item.precondition parts.condition (binding_of origin.item step)
+              condition_in state state numbered_state shows (full_itself state) origin.item.precondition parts.condition parts.asked (binding_of origin.item step)
               ∙ subst (λ (a : numbers.Action). list_all numbered_state a.conditions ≡ true) (sym origin.same) takes.applicable;
           costs = subst (λ o. IsSome o) (sym (costs_one (binding_of origin.item step) origin.item)) refl;
           follows = λ atom. refl;
@@ -241,10 +245,10 @@ module _ (domain : Domain) (problem : Problem) (form : IsInForm domain problem) 
 
       by : (is_added is_deleted : Bool) → task.set_of (numbers_of declared (additions origin.item.effect)) number ≡ is_added → task.set_of (numbers_of declared (deletions origin.item.effect)) number ≡ is_deleted → numbered_next number ≡ numbered_state number
       by true is_deleted adds deletes =
-          let found = placed declared (additions origin.item.effect) (additions_plain declared origin.item.effect parts.changes) number adds in
+          let found = placed declared (additions origin.item.effect) parts.added number adds in
           subst (λ n. numbered_next n ≡ numbered_state n) found.2 (stays found.0 found.1)
       by false true adds deletes =
-          let found = placed declared (deletions origin.item.effect) (deletions_plain declared origin.item.effect parts.changes) number deletes in
+          let found = placed declared (deletions origin.item.effect) parts.deleted number deletes in
           subst (λ n. numbered_next n ≡ numbered_state n) found.2 (stays found.0 found.1)
       by false false adds deletes = changed_by ∙ cc (adds, deletes, keeps (numbered_state number))
 
@@ -263,14 +267,14 @@ module _ (domain : Domain) (problem : Problem) (form : IsInForm domain problem) 
       }
 
   start : Shows declared (initial problem) (task.set_of planning.init)
-  start name known = set_of-numbers declared (flat_map stated problem.init) (all_stated_plain declared problem.init form.init) name known ∙ initially declared problem.init form.init name
+  start name known = set_of-numbers declared (flat_map stated problem.init) form.init_declared name known ∙ initially declared problem.init form.init name
 
   goal_of_task : (state : State) (numbered_state : task.State) → Shows declared state numbered_state → MeetsGoal domain problem state → task.IsGoal planning numbered_state
-  goal_of_task state numbered_state shows goal = sym (condition_in state goal.full numbered_state shows goal.is_full problem.goal form.goal []) ∙ goal.holding
+  goal_of_task state numbered_state shows goal = sym (condition_in state goal.full numbered_state shows goal.is_full problem.goal form.goal form.goal_declared []) ∙ goal.holding
 
   goal_of_files : (numbered_state : task.State) (state : State) → Shows declared state numbered_state → task.IsGoal planning numbered_state → MeetsGoal domain problem state
   goal_of_files numbered_state state shows goal =
-      record { full = state; is_full = full_itself state; holding = condition_in state state numbered_state shows (full_itself state) problem.goal form.goal [] ∙ goal }
+      record { full = state; is_full = full_itself state; holding = condition_in state state numbered_state shows (full_itself state) problem.goal form.goal form.goal_declared [] ∙ goal }
 
   plan_of_files : (names : List Name) (cost : ℕ) → task.HasPlan planning names cost → HasPlan domain problem names cost
   plan_of_files = run_follows (task.Step planning) (λ action. action.name) (λ action. 1) (Takes domain problem) (name_of domain) (cost_of domain problem) (λ numbered_state state. Shows declared state numbered_state) given
@@ -288,10 +292,10 @@ module _ (domain : Domain) (problem : Problem) (form : IsInForm domain problem) 
   busy_plan_of_task = run_follows (TakesBusy domain problem) (name_of domain) (cost_of domain problem) (task.BusyStep planning) (λ action. action.name) (λ action. 1) (Shows declared) taken_busy
       (initial problem) (MeetsGoal domain problem) (task.set_of planning.init) (task.IsGoal planning) start goal_of_task
 
--- the task of a domain and a problem in the form has their plans
-pub same_plans : (domain : Domain) (problem : Problem) → in_form domain problem ≡ true → SamePlans domain problem (numbered domain problem)
-same_plans domain problem form =
-    let parts = parts_of_form domain problem form in
+-- the task of a domain and a problem in the form has their plans, where they have no check fault
+pub same_plans : (domain : Domain) (problem : Problem) → check_faults domain problem ≡ [] → in_form domain problem ≡ true → SamePlans domain problem (numbered domain problem)
+same_plans domain problem none form =
+    let parts = parts_of_form domain problem none form in
     record {
       plans = λ names cost. (plan_of_files domain problem parts names cost, plan_of_task domain problem parts names cost);
       busy_plans = λ names cost. (busy_plan_of_files domain problem parts names cost, busy_plan_of_task domain problem parts names cost);

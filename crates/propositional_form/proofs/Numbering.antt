@@ -12,14 +12,10 @@ use Rattle.pddl_parser.specs.Words.{Name, is_same}
 use Rattle.pddl_parser.specs.Holds as pddl
 use Rattle.pddl_parser.specs.Plan.{is_stated}
 use Rattle.propositional.specs.Plan.{State, set_of}
-use Rattle.propositional_form.specs.Form.{is_empty, is_plain, is_plain_init}
+use Rattle.propositional_form.specs.Form.{is_plain, is_plain_init}
 use Rattle.propositional_form.specs.Numbers.{number_of, numbers_of, stated}
-use Rattle.propositional_form.proofs.PlainAtoms.{both_left, both_right, ArePlain}
+use Rattle.propositional_form.proofs.DeclaredAtoms.{both_left, both_right, is_known, is_declared_atom, AreDeclared}
 use Rattle.propositional_form.proofs.Meaning.{plain, ground_plain, is_one_of}
-
--- the name is declared
-abbrev pub is_known : List Name → Name → Bool
-is_known declared name = list_any (is_same name) declared
 
 -- the position of a name
 abbrev pub place : List Name → Name → ℕ
@@ -52,32 +48,29 @@ known_too : (declared : List Name) (a b : Name) → is_same a b ≡ true → is_
 known_too [] a b same = refl
 known_too (first ∷ declared) a b same = let here = nat_list_eq_equiv.congr a b first same in let rest = known_too declared a b same in cc (here, rest)
 
-name_known : (declared : List Name) (atom : Atom) → is_plain declared atom ≡ true → is_known declared atom.predicate.name ≡ true
-name_known declared atom is = both_right (is_empty atom.terms) (is_known declared atom.predicate.name) is
-
 module _ (declared : List Name) where
   -- the same atoms are in both states, one of which knows them by their numbers
   abbrev pub Shows : pddl.State → State → Type 0
   Shows state numbered = (name : Name) → is_known declared name ≡ true → numbered (place declared name) ≡ state (plain name)
 
   -- a set of numbers has a name's place exactly where the atoms have the name
-  pub set_of-numbers : (atoms : List Atom) → ArePlain declared atoms → (name : Name) → is_known declared name ≡ true →
+  pub set_of-numbers : (atoms : List Atom) → AreDeclared declared atoms → (name : Name) → is_known declared name ≡ true →
       set_of (numbers_of declared atoms) (place declared name) ≡ is_one_of atoms (plain name)
   set_of-numbers [] are name known = refl
   set_of-numbers (atom ∷ atoms) are name known =
-      let here = both_left (is_plain declared atom) (list_all (is_plain declared) atoms) are in
-      let rest = both_right (is_plain declared atom) (list_all (is_plain declared) atoms) are in
-      ap (λ b. b || set_of (numbers_of declared atoms) (place declared name)) (same-place declared atom.predicate.name name (name_known declared atom here) known ∙ sym (and-true (is_same atom.predicate.name name)))
+      let here = both_left (is_declared_atom declared atom) (list_all (is_declared_atom declared) atoms) are in
+      let rest = both_right (is_declared_atom declared atom) (list_all (is_declared_atom declared) atoms) are in
+      ap (λ b. b || set_of (numbers_of declared atoms) (place declared name)) (same-place declared atom.predicate.name name here known ∙ sym (and-true (is_same atom.predicate.name name)))
       ∙ ap (λ b. (is_same atom.predicate.name name && true) || b) (set_of-numbers atoms rest name known)
 
   -- all atoms are in both states alike
-  pub list_all-numbers : (state : pddl.State) (numbered : State) → Shows state numbered → (atoms : List Atom) → ArePlain declared atoms →
+  pub list_all-numbers : (state : pddl.State) (numbered : State) → Shows state numbered → (atoms : List Atom) → AreDeclared declared atoms →
       list_all numbered (numbers_of declared atoms) ≡ list_all (λ (atom : Atom). state (plain atom.predicate.name)) atoms
   list_all-numbers state numbered shows [] are = refl
   list_all-numbers state numbered shows (atom ∷ atoms) are =
-      let here = both_left (is_plain declared atom) (list_all (is_plain declared) atoms) are in
-      let rest = both_right (is_plain declared atom) (list_all (is_plain declared) atoms) are in
-      ap (λ b. b && list_all numbered (numbers_of declared atoms)) (shows atom.predicate.name (name_known declared atom here))
+      let here = both_left (is_declared_atom declared atom) (list_all (is_declared_atom declared) atoms) are in
+      let rest = both_right (is_declared_atom declared atom) (list_all (is_declared_atom declared) atoms) are in
+      ap (λ b. b && list_all numbered (numbers_of declared atoms)) (shows atom.predicate.name here)
       ∙ ap (λ b. state (plain atom.predicate.name) && b) (list_all-numbers state numbered shows atoms rest)
 
   -- no atom with an object is one of them
@@ -97,21 +90,21 @@ module _ (declared : List Name) where
       by false is = refl
 
   -- and none of a name that isn't declared
-  pub is_one_of-unknown : (atoms : List Atom) → ArePlain declared atoms → (name : Name) → is_known declared name ≡ false → is_one_of atoms (plain name) ≡ false
+  pub is_one_of-unknown : (atoms : List Atom) → AreDeclared declared atoms → (name : Name) → is_known declared name ≡ false → is_one_of atoms (plain name) ≡ false
   is_one_of-unknown [] are name unknown = refl
   is_one_of-unknown (atom ∷ atoms) are name unknown =
-      let here = both_left (is_plain declared atom) (list_all (is_plain declared) atoms) are in
-      let rest = is_one_of-unknown atoms (both_right (is_plain declared atom) (list_all (is_plain declared) atoms) are) name unknown in
-      let apart = unlike atom.predicate.name name (name_known declared atom here) unknown in
+      let here = both_left (is_declared_atom declared atom) (list_all (is_declared_atom declared) atoms) are in
+      let rest = is_one_of-unknown atoms (both_right (is_declared_atom declared atom) (list_all (is_declared_atom declared) atoms) are) name unknown in
+      let apart = unlike atom.predicate.name name here unknown in
       cc (rest, apart)
 
   -- a number in a set of numbers is a declared name's place
-  pub placed : (atoms : List Atom) → ArePlain declared atoms → (number : ℕ) → set_of (numbers_of declared atoms) number ≡ true → (name : Name) × (is_known declared name ≡ true) × (place declared name ≡ number)
+  pub placed : (atoms : List Atom) → AreDeclared declared atoms → (number : ℕ) → set_of (numbers_of declared atoms) number ≡ true → (name : Name) × (is_known declared name ≡ true) × (place declared name ≡ number)
   placed [] are number is = absurd cc
   placed (atom ∷ atoms) are number is =
-      let here = both_left (is_plain declared atom) (list_all (is_plain declared) atoms) are in
-      let rest = both_right (is_plain declared atom) (list_all (is_plain declared) atoms) are in
-      by (number_of declared atom == number) refl is (name_known declared atom here) (placed atoms rest number)
+      let here = both_left (is_declared_atom declared atom) (list_all (is_declared_atom declared) atoms) are in
+      let rest = both_right (is_declared_atom declared atom) (list_all (is_declared_atom declared) atoms) are in
+      by (number_of declared atom == number) refl is here (placed atoms rest number)
     where
       by : (same : Bool) → (number_of declared atom == number) ≡ same → (same || set_of (numbers_of declared atoms) number) ≡ true → is_known declared atom.predicate.name ≡ true →
           (set_of (numbers_of declared atoms) number ≡ true → (name : Name) × (is_known declared name ≡ true) × (place declared name ≡ number)) →
@@ -120,11 +113,11 @@ module _ (declared : List Name) where
       by false same is known later = later is
 
   -- the initial states
-  pub initially : (entries : List Init) → list_all (is_plain_init declared) entries ≡ true → (name : Name) → is_one_of (flat_map stated entries) (plain name) ≡ list_any (is_stated (plain name)) entries
+  pub initially : (entries : List Init) → list_all is_plain_init entries ≡ true → (name : Name) → is_one_of (flat_map stated entries) (plain name) ≡ list_any (is_stated (plain name)) entries
   initially [] are name = refl
   initially (Holds atom ∷ entries) are name =
-      let here = ap (λ g. pddl.is_same_atom g (plain name)) (ground_plain declared [] atom (both_left (is_plain declared atom) (list_all (is_plain_init declared) entries) are)) in
-      let rest = initially entries (both_right (is_plain declared atom) (list_all (is_plain_init declared) entries) are) name in
+      let here = ap (λ g. pddl.is_same_atom g (plain name)) (ground_plain [] atom (both_left (is_plain atom) (list_all is_plain_init entries) are)) in
+      let rest = initially entries (both_right (is_plain atom) (list_all is_plain_init entries) are) name in
       cc (here, rest)
   initially (HoldsNot atom line ∷ entries) are name = absurd cc
   initially (Value atom value line ∷ entries) are name = absurd cc

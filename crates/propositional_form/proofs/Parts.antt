@@ -1,14 +1,18 @@
--- The form, part by part.
+-- The form, part by part, of a pair without check faults.
 use Rattle.std.proofs.Common.{◌≡◌, Bool, true, false, not, ◌&&◌, List, [], length, refl}
-use Rattle.std.specs.List.{list_all}
+use Rattle.std.specs.List.{list_all, flat_map}
 use Rattle.std.proofs.lemmas.Bool.{eqb-true}
 use Rattle.std.proofs.lemmas.List.{nil_from_length}
 use Rattle.pddl_parser.specs.declared.types.Action.{Action}
 use Rattle.pddl_parser.specs.declared.types.Domain.{Domain}
 use Rattle.pddl_parser.specs.declared.types.Problem.{Problem}
 use Rattle.pddl_parser.specs.Words.{Name}
-use Rattle.propositional_form.specs.Form.{is_empty, is_conjunction, are_changes, is_plain_action, is_plain_init, predicate_names, action_names, has_no_repeats, is_without_objects, has_plain_predicates, is_made_of, in_form}
-use Rattle.propositional_form.proofs.PlainAtoms.{both_left, both_right}
+use Rattle.type_checker.specs.Faults.{check_faults}
+use Rattle.type_checker.specs.Mentions.{in_condition, in_effect, in_action}
+use Rattle.propositional_form.specs.Form.{is_empty, is_conjunction, are_changes, is_plain_action, is_plain_init, predicate_names, is_without_objects, has_plain_predicates, is_made_of_plain_atoms, in_form}
+use Rattle.propositional_form.specs.Numbers.{conjuncts, additions, deletions, stated}
+use Rattle.propositional_form.proofs.DeclaredAtoms.{both_left, both_right, all_left, all_right, is_known_mention, AreKnown, AreDeclared, conjuncts_declared, additions_declared, deletions_declared, all_stated_declared}
+use Rattle.propositional_form.proofs.Faultless.{known_actions, known_init, known_goal}
 
 pub empty : {X : Type 0} (items : List X) → is_empty items ≡ true → items ≡ []
 empty items e = nil_from_length items (eqb-true (length items) 0 e)
@@ -20,41 +24,48 @@ untrue false e = refl
 -- an action of the form
 pub record IsPlainAction (declared : List Name) (action : Action) : Type 0 where
   pub no_parameters : action.parameters ≡ []
-  pub condition : is_conjunction declared action.precondition ≡ true
-  pub changes : are_changes declared action.effect ≡ true
+  pub condition : is_conjunction action.precondition ≡ true
+  pub changes : are_changes action.effect ≡ true
+  pub asked : AreDeclared declared (conjuncts action.precondition)
+  pub added : AreDeclared declared (additions action.effect)
+  pub deleted : AreDeclared declared (deletions action.effect)
 
-pub plain_action : (declared : List Name) (action : Action) → is_plain_action declared action ≡ true → IsPlainAction declared action
-plain_action declared action plain =
+pub plain_action : (declared : List Name) (action : Action) → is_plain_action action ≡ true → AreKnown declared (in_action action) → IsPlainAction declared action
+plain_action declared action plain known =
     let a = is_empty action.parameters in
-    let b = is_conjunction declared action.precondition in
-    let d = are_changes declared action.effect in
+    let b = is_conjunction action.precondition in
+    let d = are_changes action.effect in
+    let in_effect_known = all_right (is_known_mention declared) (in_condition action.precondition) (in_effect action.effect) known in
     record {
       no_parameters = empty action.parameters (both_left a b (both_left (a && b) d plain));
       condition = both_right a b (both_left (a && b) d plain);
       changes = both_right (a && b) d plain;
+      asked = conjuncts_declared declared action.precondition (all_left (is_known_mention declared) (in_condition action.precondition) (in_effect action.effect) known);
+      added = additions_declared declared action.effect in_effect_known;
+      deleted = deletions_declared declared action.effect in_effect_known;
     }
 
 -- a domain and a problem of the form
 pub record IsInForm (domain : Domain) (problem : Problem) : Type 0 where
   pub no_axioms : domain.axioms ≡ []
   pub no_metric : problem.metric ≡ false
-  pub actions : list_all (is_plain_action (predicate_names domain)) domain.actions ≡ true
-  pub init : list_all (is_plain_init (predicate_names domain)) problem.init ≡ true
-  pub goal : is_conjunction (predicate_names domain) problem.goal ≡ true
+  pub actions : list_all is_plain_action domain.actions ≡ true
+  pub init : list_all is_plain_init problem.init ≡ true
+  pub goal : is_conjunction problem.goal ≡ true
+  pub actions_known : list_all (λ (action : Action). list_all (is_known_mention (predicate_names domain)) (in_action action)) domain.actions ≡ true
+  pub init_declared : AreDeclared (predicate_names domain) (flat_map stated problem.init)
+  pub goal_declared : AreDeclared (predicate_names domain) (conjuncts problem.goal)
 
-pub parts_of_form : (domain : Domain) (problem : Problem) → in_form domain problem ≡ true → IsInForm domain problem
-parts_of_form domain problem form =
-    let declared = predicate_names domain in
+pub parts_of_form : (domain : Domain) (problem : Problem) → check_faults domain problem ≡ [] → in_form domain problem ≡ true → IsInForm domain problem
+parts_of_form domain problem none form =
     let sections = is_without_objects domain problem in
     let heads = has_plain_predicates domain in
-    let predicates = has_no_repeats declared in
-    let names = has_no_repeats (action_names domain) in
-    let made = is_made_of declared domain problem in
-    let actions = list_all (is_plain_action declared) domain.actions in
-    let init = list_all (is_plain_init declared) problem.init in
-    let goal = is_conjunction declared problem.goal in
-    let in_sections = both_left sections heads (both_left (sections && heads) predicates (both_left (sections && heads && predicates) names (both_left (sections && heads && predicates && names) made form))) in
-    let in_made = both_right (sections && heads && predicates && names) made form in
+    let made = is_made_of_plain_atoms domain problem in
+    let actions = list_all is_plain_action domain.actions in
+    let init = list_all is_plain_init problem.init in
+    let goal = is_conjunction problem.goal in
+    let in_sections = both_left sections heads (both_left (sections && heads) made form) in
+    let in_made = both_right (sections && heads) made form in
     let types = is_empty domain.types && is_empty domain.constants && is_empty domain.functions in
     let axioms = is_empty domain.axioms in
     let objects = is_empty problem.objects in
@@ -65,4 +76,7 @@ parts_of_form domain problem form =
       actions = both_left actions init (both_left (actions && init) goal in_made);
       init = both_right actions init (both_left (actions && init) goal in_made);
       goal = both_right (actions && init) goal in_made;
+      actions_known = known_actions domain problem none;
+      init_declared = all_stated_declared (predicate_names domain) problem.init (known_init domain problem none);
+      goal_declared = conjuncts_declared (predicate_names domain) problem.goal (known_goal domain problem none);
     }

@@ -8,7 +8,7 @@ use Rattle.pddl_lexer.specs.Text.{is_word_byte}
 use Rattle.pddl_parser.specs.Spelled.{is_spelled}
 use Rattle.pddl_parser.specs.Words.{is_same, lowered, is_mark, is_name_byte, begins_with_colon, is_name}
 use Rattle.sas_task.specs.Valid.{IsName}
-use Rattle.propositional_form.proofs.PlainAtoms.{both_left, both_right}
+use Rattle.propositional_form.proofs.DeclaredAtoms.{both_left, both_right}
 
 -- a byte of a word is printable
 above_space : (byte : ℕ) → is_word_byte byte ≡ true → 33 ≤ byte
