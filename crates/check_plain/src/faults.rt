@@ -5,13 +5,13 @@ ghost use Rattle.type_checker.specs.Faults as spec;
 ghost use Rattle.type_checker.specs.Lines.{placed, in_file_order};
 ghost use Rattle.type_checker.specs.Rows.{name_rows, use_rows, argument_rows, state_rows, form_rows};
 
-use crate::increases::ill_formed_increases;
-use crate::initial::{denied_lines, revalued_lines};
-use crate::links::{recursive_axioms, type_cycles};
-use crate::names::{
+use crate::declarations::{
     repeats_in_domain, repeats_in_problem, unknown_objects, unknown_types_in_domain,
     unknown_types_in_problem, written_derived,
 };
+use crate::increases::ill_formed_increases;
+use crate::initial::{denied_lines, revalued_lines};
+use crate::links::{recursive_axioms, type_cycles};
 use crate::scopes::{unbound_in_domain, unbound_in_problem};
 use crate::sizes::{too_large_in_domain, too_large_in_problem};
 use crate::uses::{unknown_functions, unknown_predicates, wrong_arities_in_domain, wrong_uses};

@@ -2,12 +2,12 @@
 //! It has no tables: each use walks over all declarations.
 #![tactic(auto)]
 
+mod declarations;
 mod faults;
 mod increases;
 mod initial;
 mod links;
 mod listed;
-mod names;
 mod scopes;
 mod sizes;
 mod uses;

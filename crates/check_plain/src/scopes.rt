@@ -4,7 +4,7 @@ ghost use Rattle.std.specs.List.{flat_map};
 ghost use Rattle.check_plain.specs.Shown.{all_now};
 ghost use Rattle.type_checker.specs.Scopes as spec;
 
-use crate::names::is_among;
+use crate::declarations::is_among;
 use pddl_parser::{Action, Condition, Cost, Derived, Domain, Effect, Init, Problem, Term, Typed};
 use std::alloc::{AllocError, Global};
 
