@@ -11,6 +11,3 @@ pub mod task;
 pub use lists::{List, Text};
 pub use parts::{Effect, Group, Operator, Pair, Rule, Variable};
 pub use task::SasTask;
-
-#[cfg(test)]
-mod tests;

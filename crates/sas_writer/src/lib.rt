@@ -7,6 +7,3 @@ mod sections;
 mod text;
 
 pub use text::text_of;
-
-#[cfg(test)]
-mod tests;

@@ -4,7 +4,7 @@ use Rattle.sas_task.specs.Task.{Task}
 use Rattle.sas_task.specs.Valid.{IsValidOperator}
 use Rattle.sas_task.specs.Examples.{room, flicker}
 use Rattle.sas_task.proofs.Checks.{operator_from_test}
-use Rattle.sas_task.proofs.tests.flickered.Goals as goal
+use Rattle.sas_tests.proofs.meaning.flickered.Goals as goal
 
 pub successor-requires-clause-operator : goal.successor-requires-clause-operator
 successor-requires-clause-operator c =

@@ -3,36 +3,48 @@
 ghost use Rattle.std.specs.Prelude.{◌≡◌, ◌<◌, length};
 ghost use Rattle.sas_task.specs.Examples.{room};
 
-use crate::{Pair, SasTask, examples, plain_step};
+use sas_task::{Pair, SasTask, examples, plain_step};
 use std::alloc::{AllocError, Global};
-use std::test::Fail;
-
-#[test]
-fn parts_are_read_back(rt: HostRuntime) -> Result<(), Fail> {
-    let task = room(rt.alloc())?;
-    assert!(rt; task.metric());
-    assert_eq!(rt; task.variables(), 4);
-    assert_eq!(rt; task.variable(3).layer, Some(1));
-    assert_eq!(rt; task.groups(), 1);
-    let facts = [Pair { var: 0, val: 0 }, Pair { var: 0, val: 1 }];
-    assert_eq!(rt; task.group(0).facts.as_slice(), facts.as_slice());
-    assert_eq!(rt; task.state(0), 0);
-    assert_eq!(rt; task.state(3), 1);
-    assert_eq!(rt; task.goal(), [Pair { var: 3, val: 0 }].as_slice());
-    assert_eq!(rt; task.operators(), 3);
-    assert_eq!(rt; task.operator(0).name.as_slice(), b"enter room".as_slice());
-    assert_eq!(rt; task.operator(2).cost, 10);
-    assert_eq!(rt; task.rules(), 2);
-    assert_eq!(rt;
-        task.rule(1).conditions.as_slice(),
-        [Pair { var: 2, val: 0 }].as_slice()
-    );
-    Ok(())
-}
+use std::test::*;
 
 /// The room, without what is known of it, so that the proof of a test doesn't carry it.
 fn room(alloc: Global) -> Result<SasTask, AllocError> {
     examples::room(alloc)
+}
+
+fn has_the_variables(task: &SasTask) -> bool {
+    task.metric()
+        && task.variables() == 4
+        && task.variable(3).layer == Some(1)
+        && task.state(0) == 0
+        && task.state(3) == 1
+        && task.goal() == [Pair { var: 3, val: 0 }].as_slice()
+}
+
+fn has_the_group(task: &SasTask) -> bool {
+    let facts = [Pair { var: 0, val: 0 }, Pair { var: 0, val: 1 }];
+    task.groups() == 1 && task.group(0).facts.as_slice() == facts.as_slice()
+}
+
+fn has_the_operators(task: &SasTask) -> bool {
+    task.operators() == 3
+        && task.operator(0).name.as_slice() == b"enter room".as_slice()
+        && task.operator(2).cost == 10
+}
+
+fn has_the_rules(task: &SasTask) -> bool {
+    let conditions = [Pair { var: 2, val: 0 }];
+    task.rules() == 2 && task.rule(1).conditions.as_slice() == conditions.as_slice()
+}
+
+#[test]
+fn parts_are_read_back(rt: HostRuntime) -> Result<(), Fail> {
+    let task = room(rt.alloc())?;
+    assert!(rt; has_the_variables(&task));
+    assert!(rt; has_the_group(&task));
+    assert!(rt; has_the_operators(&task));
+    assert!(rt; has_the_rules(&task));
+    Ok(())
 }
 
 /// Whether these are the values in the state.
@@ -53,6 +65,20 @@ fn is_applicable(alloc: Global, task: &SasTask, state: &[u64], i: u64) -> Result
     plain_step::is_applicable(alloc, task, state, task.operator(i))
 }
 
+/// The successor under the operator at this place.
+fn successor(
+    alloc: Global,
+    task: &SasTask,
+    state: &[u64],
+    i: u64,
+) -> Result<Option<Vec<u64>>, AllocError>
+    requires operator { i < length task.now.operators }
+    requires state { length state.now ≡ length task.now.variables }
+{
+    let _valid = task.metric();
+    plain_step::successor(alloc, task, state, task.operator(i))
+}
+
 /// Whether the operator at this place leads from the one state to the other.
 fn leads(
     alloc: Global,
@@ -64,8 +90,7 @@ fn leads(
     requires operator { i < length task.now.operators }
     requires state { length from.now ≡ length task.now.variables }
 {
-    let _valid = task.metric();
-    match plain_step::successor(alloc, task, from, task.operator(i))? {
+    match successor(alloc, task, from, i)? {
         Some(state) => Ok(state.as_slice() == to),
         None => Ok(false),
     }
