@@ -2,6 +2,7 @@
 use Rattle.std.proofs.Common.{◌≡◌, ℕ, ◌+◌, ◌≤◌, Bool, true, false, not, ◌&&◌, ◌||◌, ◌⊎◌, inl, inr, List, [], ◌∷◌, map, sum, refl, sym, ap, ◌∙◌, subst, arith}
 use Rattle.std.proofs.lemmas.List.Sums.{sum_by-cons}
 use Rattle.std.specs.List.{list_all}
+use Rattle.std.proofs.lemmas.Bool.{and_parts}
 use mathlib.Core.Path.{fun_ext}
 use Rattle.runs.specs.Runs.{Leads, IsSubsequence, Done, Keep, Skip}
 use Rattle.pddl_parser.specs.declared.types.Domain.{Domain}
@@ -10,7 +11,7 @@ use Rattle.pddl_parser.specs.Words.{Name}
 use Rattle.pddl_parser.specs.Holds.{GroundAtom, is_same_atom, State}
 use Rattle.pddl_parser.specs.Step.{writes, Step, name_of, binding_of, cost_of, Takes, IsIdle, TakesBusy}
 use Rattle.pddl_parser.specs.Plan.{initial, HasPlan, HasBusyPlan, HasShorterPlan}
-use Rattle.pddl_parser.proofs.SameAtoms.{both_left, both_right, same_atom}
+use Rattle.pddl_parser.proofs.SameAtoms.{same_atom}
 use Rattle.pddl_parser.proofs.Written.{written, is_among, written_has}
 
 -- ---- two states, compared on a list of atoms
@@ -38,12 +39,12 @@ agree_on atoms f g = list_all (λ atom. is_alike (f atom) (g atom)) atoms
 agree_among : (atoms : List GroundAtom) (f g : State) → agree_on atoms f g ≡ true → (atom : GroundAtom) → is_among atoms atom ≡ true → f atom ≡ g atom
 agree_among [] f g agree atom among = absurd cc
 agree_among (known ∷ atoms) f g agree atom among =
-    by_first (agree_among atoms f g (both_right (is_alike (f known) (g known)) (agree_on atoms f g) agree) atom) (is_same_atom known atom) refl
+    by_first (agree_among atoms f g (and_parts (is_alike (f known) (g known)) (agree_on atoms f g) agree).1 atom) (is_same_atom known atom) refl
   where
     by_first : (is_among atoms atom ≡ true → f atom ≡ g atom) → (b : Bool) → is_same_atom known atom ≡ b → f atom ≡ g atom
     by_first rest true here =
         let same = same_atom known atom here in
-        let equal = alike_equal (f known) (g known) (both_left (is_alike (f known) (g known)) (agree_on atoms f g) agree) in
+        let equal = alike_equal (f known) (g known) (and_parts (is_alike (f known) (g known)) (agree_on atoms f g) agree).0 in
         subst (λ a. f a ≡ g a) same equal
     by_first rest false other = rest (sym (ap (λ b. b || is_among atoms atom) other) ∙ among)
 

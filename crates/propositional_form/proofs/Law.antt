@@ -4,6 +4,7 @@ use Rattle.std.specs.Prelude.{IsSome, slice_get, unwrap_or}
 use Rattle.std.specs.List.{list_all, list_any, flat_map}
 use Rattle.std.specs.Option.{option_map, option_and_then}
 use Rattle.std.specs.Cmp.Lexicographic.{pointwise}
+use Rattle.std.proofs.lemmas.Bool.{and_parts}
 use Rattle.std.proofs.lemmas.Option.{slice_get-map, slice_get-get_or, get_or_from_slice_get}
 use Rattle.runs.proofs.Follows.{Follows, run_follows}
 use Rattle.pddl_parser.specs.declared.types.Action.{Action}
@@ -27,14 +28,14 @@ use Rattle.propositional_form.specs.Plans.{SamePlans}
 use Rattle.propositional_form.proofs.Meaning.{plain, is_one_of, holds-conjunction, writes-additions, writes-deletions}
 use Rattle.propositional_form.proofs.Numbering.{place, Shows, set_of-numbers, list_all-numbers, is_one_of-other, is_one_of-unknown, placed, initially}
 use Rattle.propositional_form.proofs.Parts.{IsPlainAction, plain_action, IsInForm, parts_of_form}
-use Rattle.propositional_form.proofs.DeclaredAtoms.{both_left, both_right, is_known, is_known_mention, AreDeclared}
+use Rattle.propositional_form.proofs.DeclaredAtoms.{is_known, is_known_mention, AreDeclared}
 
 -- ---- places of lists
 
 all_at : {X : Type 0} (test : X → Bool) (xs : List X) (i : ℕ) (x : X) → list_all test xs ≡ true → slice_get xs i ≡ Some x → test x ≡ true
 all_at test [] i x all at = absurd cc
-all_at test (y ∷ xs) zero x all at = let same : y ≡ x = cc in ap test (sym same) ∙ both_left (test y) (list_all test xs) all
-all_at test (y ∷ xs) (suc i) x all at = all_at test xs i x (both_right (test y) (list_all test xs) all) at
+all_at test (y ∷ xs) zero x all at = let same : y ≡ x = cc in ap test (sym same) ∙ (and_parts (test y) (list_all test xs) all).0
+all_at test (y ∷ xs) (suc i) x all at = all_at test xs i x (and_parts (test y) (list_all test xs) all).1 at
 
 within : {X : Type 0} (xs : List X) (i : ℕ) (x : X) → slice_get xs i ≡ Some x → i < length xs
 within [] i x at = absurd cc
