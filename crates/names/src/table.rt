@@ -1,5 +1,5 @@
 // Sets of names.
-ghost use Rattle.std.specs.Prelude.{◌≡◌, ◌||◌, ◌++◌, ◌∷◌, [], not, length, nat_lt, OnOk, OnErr, IfOk, if◌then◌else◌};
+ghost use Rattle.std.specs.Prelude.{◌≡◌, ◌||◌, ◌++◌, ◌∷◌, [], not, length, take, nat_lt, OnOk, OnErr, IfOk, if◌then◌else◌};
 ghost use Rattle.std.specs.List.{list_any, position_or_len};
 ghost use Rattle.pddl_parser.specs.Words.{Name, is_same};
 
@@ -42,6 +42,13 @@ impl<'a> Names<'a> {
         ensures unchanged { OnErr result (self.new ≡ self.old) }
     {
         self.table.insert(name)
+    }
+
+    /// Takes out all names but the first ones, so many of them.
+    pub fn truncate(&mut self, len: usize)
+        ensures { self.new ≡ take len self.old }
+    {
+        self.table.truncate(len);
     }
 
     /// Whether the name is in the set.

@@ -19,6 +19,5 @@ pub mod Capping
 pub mod ConditionSizes
 pub mod EffectCuts
 pub mod BoundNames
-pub mod ScopeTable
 pub mod Unbound
 pub mod TestedLines

@@ -2,12 +2,12 @@
 ghost use Rattle.std.specs.Prelude.{◌≡◌, [], length, map, take, IfOk, OnOk};
 ghost use Rattle.std.specs.List.{flat_map, list_any};
 ghost use Rattle.pddl_parser.specs.Words.{is_same};
-ghost use Rattle.type_checker.specs.Binding.{bound, all_bound};
+ghost use Rattle.type_checker.specs.Binding.{all_bound};
 ghost use Rattle.type_checker.specs.Lines.{earliest};
 ghost use Rattle.type_checker.specs.Scopes as spec;
 
 use crate::lines::earlier;
-use indexmap::IndexSet;
+use names::Names;
 use pddl_parser::{Action, Condition, Cost, Derived, Domain, Effect, Init, Problem, Term, Typed};
 use std::alloc::{AllocError, Global};
 use std::marker::Model;
@@ -15,18 +15,15 @@ use std::marker::Model;
 /// The names that the lists around a place bind, those of the outer lists first, and none of them twice.
 #[derive(Drop)]
 struct Scope<'a> {
-    table: IndexSet<&'a [u8]>,
+    names: Names<'a>,
 }
 
 impl<'a> Model for Scope<'a> {
-    ghost use Rattle.std.specs.Prelude.{ℕ, List, map};
-    ghost use Rattle.std.specs.Coded.{coded_ℕ, coded_list};
+    ghost use Rattle.std.specs.Prelude.{ℕ, List};
 
     ghost Value = { List (List ℕ) };
 
-    ghost coded = { coded_list (coded_list coded_ℕ) };
-
-    ghost view = { λ scope. map (λ key. key.now) scope.table.keys };
+    ghost view = { λ scope. scope.names };
 }
 
 impl<'a> Scope<'a> {
@@ -34,14 +31,14 @@ impl<'a> Scope<'a> {
         ensures { result ≡ [] }
     {
         Scope {
-            table: IndexSet::new(alloc),
+            names: Names::new(alloc),
         }
     }
 
     fn len(&self) -> usize
         ensures { result ≡ length self.now }
     {
-        self.table.len()
+        self.names.len()
     }
 
     /// Goes into a list of variables.
@@ -49,15 +46,8 @@ impl<'a> Scope<'a> {
         ensures { OnOk result (self.new ≡ all_bound self.old variables.now) }
     {
         for variable in variables {
-            self.bind(variable.name.name.as_slice())?;
+            self.names.add(variable.name.name.as_slice())?;
         }
-        Ok(())
-    }
-
-    fn bind(&mut self, name: &'a [u8]) -> Result<(), AllocError>
-        ensures { OnOk result (self.new ≡ bound self.old name.now) }
-    {
-        self.table.insert(name)?;
         Ok(())
     }
 
@@ -65,13 +55,13 @@ impl<'a> Scope<'a> {
     fn close(&mut self, len: usize)
         ensures { self.new ≡ take len self.old }
     {
-        self.table.truncate(len);
+        self.names.truncate(len);
     }
 
     fn binds(&self, name: &[u8]) -> bool
         ensures { result ≡ list_any (is_same name.now) self.now }
     {
-        self.table.contains(name)
+        self.names.has(name)
     }
 
     fn first_unbound(&self, terms: &[Term]) -> Option<u64>
