@@ -1,10 +1,10 @@
 // The check of a domain and a problem.
-ghost use Rattle.std.specs.Prelude.{◌≡◌, IfOk};
+ghost use Rattle.std.specs.Prelude.{◌≡◌, ◌∷◌, [], IfOk};
 ghost use Rattle.pddl_parser.specs.Spelled.{IsWellSpelled, IsWellSpelledProblem};
 ghost use Rattle.type_checker.specs.Checked.{head, ChecksTo};
 ghost use Rattle.type_checker.specs.Faults.{check_faults};
 ghost use Rattle.type_checker.specs.Mentions.{in_domain, in_problem};
-ghost use Rattle.type_checker.specs.Rows.{first_in_rows, name_rows, use_rows, argument_rows, state_rows, form_rows};
+ghost use Rattle.type_checker.specs.Rows.{first_in_rows, name_rows, use_rows, argument_rows, state_rows, form_rows, unknown_objects_row, written_row};
 ghost use Rattle.type_checker.specs.Seen.{all_seen};
 
 use crate::arguments::{DerivedNames, Objects, first_unknown_object, first_written_derived};
@@ -39,10 +39,14 @@ pub fn check(alloc: Global, domain: Domain, problem: Problem) -> Result<Checked,
     requires problem { IsWellSpelledProblem problem }
     ensures { ChecksTo domain problem result }
 {
-    match first_fault(alloc, &domain, &problem)? {
-        Some((side, fault)) => Err(CheckEnd::Fault(side, fault)),
-        None => Ok(Checked::new(domain, problem)),
-    }
+    let end = match first_fault(alloc, &domain, &problem) {
+        Ok(None) => return Ok(Checked::new(domain, problem)),
+        Ok(Some((side, fault))) => CheckEnd::Fault(side, fault),
+        Err(error) => CheckEnd::from(error),
+    };
+    drop(domain);
+    drop(problem);
+    Err(end)
 }
 
 /// The first fault of all kinds.
@@ -55,15 +59,30 @@ fn first_fault(
 {
     let domain_mentions = mentions_in_domain(alloc, domain)?;
     let problem_mentions = mentions_in_problem(alloc, problem)?;
-    let named = first_name_fault(alloc, domain, problem, &domain_mentions, &problem_mentions)?;
+    first_fault_with(alloc, domain, problem, &domain_mentions, &problem_mentions)
+}
+
+/// The first fault of all kinds, by what the two files mention.
+fn first_fault_with(
+    alloc: Global,
+    domain: &Domain,
+    problem: &Problem,
+    domain_mentions: &[Mention<'_>],
+    problem_mentions: &[Mention<'_>],
+) -> Result<Option<(Side, Fault)>, AllocError>
+    requires domain { all_seen domain_mentions.now ≡ in_domain domain.now }
+    requires problem { all_seen problem_mentions.now ≡ in_problem problem.now }
+    ensures { IfOk result (λ first. first ≡ head (check_faults domain.now problem.now)) }
+{
+    let named = first_name_fault(alloc, domain, problem, domain_mentions, problem_mentions)?;
     if named.is_some() {
         return Ok(named);
     }
-    let used = first_use_fault(alloc, domain, problem, &domain_mentions, &problem_mentions)?;
+    let used = first_use_fault(alloc, domain, problem, domain_mentions, problem_mentions)?;
     if used.is_some() {
         return Ok(used);
     }
-    let argued = first_argument_fault(alloc, domain, problem, &domain_mentions, &problem_mentions)?;
+    let argued = first_argument_fault(alloc, domain, problem, domain_mentions, problem_mentions)?;
     if argued.is_some() {
         return Ok(argued);
     }
@@ -119,28 +138,52 @@ fn first_use_fault(
     ensures { IfOk result (λ first. first ≡ first_in_rows (use_rows domain.now problem.now)) }
 {
     let signature = Signature::of(alloc, domain)?;
+    let fault = first_misuse(
+        &signature,
+        domain,
+        problem,
+        domain_mentions,
+        problem_mentions,
+    );
+    drop(signature);
+    Ok(fault)
+}
+
+/// The same, by the table of what is declared.
+fn first_misuse(
+    signature: &Signature<'_>,
+    domain: &Domain,
+    problem: &Problem,
+    domain_mentions: &[Mention<'_>],
+    problem_mentions: &[Mention<'_>],
+) -> Option<(Side, Fault)>
+    requires signature { signature.now ≡ domain.now }
+    requires domain { all_seen domain_mentions.now ≡ in_domain domain.now }
+    requires problem { all_seen problem_mentions.now ≡ in_problem problem.now }
+    ensures { result ≡ first_in_rows (use_rows domain.now problem.now) }
+{
     let predicate = first_in_row(
         Kind::UnknownPredicate,
-        first_unknown_predicate(&signature, domain_mentions),
-        first_unknown_predicate(&signature, problem_mentions),
+        first_unknown_predicate(signature, domain_mentions),
+        first_unknown_predicate(signature, problem_mentions),
     );
     if predicate.is_some() {
-        return Ok(predicate);
+        return predicate;
     }
     let function = first_in_row(
         Kind::UnknownFunction,
-        first_unknown_function(&signature, domain_mentions),
-        first_unknown_function(&signature, problem_mentions),
+        first_unknown_function(signature, domain_mentions),
+        first_unknown_function(signature, problem_mentions),
     );
     if function.is_some() {
-        return Ok(function);
+        return function;
     }
     let declared = first_total_cost_head(domain);
-    Ok(first_in_row(
+    first_in_row(
         Kind::WrongArity,
-        earlier(declared, first_wrong_use(&signature, domain_mentions)),
-        first_wrong_use(&signature, problem_mentions),
-    ))
+        earlier(declared, first_wrong_use(signature, domain_mentions)),
+        first_wrong_use(signature, problem_mentions),
+    )
 }
 
 /// The first fault of arguments, and of derived predicates that are written.
@@ -155,12 +198,7 @@ fn first_argument_fault(
     requires problem { all_seen problem_mentions.now ≡ in_problem problem.now }
     ensures { IfOk result (λ first. first ≡ first_in_rows (argument_rows domain.now problem.now)) }
 {
-    let objects = Objects::of(alloc, domain, problem)?;
-    let unknown = first_in_row(
-        Kind::UnknownObject,
-        first_unknown_object(&objects, domain_mentions),
-        first_unknown_object(&objects, problem_mentions),
-    );
+    let unknown = first_object_fault(alloc, domain, problem, domain_mentions, problem_mentions)?;
     if unknown.is_some() {
         return Ok(unknown);
     }
@@ -172,12 +210,45 @@ fn first_argument_fault(
     if unbound.is_some() {
         return Ok(unbound);
     }
+    first_written_fault(alloc, domain, problem, domain_mentions, problem_mentions)
+}
+
+/// The first fault of an argument that names no object.
+fn first_object_fault(
+    alloc: Global,
+    domain: &Domain,
+    problem: &Problem,
+    domain_mentions: &[Mention<'_>],
+    problem_mentions: &[Mention<'_>],
+) -> Result<Option<(Side, Fault)>, AllocError>
+    requires domain { all_seen domain_mentions.now ≡ in_domain domain.now }
+    requires problem { all_seen problem_mentions.now ≡ in_problem problem.now }
+    ensures { IfOk result (λ first. first ≡ first_in_rows (unknown_objects_row domain.now problem.now ∷ [])) }
+{
+    let objects = Objects::of(alloc, domain, problem)?;
+    let in_domain = first_unknown_object(&objects, domain_mentions);
+    let in_problem = first_unknown_object(&objects, problem_mentions);
+    drop(objects);
+    Ok(first_in_row(Kind::UnknownObject, in_domain, in_problem))
+}
+
+/// The first fault of a derived predicate that is written.
+fn first_written_fault(
+    alloc: Global,
+    domain: &Domain,
+    problem: &Problem,
+    domain_mentions: &[Mention<'_>],
+    problem_mentions: &[Mention<'_>],
+) -> Result<Option<(Side, Fault)>, AllocError>
+    requires domain { all_seen domain_mentions.now ≡ in_domain domain.now }
+    requires problem { all_seen problem_mentions.now ≡ in_problem problem.now }
+    ensures { IfOk result (λ first. first ≡ first_in_rows (written_row domain.now problem.now ∷ [])) }
+{
     let derived = DerivedNames::of(alloc, domain)?;
-    Ok(first_in_row(
-        Kind::DerivedWritten,
-        first_written_derived(&derived, domain_mentions),
-        first_written_derived(&derived, problem_mentions),
-    ))
+    let in_domain = first_written_derived(&derived, domain_mentions);
+    let in_problem = first_written_derived(&derived, problem_mentions);
+    drop(derived);
+    Ok(first_in_row(Kind::DerivedWritten, in_domain, in_problem))
 }
 
 /// The first fault of axioms, and of the initial state.

@@ -1,6 +1,8 @@
 // Tables of the declared predicates and functions.
-ghost use Rattle.std.specs.Prelude.{◌≡◌, IfOk};
-ghost use Rattle.type_checker.specs.Heads.{takes};
+ghost use Rattle.std.specs.Prelude.{◌≡◌, length, IfOk};
+ghost use Rattle.std.specs.List.{list_any};
+ghost use Rattle.type_checker.specs.Arguments.{AreThose};
+ghost use Rattle.type_checker.specs.Heads.{Key, is_same_key, takes};
 ghost use Rattle.type_checker.specs.Names.{is_declared};
 
 use indexmap::IndexSet;
@@ -35,13 +37,8 @@ impl<'a> Heads<'a> {
     fn of(alloc: Global, heads: &'a [Head]) -> Result<Heads<'a>, AllocError>
         ensures { IfOk result (λ table. table ≡ heads.now) }
     {
-        let mut names = Names::new(alloc);
-        let mut keys = IndexSet::new(alloc);
-        for head in heads {
-            let name = head.name.name.as_slice();
-            names.add(name)?;
-            keys.insert((name, head.variables.as_slice().len() as u64))?;
-        }
+        let names = names_of(alloc, heads)?;
+        let keys = keys_of(alloc, heads)?;
         Ok(Heads { heads, names, keys })
     }
 
@@ -58,6 +55,38 @@ impl<'a> Heads<'a> {
     {
         self.keys.contains(&(name, arity))
     }
+}
+
+/// The names of the heads.
+fn names_of<'a>(alloc: Global, heads: &'a [Head]) -> Result<Names<'a>, AllocError>
+    ensures { IfOk result (λ names. AreThose (is_declared heads.now) names) }
+{
+    let mut names = Names::new(alloc);
+    for head in heads {
+        names.add(head.name.name.as_slice())?;
+    }
+    Ok(names)
+}
+
+/// The names of the heads with their numbers of variables.
+fn keys_of<'a>(alloc: Global, heads: &'a [Head]) -> Result<IndexSet<(&'a [u8], u64)>, AllocError>
+    ensures { IfOk result (λ keys. (key : Key) → list_any (is_same_key key) keys.keys ≡ takes heads.now key.0.now key.1) }
+{
+    let mut keys = IndexSet::new(alloc);
+    for head in heads {
+        keys.insert(key_of(head))?;
+    }
+    Ok(keys)
+}
+
+fn key_of(head: &Head) -> (&[u8], u64)
+    ensures name { result.0.now ≡ head.now.name.name }
+    ensures arity { result.1 ≡ length head.now.variables }
+{
+    (
+        head.name.name.as_slice(),
+        head.variables.as_slice().len() as u64,
+    )
 }
 
 /// The declared predicates and functions of a domain. Contracts see the domain.
@@ -88,7 +117,10 @@ impl<'a> Signature<'a> {
         ensures { IfOk result (λ signature. signature ≡ domain.now) }
     {
         let predicates = Heads::of(alloc, domain.predicates.as_slice())?;
-        let functions = Heads::of(alloc, domain.functions.as_slice())?;
+        let Ok(functions) = Heads::of(alloc, domain.functions.as_slice()) else {
+            drop(predicates);
+            return Err(AllocError);
+        };
         Ok(Signature {
             domain,
             predicates,

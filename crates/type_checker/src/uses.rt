@@ -15,7 +15,7 @@ use crate::mentions::Mention;
 use pddl_parser::{Atom, Domain, Head, Named};
 
 /// A predicate or a function with so many arguments.
-#[derive(Clone, Copy, Debug)]
+#[derive(Clone, Copy)]
 struct Usage<'a> {
     name: &'a Named,
     arity: u64,

@@ -1,6 +1,6 @@
 use Rattle.std.proofs.Common.{sym, ◌∙◌}
 use Rattle.type_checker.proofs.RowHeads.{stop_at_names, stop_at_uses, stop_at_arguments, stop_at_states, stop_at_forms}
-use Rattle.type_checker.proofs.checking.first_fault.Goals as goal
+use Rattle.type_checker.proofs.checking.first_fault_with.Goals as goal
 
 pub returns-then-is_some : goal.returns-then-is_some
 returns-then-is_some c = stop_at_names _ _ _ c.in_ok-named.ensures (sym c.is_some.ensures ∙ c.if-is_some.true)
