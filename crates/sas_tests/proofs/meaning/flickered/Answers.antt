@@ -1,4 +1,4 @@
-use Rattle.std.proofs.Common.{sym, refl, subst}
+use Rattle.std.proofs.Common.{length, sym, ap, ◌∙◌, refl, subst}
 use Rattle.sas_task.specs.declared.parts.Operator.{Operator}
 use Rattle.sas_task.specs.Task.{Task}
 use Rattle.sas_task.specs.Valid.{IsValidOperator}
@@ -10,3 +10,6 @@ pub successor-requires-clause-operator : goal.successor-requires-clause-operator
 successor-requires-clause-operator c =
     subst (λ (t : Task). IsValidOperator t c.in_ok-flicker.flicker) (sym c.requires.room)
     (subst (λ (o : Operator). IsValidOperator room o) (sym c.in_ok-flicker.ensures) (operator_from_test room flicker refl))
+
+pub successor-requires-clause-state : goal.successor-requires-clause-state
+successor-requires-clause-state c = c.requires.state ∙ sym (ap (λ (t : Task). length t.variables) c.requires.room)
