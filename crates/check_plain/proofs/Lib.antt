@@ -1,2 +1,3 @@
 pub mod AllRows
 pub mod Capping
+pub mod Turns

@@ -1,17 +1,17 @@
 // Names that are declared twice, or used without a declaration.
-ghost use Rattle.std.specs.Prelude.{◌≡◌, ◌++◌, ◌∷◌, [], map, IfOk, OnOk, if◌then◌else◌};
+ghost use Rattle.std.specs.Prelude.{◌≡◌, ◌++◌, ◌∷◌, [], map, IfOk, OnOk};
 ghost use Rattle.std.specs.List.{flat_map, list_any};
 ghost use Rattle.check_plain.specs.Shown.{all_now};
 ghost use Rattle.pddl_parser.specs.Holds.{is_derived};
 ghost use Rattle.pddl_parser.specs.Objects.{objects};
 ghost use Rattle.pddl_parser.specs.Words.{is_same};
-ghost use Rattle.type_checker.specs.Mentions.{in_domain, in_problem};
+ghost use Rattle.type_checker.specs.Mentions.{arguments, in_domain, in_problem};
 ghost use Rattle.type_checker.specs.Names as spec;
-ghost use Rattle.type_checker.specs.Seen.{all_seen};
+ghost use Rattle.type_checker.specs.Seen.{seen, all_seen};
 
+use crate::lines::add_line_if;
 use crate::listed::{
-    action_names, add_mentioned_types, add_types, arguments, head_names, listed_variables,
-    names_of, written_predicates,
+    action_names, add_declared, add_mentioned_types, add_types, head_names, names_of,
 };
 use pddl_parser::{Domain, Named, Problem, Term, Typed};
 use std::alloc::{AllocError, Global};
@@ -51,9 +51,8 @@ fn unknown_types(alloc: Global, domain: &Domain, types: &[&Named]) -> Result<Vec
 {
     let mut lines = Vec::new(alloc);
     for named in types {
-        if !is_type(domain, named.name.as_slice()) {
-            lines.push(named.line)?;
-        }
+        let is_known = is_type(domain, named.name.as_slice());
+        add_line_if(&mut lines, !is_known, named.line)?;
     }
     Ok(lines)
 }
@@ -121,23 +120,14 @@ pub(crate) fn repeats_in_problem(
 ) -> Result<Vec<u64>, AllocError>
     ensures { IfOk result (λ lines. lines.items ≡ spec.problem_repeats domain.now problem.now) }
 {
-    let mut constants = constant_names(alloc, domain.constants.as_slice())?;
+    let mut constants = Vec::new(alloc);
+    add_declared(&mut constants, domain.constants.as_slice())?;
     let objects = names_of(alloc, problem.objects.as_slice())?;
     let mentions = mentions_in_problem(alloc, problem)?;
     let mut lines = Vec::new(alloc);
     add_repeats_after(&mut lines, &mut constants, &objects)?;
     add_repeated_variables(alloc, &mut lines, &mentions)?;
     Ok(lines)
-}
-
-fn constant_names(alloc: Global, constants: &[Typed]) -> Result<Vec<&[u8]>, AllocError>
-    ensures { IfOk result (λ names. all_now names.items ≡ map (λ constant. constant.name.name) constants.now) }
-{
-    let mut names = Vec::new(alloc);
-    for constant in constants {
-        names.push(constant.name.name.as_slice())?;
-    }
-    Ok(names)
 }
 
 fn add_repeated_variables(
@@ -148,7 +138,7 @@ fn add_repeated_variables(
     ensures { OnOk result (lines.new.items ≡ lines.old.items ++ spec.repeated_variables (all_seen mentions.now)) }
 {
     for mention in mentions {
-        add_repeats(alloc, lines, &names_of(alloc, listed_variables(mention))?)?;
+        add_repeats(alloc, lines, &names_of(alloc, mention.listed_variables())?)?;
     }
     Ok(())
 }
@@ -169,17 +159,9 @@ fn add_repeats_after<'a>(
     ensures { OnOk result (lines.new.items ≡ lines.old.items ++ spec.repeats_after (all_now before.old.items) (all_now names.now)) }
 {
     for named in names {
-        add_repeated(lines, before, named)?;
+        let is_repeat = is_among(named.name.as_slice(), before);
+        add_line_if(lines, is_repeat, named.line)?;
         before.insert(0, named.name.as_slice())?;
-    }
-    Ok(())
-}
-
-fn add_repeated(lines: &mut Vec<u64>, before: &[&[u8]], named: &Named) -> Result<(), AllocError>
-    ensures { OnOk result (lines.new.items ≡ lines.old.items ++ (if list_any (is_same named.now.name) (all_now before.now) then named.now.line ∷ [] else [])) }
-{
-    if is_among(named.name.as_slice(), before) {
-        lines.push(named.line)?;
     }
     Ok(())
 }
@@ -206,19 +188,40 @@ pub(crate) fn unknown_objects(
 ) -> Result<Vec<u64>, AllocError>
     ensures { IfOk result (λ lines. lines.items ≡ spec.unknown_objects domain.now problem.now (all_seen mentions.now)) }
 {
-    let terms = arguments(alloc, mentions)?;
     let mut lines = Vec::new(alloc);
-    add_unknown_objects(&mut lines, domain, problem, &terms)?;
+    for mention in mentions {
+        add_unknown_in_mention(&mut lines, domain, problem, mention)?;
+    }
     Ok(lines)
+}
+
+fn add_unknown_in_mention(
+    lines: &mut Vec<u64>,
+    domain: &Domain,
+    problem: &Problem,
+    mention: &Mention<'_>,
+) -> Result<(), AllocError>
+    ensures { OnOk result (lines.new.items ≡ lines.old.items ++ flat_map (spec.unknown_object domain.now problem.now) (arguments (seen mention.now))) }
+{
+    match *mention {
+        Mention::Asked(atom) | Mention::Written(atom) | Mention::Function(atom) => {
+            add_unknown_objects(lines, domain, problem, atom.terms.as_slice())
+        }
+        Mention::Compared(left, right) => {
+            add_unknown_object(lines, domain, problem, left)?;
+            add_unknown_object(lines, domain, problem, right)
+        }
+        Mention::Variables(_) | Mention::Derives(_) => Ok(()),
+    }
 }
 
 fn add_unknown_objects(
     lines: &mut Vec<u64>,
     domain: &Domain,
     problem: &Problem,
-    terms: &[&Term],
+    terms: &[Term],
 ) -> Result<(), AllocError>
-    ensures { OnOk result (lines.new.items ≡ lines.old.items ++ flat_map (spec.unknown_object domain.now problem.now) (all_now terms.now)) }
+    ensures { OnOk result (lines.new.items ≡ lines.old.items ++ flat_map (spec.unknown_object domain.now problem.now) terms.now) }
 {
     for term in terms {
         add_unknown_object(lines, domain, problem, term)?;
@@ -237,10 +240,7 @@ fn add_unknown_object(
     match term {
         Term::Variable(_) => Ok(()),
         Term::Object(object) => {
-            if is_object(domain, problem, object) {
-                return Ok(());
-            }
-            Ok(lines.push(object.line)?)
+            add_line_if(lines, !is_object(domain, problem, object), object.line)
         }
     }
 }
@@ -272,14 +272,30 @@ pub(crate) fn written_derived(
 ) -> Result<Vec<u64>, AllocError>
     ensures { IfOk result (λ lines. lines.items ≡ spec.written_derived domain.now (all_seen mentions.now)) }
 {
-    let names = written_predicates(alloc, mentions)?;
     let mut lines = Vec::new(alloc);
-    for named in &names {
-        if is_derived(domain, named) {
-            lines.push(named.line)?;
-        }
+    for mention in mentions {
+        add_written_derived(&mut lines, domain, mention)?;
     }
     Ok(lines)
+}
+
+fn add_written_derived(
+    lines: &mut Vec<u64>,
+    domain: &Domain,
+    mention: &Mention<'_>,
+) -> Result<(), AllocError>
+    ensures { OnOk result (lines.new.items ≡ lines.old.items ++ spec.written_derived domain.now (seen mention.now ∷ [])) }
+{
+    match *mention {
+        Mention::Written(atom) => {
+            add_line_if(
+                lines,
+                is_derived(domain, &atom.predicate),
+                atom.predicate.line,
+            )
+        }
+        _ => Ok(()),
+    }
 }
 
 fn is_derived(domain: &Domain, named: &Named) -> bool

@@ -5,13 +5,14 @@ ghost use Rattle.check_plain.specs.Shown.{increase_shown, increases_shown};
 ghost use Rattle.type_checker.specs.Increases as spec;
 ghost use Rattle.type_checker.specs.declared.increases.Depth.TheVariants.{Outermost};
 
+use crate::lines::add_line_if;
 use crate::uses::is_total_cost;
 use pddl_parser::{Action, Atom, Cost, Domain, Effect};
 use std::alloc::{AllocError, Global};
 use type_checker::Depth;
 
 /// An increase: whether it has the form that costs may have, apart from the others of its effect, and its line.
-#[derive(Clone, Copy, Debug)]
+#[derive(Clone, Copy)]
 struct Increase {
     is_formed: bool,
     line: u64,
@@ -42,19 +43,10 @@ fn add_ill_formed(lines: &mut Vec<u64>, increases: &[Increase]) -> Result<(), Al
     match increases {
         [] => Ok(()),
         [first, more @ ..] => {
-            add_first(lines, first)?;
+            add_line_if(lines, !first.is_formed, first.line)?;
             add_lines(lines, more)
         }
     }
-}
-
-fn add_first(lines: &mut Vec<u64>, first: &Increase) -> Result<(), AllocError>
-    ensures { OnOk result (lines.new.items ≡ lines.old.items ++ (if first.now.is_formed then [] else first.now.line ∷ [])) }
-{
-    if !first.is_formed {
-        lines.push(first.line)?;
-    }
-    Ok(())
 }
 
 fn add_lines(lines: &mut Vec<u64>, increases: &[Increase]) -> Result<(), AllocError>
@@ -76,12 +68,11 @@ fn add_increases(
     ensures { OnOk result (increases_shown increases.new.items ≡ increases_shown increases.old.items ++ spec.increases effect.now depth) }
 {
     match effect {
-        Effect::Nothing(_) => Ok(()),
-        Effect::Add(_) => Ok(()),
-        Effect::Delete(_) => Ok(()),
+        Effect::Nothing(_) | Effect::Add(_) | Effect::Delete(_) => Ok(()),
         Effect::And(members, _) => add_in_members(increases, members.as_slice(), depth),
-        Effect::When(_, inside, _) => add_increases(increases, inside.get(), Depth::Inner),
-        Effect::Forall(_, inside, _) => add_increases(increases, inside.get(), Depth::Inner),
+        Effect::When(_, inside, _) | Effect::Forall(_, inside, _) => {
+            add_increases(increases, inside.get(), Depth::Inner)
+        }
         Effect::Increase(term, cost, line) => {
             Ok(increases.push(increase_of(term, cost, *line, depth))?)
         }
@@ -118,8 +109,7 @@ fn joined_depth(depth: Depth) -> Depth
 {
     match depth {
         Depth::Outermost => Depth::Joined,
-        Depth::Joined => Depth::Inner,
-        Depth::Inner => Depth::Inner,
+        Depth::Joined | Depth::Inner => Depth::Inner,
     }
 }
 
@@ -127,8 +117,7 @@ fn may_stand(depth: Depth) -> bool
     ensures { result ≡ spec.may_stand depth }
 {
     match depth {
-        Depth::Outermost => true,
-        Depth::Joined => true,
+        Depth::Outermost | Depth::Joined => true,
         Depth::Inner => false,
     }
 }

@@ -9,6 +9,7 @@ ghost use Rattle.pddl_parser.specs.Step as step;
 ghost use Rattle.pddl_parser.specs.Words.{is_same};
 ghost use Rattle.type_checker.specs.Initial as spec;
 
+use crate::lines::add_line_if;
 use pddl_parser::{Atom, Init, Term};
 use std::alloc::{AllocError, Global};
 
@@ -29,14 +30,8 @@ fn add_denied(lines: &mut Vec<u64>, init: &[Init], entry: &Init) -> Result<(), A
     ensures { OnOk result (lines.new.items ≡ lines.old.items ++ spec.denied_line init.now entry.now) }
 {
     match entry {
-        Init::Holds(_) => Ok(()),
-        Init::HoldsNot(atom, line) => {
-            if is_stated(init, atom) {
-                lines.push(*line)?;
-            }
-            Ok(())
-        }
-        Init::Value(_, _, _) => Ok(()),
+        Init::HoldsNot(atom, line) => add_line_if(lines, is_stated(init, atom), *line),
+        _ => Ok(()),
     }
 }
 
@@ -56,8 +51,7 @@ fn states(entry: &Init, atom: &Atom) -> bool
 {
     match entry {
         Init::Holds(known) => is_same_ground(known, atom),
-        Init::HoldsNot(_, _) => false,
-        Init::Value(_, _, _) => false,
+        _ => false,
     }
 }
 
@@ -78,14 +72,10 @@ fn add_revalued(lines: &mut Vec<u64>, before: &[Init], entry: &Init) -> Result<(
     ensures { OnOk result (lines.new.items ≡ lines.old.items ++ spec.revalued_line before.now entry.now) }
 {
     match entry {
-        Init::Holds(_) => Ok(()),
-        Init::HoldsNot(_, _) => Ok(()),
         Init::Value(term, value, line) => {
-            if is_another(value_in(before, term), *value) {
-                lines.push(*line)?;
-            }
-            Ok(())
+            add_line_if(lines, is_another(value_in(before, term), *value), *line)
         }
+        _ => Ok(()),
     }
 }
 

@@ -6,6 +6,7 @@ mod declarations;
 mod faults;
 mod increases;
 mod initial;
+mod lines;
 mod links;
 mod listed;
 mod scopes;

@@ -1,18 +1,19 @@
 // Types above themselves, and derived predicates that depend on themselves.
 ghost use Rattle.std.specs.Prelude.{◌≡◌, ◌++◌, map, IfOk, OnOk};
-ghost use Rattle.std.specs.List.{filter, flat_map};
-ghost use Rattle.check_plain.specs.Shown.{all_now, links_shown};
+ghost use Rattle.check_plain.specs.Shown.{links_shown};
 ghost use Rattle.type_checker.specs.Faults as faults;
 ghost use Rattle.type_checker.specs.Links as spec;
 ghost use Rattle.type_checker.specs.Links.{link};
+ghost use Rattle.type_checker.specs.Mentions.{asked_predicates};
+ghost use Rattle.type_checker.specs.Seen.{seen};
 
-use crate::listed::asked_predicates;
-use pddl_parser::{Derived, Domain, Named, Typed};
+use crate::lines::add_line_if;
+use pddl_parser::{Derived, Domain, Typed};
 use std::alloc::{AllocError, Global};
-use type_checker::mentions::mentions_in_condition;
+use type_checker::mentions::{Mention, mentions_in_condition};
 
 /// A link from a name to a name.
-#[derive(Clone, Copy, Debug)]
+#[derive(Clone, Copy)]
 struct Link<'a> {
     from: &'a [u8],
     to: &'a [u8],
@@ -24,17 +25,10 @@ pub(crate) fn type_cycles(alloc: Global, domain: &Domain) -> Result<Vec<u64>, Al
 {
     let types = domain.types.as_slice();
     let links = type_links(alloc, types)?;
-    cyclic_types(alloc, &links, types)
-}
-
-fn cyclic_types(alloc: Global, links: &[Link], types: &[Typed]) -> Result<Vec<u64>, AllocError>
-    ensures { IfOk result (λ lines. lines.items ≡ map (λ entry. entry.name.line) (filter (λ entry. spec.is_on_cycle (links_shown links.now) entry.name.name) types.now)) }
-{
     let mut lines = Vec::new(alloc);
     for entry in types {
-        if is_on_cycle(links, entry.name.name.as_slice()) {
-            lines.push(entry.name.line)?;
-        }
+        let is_cyclic = is_on_cycle(&links, entry.name.name.as_slice());
+        add_line_if(&mut lines, is_cyclic, entry.name.line)?;
     }
     Ok(lines)
 }
@@ -45,17 +39,10 @@ pub(crate) fn recursive_axioms(alloc: Global, domain: &Domain) -> Result<Vec<u64
 {
     let axioms = domain.axioms.as_slice();
     let links = axiom_links(alloc, axioms)?;
-    cyclic_axioms(alloc, &links, axioms)
-}
-
-fn cyclic_axioms(alloc: Global, links: &[Link], axioms: &[Derived]) -> Result<Vec<u64>, AllocError>
-    ensures { IfOk result (λ lines. lines.items ≡ map (λ rule. rule.line) (filter (λ rule. spec.is_on_cycle (links_shown links.now) rule.head.name.name) axioms.now)) }
-{
     let mut lines = Vec::new(alloc);
     for rule in axioms {
-        if is_on_cycle(links, rule.head.name.name.as_slice()) {
-            lines.push(rule.line)?;
-        }
+        let is_recursive = is_on_cycle(&links, rule.head.name.name.as_slice());
+        add_line_if(&mut lines, is_recursive, rule.line)?;
     }
     Ok(lines)
 }
@@ -112,18 +99,8 @@ fn add_supertype_links<'a>(links: &mut Vec<Link<'a>>, entry: &'a Typed) -> Resul
     if from == b"object".as_slice() {
         return Ok(());
     }
-    add_links(links, from, entry.types.as_slice())
-}
-
-fn add_links<'a>(
-    links: &mut Vec<Link<'a>>,
-    from: &'a [u8],
-    names: &'a [Named],
-) -> Result<(), AllocError>
-    ensures { OnOk result (links_shown links.new.items ≡ links_shown links.old.items ++ map (λ named. link from.now named.name) names.now) }
-{
-    for named in names {
-        let to = named.name.as_slice();
+    for supertype in entry.types.as_slice() {
+        let to = supertype.name.as_slice();
         links.push(Link { from, to })?;
     }
     Ok(())
@@ -147,20 +124,26 @@ fn add_dependence_links<'a>(
 ) -> Result<(), AllocError>
     ensures { OnOk result (links_shown links.new.items ≡ links_shown links.old.items ++ spec.dependence_links rule.now) }
 {
-    let asked = asked_predicates(alloc, &mentions_in_condition(alloc, &rule.body)?)?;
-    add_asked_links(links, rule.head.name.name.as_slice(), &asked)
-}
-
-fn add_asked_links<'a>(
-    links: &mut Vec<Link<'a>>,
-    from: &'a [u8],
-    asked: &[&'a Named],
-) -> Result<(), AllocError>
-    ensures { OnOk result (links_shown links.new.items ≡ links_shown links.old.items ++ map (λ predicate. link from.now predicate.name) (all_now asked.now)) }
-{
-    for named in asked {
-        let to = named.name.as_slice();
-        links.push(Link { from, to })?;
+    let mentions = mentions_in_condition(alloc, &rule.body)?;
+    let from = rule.head.name.name.as_slice();
+    for mention in &mentions {
+        add_asked_link(links, from, mention)?;
     }
     Ok(())
+}
+
+fn add_asked_link<'a>(
+    links: &mut Vec<Link<'a>>,
+    from: &'a [u8],
+    mention: &Mention<'a>,
+) -> Result<(), AllocError>
+    ensures { OnOk result (links_shown links.new.items ≡ links_shown links.old.items ++ map (λ predicate. link from.now predicate.name) (asked_predicates (seen mention.now))) }
+{
+    match *mention {
+        Mention::Asked(atom) => {
+            let to = atom.predicate.name.as_slice();
+            Ok(links.push(Link { from, to })?)
+        }
+        _ => Ok(()),
+    }
 }

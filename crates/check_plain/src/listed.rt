@@ -22,19 +22,6 @@ pub(crate) fn add_names<'a>(names: &mut Vec<&'a Named>, more: &'a [Named]) -> Re
     Ok(())
 }
 
-/// Puts the names that the list declares at the end of the list.
-pub(crate) fn add_typed_names<'a>(
-    names: &mut Vec<&'a Named>,
-    list: &'a [Typed],
-) -> Result<(), AllocError>
-    ensures { OnOk result (all_now names.new.items ≡ all_now names.old.items ++ names_of list.now) }
-{
-    for typed in list {
-        names.push(&typed.name)?;
-    }
-    Ok(())
-}
-
 /// Puts the types of the list at the end of the list.
 pub(crate) fn add_types<'a>(types: &mut Vec<&'a Named>, list: &'a [Typed]) -> Result<(), AllocError>
     ensures { OnOk result (all_now types.new.items ≡ all_now types.old.items ++ types_of list.now) }
@@ -49,8 +36,23 @@ pub(crate) fn names_of<'a>(alloc: Global, list: &'a [Typed]) -> Result<Vec<&'a N
     ensures { IfOk result (λ names. all_now names.items ≡ names_of list.now) }
 {
     let mut names = Vec::new(alloc);
-    add_typed_names(&mut names, list)?;
+    for typed in list {
+        names.push(&typed.name)?;
+    }
     Ok(names)
+}
+
+/// Puts the names that the list declares at the end of the list, without their lines.
+pub(crate) fn add_declared<'a>(
+    names: &mut Vec<&'a [u8]>,
+    list: &'a [Typed],
+) -> Result<(), AllocError>
+    ensures { OnOk result (all_now names.new.items ≡ all_now names.old.items ++ map (λ typed. typed.name.name) list.now) }
+{
+    for typed in list {
+        names.push(typed.name.name.as_slice())?;
+    }
+    Ok(())
 }
 
 pub(crate) fn head_names(alloc: Global, heads: &[Head]) -> Result<Vec<&Named>, AllocError>
@@ -73,21 +75,6 @@ pub(crate) fn action_names(alloc: Global, actions: &[Action]) -> Result<Vec<&Nam
     Ok(names)
 }
 
-// ---- lists of variables
-
-pub(crate) fn listed_variables<'a>(mention: &Mention<'a>) -> &'a [Typed]
-    ensures { result.now ≡ spec.listed_variables (seen mention.now) }
-{
-    match *mention {
-        Mention::Variables(variables) => variables,
-        Mention::Derives(_) => &[],
-        Mention::Asked(_) => &[],
-        Mention::Written(_) => &[],
-        Mention::Function(_) => &[],
-        Mention::Compared(_, _) => &[],
-    }
-}
-
 /// Puts the types of the lists of variables at the end of the list.
 pub(crate) fn add_mentioned_types<'a>(
     types: &mut Vec<&'a Named>,
@@ -96,7 +83,7 @@ pub(crate) fn add_mentioned_types<'a>(
     ensures { OnOk result (all_now types.new.items ≡ all_now types.old.items ++ flat_map (λ mention. types_of (spec.listed_variables mention)) (all_seen mentions.now)) }
 {
     for mention in mentions {
-        add_types(types, listed_variables(mention))?;
+        add_types(types, mention.listed_variables())?;
     }
     Ok(())
 }
@@ -104,7 +91,7 @@ pub(crate) fn add_mentioned_types<'a>(
 // ---- uses of predicates and functions
 
 /// A predicate or a function with so many arguments.
-#[derive(Clone, Copy, Debug)]
+#[derive(Clone, Copy)]
 pub(crate) struct Usage<'a> {
     pub(crate) name: &'a Named,
     pub(crate) arity: usize,
@@ -128,16 +115,6 @@ fn use_of(atom: &Atom) -> Usage<'_>
     }
 }
 
-pub(crate) fn head_uses(alloc: Global, heads: &[Head]) -> Result<Vec<Usage<'_>>, AllocError>
-    ensures { IfOk result (λ uses. uses_shown uses.items ≡ map spec.head_use heads.now) }
-{
-    let mut uses = Vec::new(alloc);
-    for head in heads {
-        uses.push(head_use(head))?;
-    }
-    Ok(uses)
-}
-
 /// The predicates that are mentioned.
 pub(crate) fn predicate_uses<'a>(
     alloc: Global,
@@ -157,11 +134,8 @@ fn add_predicate_use<'a>(uses: &mut Vec<Usage<'a>>, mention: &Mention<'a>) -> Re
 {
     match *mention {
         Mention::Derives(head) => Ok(uses.push(head_use(head))?),
-        Mention::Asked(atom) => Ok(uses.push(use_of(atom))?),
-        Mention::Written(atom) => Ok(uses.push(use_of(atom))?),
-        Mention::Variables(_) => Ok(()),
-        Mention::Function(_) => Ok(()),
-        Mention::Compared(_, _) => Ok(()),
+        Mention::Asked(atom) | Mention::Written(atom) => Ok(uses.push(use_of(atom))?),
+        _ => Ok(()),
     }
 }
 
@@ -184,120 +158,6 @@ fn add_function_use<'a>(uses: &mut Vec<Usage<'a>>, mention: &Mention<'a>) -> Res
 {
     match *mention {
         Mention::Function(term) => Ok(uses.push(use_of(term))?),
-        Mention::Variables(_) => Ok(()),
-        Mention::Derives(_) => Ok(()),
-        Mention::Asked(_) => Ok(()),
-        Mention::Written(_) => Ok(()),
-        Mention::Compared(_, _) => Ok(()),
+        _ => Ok(()),
     }
-}
-
-/// The names of the predicates or functions that are used.
-pub(crate) fn used_names<'a>(
-    alloc: Global,
-    uses: &[Usage<'a>],
-) -> Result<Vec<&'a Named>, AllocError>
-    ensures { IfOk result (λ names. all_now names.items ≡ map (λ usage. usage.name) (uses_shown uses.now)) }
-{
-    let mut names = Vec::new(alloc);
-    for usage in uses {
-        names.push(usage.name)?;
-    }
-    Ok(names)
-}
-
-/// The predicates that are added or denied.
-pub(crate) fn written_predicates<'a>(
-    alloc: Global,
-    mentions: &[Mention<'a>],
-) -> Result<Vec<&'a Named>, AllocError>
-    ensures { IfOk result (λ names. all_now names.items ≡ flat_map spec.written_predicates (all_seen mentions.now)) }
-{
-    let mut names = Vec::new(alloc);
-    for mention in mentions {
-        add_written(&mut names, mention)?;
-    }
-    Ok(names)
-}
-
-fn add_written<'a>(names: &mut Vec<&'a Named>, mention: &Mention<'a>) -> Result<(), AllocError>
-    ensures { OnOk result (all_now names.new.items ≡ all_now names.old.items ++ spec.written_predicates (seen mention.now)) }
-{
-    match *mention {
-        Mention::Written(atom) => Ok(names.push(&atom.predicate)?),
-        Mention::Variables(_) => Ok(()),
-        Mention::Derives(_) => Ok(()),
-        Mention::Asked(_) => Ok(()),
-        Mention::Function(_) => Ok(()),
-        Mention::Compared(_, _) => Ok(()),
-    }
-}
-
-/// The predicates that are asked for.
-pub(crate) fn asked_predicates<'a>(
-    alloc: Global,
-    mentions: &[Mention<'a>],
-) -> Result<Vec<&'a Named>, AllocError>
-    ensures { IfOk result (λ names. all_now names.items ≡ flat_map spec.asked_predicates (all_seen mentions.now)) }
-{
-    let mut names = Vec::new(alloc);
-    for mention in mentions {
-        add_asked(&mut names, mention)?;
-    }
-    Ok(names)
-}
-
-fn add_asked<'a>(names: &mut Vec<&'a Named>, mention: &Mention<'a>) -> Result<(), AllocError>
-    ensures { OnOk result (all_now names.new.items ≡ all_now names.old.items ++ spec.asked_predicates (seen mention.now)) }
-{
-    match *mention {
-        Mention::Asked(atom) => Ok(names.push(&atom.predicate)?),
-        Mention::Variables(_) => Ok(()),
-        Mention::Derives(_) => Ok(()),
-        Mention::Written(_) => Ok(()),
-        Mention::Function(_) => Ok(()),
-        Mention::Compared(_, _) => Ok(()),
-    }
-}
-
-// ---- arguments
-
-/// The arguments of what is mentioned.
-pub(crate) fn arguments<'a>(
-    alloc: Global,
-    mentions: &[Mention<'a>],
-) -> Result<Vec<&'a Term>, AllocError>
-    ensures { IfOk result (λ terms. all_now terms.items ≡ flat_map spec.arguments (all_seen mentions.now)) }
-{
-    let mut terms = Vec::new(alloc);
-    for mention in mentions {
-        add_arguments(&mut terms, mention)?;
-    }
-    Ok(terms)
-}
-
-fn add_arguments<'a>(terms: &mut Vec<&'a Term>, mention: &Mention<'a>) -> Result<(), AllocError>
-    ensures { OnOk result (all_now terms.new.items ≡ all_now terms.old.items ++ spec.arguments (seen mention.now)) }
-{
-    match *mention {
-        Mention::Asked(atom) => add_terms(terms, atom.terms.as_slice()),
-        Mention::Written(atom) => add_terms(terms, atom.terms.as_slice()),
-        Mention::Function(term) => add_terms(terms, term.terms.as_slice()),
-        Mention::Compared(left, right) => {
-            terms.push(left)?;
-            terms.push(right)?;
-            Ok(())
-        }
-        Mention::Variables(_) => Ok(()),
-        Mention::Derives(_) => Ok(()),
-    }
-}
-
-fn add_terms<'a>(terms: &mut Vec<&'a Term>, more: &'a [Term]) -> Result<(), AllocError>
-    ensures { OnOk result (all_now terms.new.items ≡ all_now terms.old.items ++ more.now) }
-{
-    for term in more {
-        terms.push(term)?;
-    }
-    Ok(())
 }

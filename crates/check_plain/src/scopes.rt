@@ -5,6 +5,8 @@ ghost use Rattle.check_plain.specs.Shown.{all_now};
 ghost use Rattle.type_checker.specs.Scopes as spec;
 
 use crate::declarations::is_among;
+use crate::lines::add_line_if;
+use crate::listed::add_declared;
 use pddl_parser::{Action, Condition, Cost, Derived, Domain, Effect, Init, Problem, Term, Typed};
 use std::alloc::{AllocError, Global};
 
@@ -49,16 +51,10 @@ fn add_in_axioms(alloc: Global, lines: &mut Vec<u64>, axioms: &[Derived]) -> Res
     ensures { OnOk result (lines.new.items ≡ lines.old.items ++ flat_map spec.in_axiom axioms.now) }
 {
     for rule in axioms {
-        add_in_axiom(alloc, lines, rule)?;
+        let scope = inside_of(alloc, rule.head.variables.as_slice(), &[])?;
+        add_in_condition(alloc, lines, &scope, &rule.body)?;
     }
     Ok(())
-}
-
-fn add_in_axiom(alloc: Global, lines: &mut Vec<u64>, rule: &Derived) -> Result<(), AllocError>
-    ensures { OnOk result (lines.new.items ≡ lines.old.items ++ spec.in_axiom rule.now) }
-{
-    let scope = inside_of(alloc, rule.head.variables.as_slice(), &[])?;
-    add_in_condition(alloc, lines, &scope, &rule.body)
 }
 
 fn add_in_init(lines: &mut Vec<u64>, init: &[Init]) -> Result<(), AllocError>
@@ -74,9 +70,9 @@ fn add_in_entry(lines: &mut Vec<u64>, entry: &Init) -> Result<(), AllocError>
     ensures { OnOk result (lines.new.items ≡ lines.old.items ++ spec.in_init entry.now) }
 {
     match entry {
-        Init::Holds(atom) => add_unbound_terms(lines, &[], atom.terms.as_slice()),
-        Init::HoldsNot(atom, _) => add_unbound_terms(lines, &[], atom.terms.as_slice()),
-        Init::Value(term, _, _) => add_unbound_terms(lines, &[], term.terms.as_slice()),
+        Init::Holds(atom) | Init::HoldsNot(atom, _) | Init::Value(atom, _, _) => {
+            add_unbound_terms(lines, &[], atom.terms.as_slice())
+        }
     }
 }
 
@@ -99,17 +95,14 @@ fn add_in_condition<'a>(
             add_unbound_term(lines, scope, right)
         }
         Condition::Not(inside, _) => add_in_condition(alloc, lines, scope, inside.get()),
-        Condition::And(members, _) => add_in_conditions(alloc, lines, scope, members.as_slice()),
-        Condition::Or(members, _) => add_in_conditions(alloc, lines, scope, members.as_slice()),
+        Condition::And(members, _) | Condition::Or(members, _) => {
+            add_in_conditions(alloc, lines, scope, members.as_slice())
+        }
         Condition::Imply(premise, conclusion, _) => {
             add_in_condition(alloc, lines, scope, premise.get())?;
             add_in_condition(alloc, lines, scope, conclusion.get())
         }
-        Condition::Forall(variables, inside, _) => {
-            let inner = inside_of(alloc, variables.as_slice(), scope)?;
-            add_in_condition(alloc, lines, &inner, inside.get())
-        }
-        Condition::Exists(variables, inside, _) => {
+        Condition::Forall(variables, inside, _) | Condition::Exists(variables, inside, _) => {
             let inner = inside_of(alloc, variables.as_slice(), scope)?;
             add_in_condition(alloc, lines, &inner, inside.get())
         }
@@ -142,8 +135,9 @@ fn add_in_effect<'a>(
 {
     match effect {
         Effect::Nothing(_) => Ok(()),
-        Effect::Add(atom) => add_unbound_terms(lines, scope, atom.terms.as_slice()),
-        Effect::Delete(atom) => add_unbound_terms(lines, scope, atom.terms.as_slice()),
+        Effect::Add(atom) | Effect::Delete(atom) => {
+            add_unbound_terms(lines, scope, atom.terms.as_slice())
+        }
         Effect::And(members, _) => add_in_effects(alloc, lines, scope, members.as_slice()),
         Effect::When(condition, inside, _) => {
             add_in_condition(alloc, lines, scope, condition)?;
@@ -204,10 +198,8 @@ fn add_unbound_term(lines: &mut Vec<u64>, scope: &[&[u8]], term: &Term) -> Resul
 {
     match term {
         Term::Variable(variable) => {
-            if !is_among(variable.name.as_slice(), scope) {
-                lines.push(variable.line)?;
-            }
-            Ok(())
+            let is_bound = is_among(variable.name.as_slice(), scope);
+            add_line_if(lines, !is_bound, variable.line)
         }
         Term::Object(_) => Ok(()),
     }
@@ -222,25 +214,7 @@ fn inside_of<'a>(
     ensures { IfOk result (λ inner. all_now inner.items ≡ spec.inside_of variables.now (all_now scope.now)) }
 {
     let mut inner = Vec::new(alloc);
-    add_variables(&mut inner, variables)?;
-    add_scope(&mut inner, scope)?;
+    add_declared(&mut inner, variables)?;
+    inner.extend_from_slice(scope)?;
     Ok(inner)
-}
-
-fn add_variables<'a>(names: &mut Vec<&'a [u8]>, variables: &'a [Typed]) -> Result<(), AllocError>
-    ensures { OnOk result (all_now names.new.items ≡ all_now names.old.items ++ map (λ variable. variable.name.name) variables.now) }
-{
-    for variable in variables {
-        names.push(variable.name.name.as_slice())?;
-    }
-    Ok(())
-}
-
-fn add_scope<'a>(names: &mut Vec<&'a [u8]>, scope: &[&'a [u8]]) -> Result<(), AllocError>
-    ensures { OnOk result (all_now names.new.items ≡ all_now names.old.items ++ all_now scope.now) }
-{
-    for name in scope {
-        names.push(*name)?;
-    }
-    Ok(())
 }

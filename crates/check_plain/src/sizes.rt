@@ -4,6 +4,7 @@ ghost use Rattle.std.specs.List.{flat_map};
 ghost use Rattle.check_plain.specs.Cuts.{cap, cut};
 ghost use Rattle.type_checker.specs.Sizes as spec;
 
+use crate::lines::add_line_if;
 use pddl_parser::{Action, Condition, Derived, Domain, Effect, Problem};
 use std::alloc::{AllocError, Global};
 
@@ -62,16 +63,15 @@ fn add_in_effect(lines: &mut Vec<u64>, around: u64, effect: &Effect) -> Result<(
     ensures { OnOk result (lines.new.items ≡ lines.old.items ++ spec.too_large (spec.effect_cuts effect.now around)) }
 {
     match effect {
-        Effect::Nothing(_) => Ok(()),
-        Effect::Add(_) => Ok(()),
-        Effect::Delete(_) => Ok(()),
+        Effect::Nothing(_) | Effect::Add(_) | Effect::Delete(_) | Effect::Increase(_, _, _) => {
+            Ok(())
+        }
         Effect::And(members, _) => add_in_effects(lines, around, members.as_slice()),
         Effect::When(condition, inside, _) => {
             add_beside(lines, around, condition)?;
             add_in_effect(lines, parts_beside(around, condition), inside.get())
         }
         Effect::Forall(_, inside, _) => add_in_effect(lines, around, inside.get()),
-        Effect::Increase(_, _, _) => Ok(()),
     }
 }
 
@@ -105,10 +105,7 @@ fn parts_beside(around: u64, condition: &Condition) -> u64
 fn add_cut(lines: &mut Vec<u64>, parts: u64, line: u64) -> Result<(), AllocError>
     ensures { OnOk result (lines.new.items ≡ lines.old.items ++ spec.too_large (cut parts line ∷ [])) }
 {
-    if parts > MOST_PARTS {
-        lines.push(line)?;
-    }
-    Ok(())
+    add_line_if(lines, parts > MOST_PARTS, line)
 }
 
 /// Puts the lines of the quantifiers that are replaced, with too many parts, at the end of the list. It is those of
@@ -122,12 +119,11 @@ fn add_replaced(
     ensures { OnOk result (lines.new.items ≡ lines.old.items ++ spec.too_large (spec.size_of condition.now positive).replaced) }
 {
     match condition {
-        Condition::True(_) => Ok(()),
-        Condition::Atom(_) => Ok(()),
-        Condition::Equal(_, _, _) => Ok(()),
+        Condition::True(_) | Condition::Atom(_) | Condition::Equal(_, _, _) => Ok(()),
         Condition::Not(inside, _) => add_replaced(lines, inside.get(), !positive),
-        Condition::And(members, _) => add_replaced_in_all(lines, members.as_slice(), positive),
-        Condition::Or(members, _) => add_replaced_in_all(lines, members.as_slice(), positive),
+        Condition::And(members, _) | Condition::Or(members, _) => {
+            add_replaced_in_all(lines, members.as_slice(), positive)
+        }
         Condition::Imply(premise, conclusion, _) => {
             add_replaced(lines, premise.get(), !positive)?;
             add_replaced(lines, conclusion.get(), positive)

@@ -8,8 +8,9 @@ ghost use Rattle.type_checker.specs.Mentions.{predicate_uses, function_uses};
 ghost use Rattle.type_checker.specs.Names as spec;
 ghost use Rattle.type_checker.specs.Seen.{all_seen};
 
-use crate::listed::{Usage, function_uses, head_uses, predicate_uses, used_names};
-use pddl_parser::{Domain, Head, Named};
+use crate::lines::add_line_if;
+use crate::listed::{Usage, function_uses, predicate_uses};
+use pddl_parser::{Domain, Head};
 use std::alloc::{AllocError, Global};
 use type_checker::mentions::{Mention, mentions_in_domain};
 
@@ -23,12 +24,11 @@ pub(crate) fn unknown_predicates(
 ) -> Result<Vec<u64>, AllocError>
     ensures { IfOk result (λ lines. lines.items ≡ spec.unknown_predicates domain.now (all_seen mentions.now)) }
 {
-    let names = used_names(alloc, &predicate_uses(alloc, mentions)?)?;
+    let uses = predicate_uses(alloc, mentions)?;
     let mut lines = Vec::new(alloc);
-    for named in &names {
-        if !is_declared(domain.predicates.as_slice(), named) {
-            lines.push(named.line)?;
-        }
+    for usage in &uses {
+        let is_known = is_declared(domain.predicates.as_slice(), usage.name.name.as_slice());
+        add_line_if(&mut lines, !is_known, usage.name.line)?;
     }
     Ok(lines)
 }
@@ -41,28 +41,27 @@ pub(crate) fn unknown_functions(
 ) -> Result<Vec<u64>, AllocError>
     ensures { IfOk result (λ lines. lines.items ≡ spec.unknown_functions domain.now (all_seen mentions.now)) }
 {
-    let names = used_names(alloc, &function_uses(alloc, mentions)?)?;
+    let uses = function_uses(alloc, mentions)?;
     let mut lines = Vec::new(alloc);
-    for named in &names {
-        if !is_function(domain, named) {
-            lines.push(named.line)?;
-        }
+    for usage in &uses {
+        let is_known = is_function(domain, usage.name.name.as_slice());
+        add_line_if(&mut lines, !is_known, usage.name.line)?;
     }
     Ok(lines)
 }
 
 /// Whether the function is declared, or needs no declaration.
-fn is_function(domain: &Domain, named: &Named) -> bool
-    ensures { result ≡ spec.is_function domain.now named.now.name }
+fn is_function(domain: &Domain, name: &[u8]) -> bool
+    ensures { result ≡ spec.is_function domain.now name.now }
 {
-    is_declared(domain.functions.as_slice(), named) || is_total_cost(named.name.as_slice())
+    is_declared(domain.functions.as_slice(), name) || is_total_cost(name)
 }
 
-fn is_declared(heads: &[Head], named: &Named) -> bool
-    ensures { result ≡ spec.is_declared heads.now named.now.name }
+fn is_declared(heads: &[Head], name: &[u8]) -> bool
+    ensures { result ≡ spec.is_declared heads.now name.now }
 {
     for head in heads {
-        if head.name.name.as_slice() == named.name.as_slice() {
+        if head.name.name.as_slice() == name {
             return true;
         }
     }
@@ -86,8 +85,9 @@ pub(crate) fn wrong_arities_in_domain(
 {
     let mentions = mentions_in_domain(alloc, domain)?;
     let mut lines = Vec::new(alloc);
-    add_total_cost_heads(alloc, &mut lines, domain)?;
-    add_wrong_uses(alloc, &mut lines, domain, &mentions)?;
+    add_total_cost_heads(&mut lines, domain)?;
+    add_wrong_predicates(alloc, &mut lines, domain, &mentions)?;
+    add_wrong_functions(alloc, &mut lines, domain, &mentions)?;
     Ok(lines)
 }
 
@@ -100,20 +100,9 @@ pub(crate) fn wrong_uses(
     ensures { IfOk result (λ lines. lines.items ≡ spec.wrong_uses domain.now (all_seen mentions.now)) }
 {
     let mut lines = Vec::new(alloc);
-    add_wrong_uses(alloc, &mut lines, domain, mentions)?;
+    add_wrong_predicates(alloc, &mut lines, domain, mentions)?;
+    add_wrong_functions(alloc, &mut lines, domain, mentions)?;
     Ok(lines)
-}
-
-fn add_wrong_uses(
-    alloc: Global,
-    lines: &mut Vec<u64>,
-    domain: &Domain,
-    mentions: &[Mention<'_>],
-) -> Result<(), AllocError>
-    ensures { OnOk result (lines.new.items ≡ lines.old.items ++ spec.wrong_uses domain.now (all_seen mentions.now)) }
-{
-    add_wrong_predicates(alloc, lines, domain, mentions)?;
-    add_wrong_functions(alloc, lines, domain, mentions)
 }
 
 fn add_wrong_predicates(
@@ -126,9 +115,8 @@ fn add_wrong_predicates(
 {
     let uses = predicate_uses(alloc, mentions)?;
     for usage in &uses {
-        if !has_arity(domain.predicates.as_slice(), usage) {
-            lines.push(usage.name.line)?;
-        }
+        let is_right = has_arity(domain.predicates.as_slice(), usage);
+        add_line_if(lines, !is_right, usage.name.line)?;
     }
     Ok(())
 }
@@ -143,9 +131,8 @@ fn add_wrong_functions(
 {
     let uses = function_uses(alloc, mentions)?;
     for usage in &uses {
-        if !is_well_used(domain, usage) {
-            lines.push(usage.name.line)?;
-        }
+        let is_right = is_well_used(domain, usage);
+        add_line_if(lines, !is_right, usage.name.line)?;
     }
     Ok(())
 }
@@ -176,33 +163,21 @@ fn is_well_used(domain: &Domain, usage: &Usage<'_>) -> bool
     let functions = domain.functions.as_slice();
     has_arity(functions, usage)
         || is_total_cost(usage.name.name.as_slice())
-            && !declares_total_cost(functions)
+            && !is_declared(functions, b"total-cost".as_slice())
             && usage.arity == 0
 }
 
-fn declares_total_cost(heads: &[Head]) -> bool
-    ensures { result ≡ spec.is_declared heads.now total_cost }
-{
-    for head in heads {
-        if is_total_cost(head.name.name.as_slice()) {
-            return true;
-        }
-    }
-    false
-}
-
-fn add_total_cost_heads(
-    alloc: Global,
-    lines: &mut Vec<u64>,
-    domain: &Domain,
-) -> Result<(), AllocError>
+fn add_total_cost_heads(lines: &mut Vec<u64>, domain: &Domain) -> Result<(), AllocError>
     ensures { OnOk result (lines.new.items ≡ lines.old.items ++ spec.total_cost_heads domain.now) }
 {
-    let uses = head_uses(alloc, domain.functions.as_slice())?;
-    for usage in &uses {
-        if is_total_cost(usage.name.name.as_slice()) && usage.arity != 0 {
-            lines.push(usage.name.line)?;
-        }
+    for head in domain.functions.as_slice() {
+        add_line_if(lines, is_total_cost_of_some(head), head.name.line)?;
     }
     Ok(())
+}
+
+fn is_total_cost_of_some(head: &Head) -> bool
+    ensures { result ≡ (is_same head.now.name.name total_cost && not (length head.now.variables == 0)) }
+{
+    is_total_cost(head.name.name.as_slice()) && !head.variables.as_slice().is_empty()
 }

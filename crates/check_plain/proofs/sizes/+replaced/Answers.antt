@@ -1,5 +1,12 @@
 use Rattle.std.proofs.Common.{◌≡◌, ℕ, List, subst}
 use Rattle.std.specs.Prelude.{OnOk}
+use Rattle.std.proofs.Common.{Bool, map, ap}
+use Rattle.std.specs.List.{flat_map}
+use Rattle.std.proofs.lemmas.List.{append-nil}
+use Rattle.pddl_parser.specs.declared.types.Condition.{Condition}
+use Rattle.type_checker.specs.Sizes.{Size, size_of, too_large}
+use Rattle.type_checker.proofs.Capping.{too_large_append}
+use Rattle.check_plain.proofs.Turns.{shown_join, pieces_join, more_added}
 use Rattle.check_plain.proofs.Capping.{imply_lines, forall_lines, exists_lines}
 use Rattle.check_plain.proofs.sizes.+replaced.Goals as goal
 
@@ -26,3 +33,15 @@ add_replaced-returns-in_ok-add_cut-in-Exists t c =
     c.get-else-positive-2.ensures c.get-else-positive-2-2.ensures c.args.positive c.parts_of-else-positive-2.result c.args.lines.now.items c.add_cut-else-positive-2.new.lines.items
     (c.in_ok-add_cut-in-Exists.ensures {u = tt}) c.in-Exists.is c.if-positive-2.false c.parts_of-else-positive-2.ensures)
     c.add_replaced-else-positive-2.ensures
+
+pub add_replaced_in_all-loop-member-preserved : goal.add_replaced_in_all-loop-member-preserved
+add_replaced_in_all-loop-member-preserved t c =
+    let of = λ (member : Bool → Size). member c.args.positive in
+    let replaced = λ (size : Size). size.replaced in
+    let cuts = (size_of c.member-item.result c.args.positive).replaced in
+    more_added (λ (members : List Condition). too_large (flat_map replaced (map of (map size_of members))))
+    (shown_join size_of (λ (members : List (Bool → Size)). too_large (flat_map replaced (map of members)))
+    (shown_join of (λ (sizes : List Size). too_large (flat_map replaced sizes)) (pieces_join replaced too_large too_large_append)))
+    c.args.members.now c.loop-member.member-index c.member-item.result c.loop-member-test.true c.member-item.is
+    c.args.lines.now.items (too_large cuts) c.loop-member.lines.items c.add_replaced.new.lines.items (ap too_large (append-nil cuts)) c.loop-member.invariant
+    (c.in_ok-add_replaced.ensures {u = tt})

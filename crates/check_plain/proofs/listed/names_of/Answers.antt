@@ -1,0 +1,9 @@
+use Rattle.std.proofs.Common.{refl}
+use Rattle.pddl_parser.specs.declared.types.Typed.{Typed}
+use Rattle.check_plain.proofs.Turns.{part_given}
+use Rattle.check_plain.proofs.listed.names_of.Goals as goal
+
+pub loop-typed-preserved : goal.loop-typed-preserved
+loop-typed-preserved c =
+    part_given (λ (typed : Typed). typed.name) c.args.list.now c.loop-typed.typed-index c.typed-item.result c.loop-typed-test.true c.typed-item.is c.loop-typed.names.items c.push.new.self.items _ refl
+    (c.in_ok-push.ensures {u = tt}).items c.loop-typed.invariant
