@@ -13,7 +13,7 @@ use crate::lines::add_line_if;
 use crate::listed::{
     action_names, add_declared, add_mentioned_types, add_types, head_names, names_of,
 };
-use pddl_parser::{Domain, Named, Problem, Term, Typed};
+use pddl_parser::{Action, Domain, Head, Named, Problem, Term, Typed};
 use std::alloc::{AllocError, Global};
 use type_checker::mentions::{Mention, mentions_in_domain, mentions_in_problem};
 
@@ -98,17 +98,12 @@ fn has_name(names: &[Named], name: &[u8]) -> bool
 pub(crate) fn repeats_in_domain(alloc: Global, domain: &Domain) -> Result<Vec<u64>, AllocError>
     ensures { IfOk result (λ lines. lines.items ≡ spec.domain_repeats domain.now) }
 {
-    let predicates = head_names(alloc, domain.predicates.as_slice())?;
-    let functions = head_names(alloc, domain.functions.as_slice())?;
-    let actions = action_names(alloc, domain.actions.as_slice())?;
-    let constants = names_of(alloc, domain.constants.as_slice())?;
-    let mentions = mentions_in_domain(alloc, domain)?;
     let mut lines = Vec::new(alloc);
-    add_repeats(alloc, &mut lines, &predicates)?;
-    add_repeats(alloc, &mut lines, &functions)?;
-    add_repeats(alloc, &mut lines, &actions)?;
-    add_repeats(alloc, &mut lines, &constants)?;
-    add_repeated_variables(alloc, &mut lines, &mentions)?;
+    add_repeated_heads(alloc, &mut lines, domain.predicates.as_slice())?;
+    add_repeated_heads(alloc, &mut lines, domain.functions.as_slice())?;
+    add_repeated_actions(alloc, &mut lines, domain.actions.as_slice())?;
+    add_repeated_names(alloc, &mut lines, domain.constants.as_slice())?;
+    add_repeated_variables(alloc, &mut lines, &mentions_in_domain(alloc, domain)?)?;
     Ok(lines)
 }
 
@@ -120,14 +115,24 @@ pub(crate) fn repeats_in_problem(
 ) -> Result<Vec<u64>, AllocError>
     ensures { IfOk result (λ lines. lines.items ≡ spec.problem_repeats domain.now problem.now) }
 {
+    let mut lines = Vec::new(alloc);
+    add_repeated_objects(alloc, &mut lines, domain, problem)?;
+    add_repeated_variables(alloc, &mut lines, &mentions_in_problem(alloc, problem)?)?;
+    Ok(lines)
+}
+
+fn add_repeated_objects(
+    alloc: Global,
+    lines: &mut Vec<u64>,
+    domain: &Domain,
+    problem: &Problem,
+) -> Result<(), AllocError>
+    ensures { OnOk result (lines.new.items ≡ lines.old.items ++ spec.repeats_after (map (λ constant. constant.name.name) domain.now.constants) (spec.names_of problem.now.objects)) }
+{
     let mut constants = Vec::new(alloc);
     add_declared(&mut constants, domain.constants.as_slice())?;
     let objects = names_of(alloc, problem.objects.as_slice())?;
-    let mentions = mentions_in_problem(alloc, problem)?;
-    let mut lines = Vec::new(alloc);
-    add_repeats_after(&mut lines, &mut constants, &objects)?;
-    add_repeated_variables(alloc, &mut lines, &mentions)?;
-    Ok(lines)
+    add_repeats_after(lines, &mut constants, &objects)
 }
 
 fn add_repeated_variables(
@@ -138,9 +143,31 @@ fn add_repeated_variables(
     ensures { OnOk result (lines.new.items ≡ lines.old.items ++ spec.repeated_variables (all_seen mentions.now)) }
 {
     for mention in mentions {
-        add_repeats(alloc, lines, &names_of(alloc, mention.listed_variables())?)?;
+        add_repeated_names(alloc, lines, mention.listed_variables())?;
     }
     Ok(())
+}
+
+fn add_repeated_names(alloc: Global, lines: &mut Vec<u64>, list: &[Typed]) -> Result<(), AllocError>
+    ensures { OnOk result (lines.new.items ≡ lines.old.items ++ spec.repeats (spec.names_of list.now)) }
+{
+    add_repeats(alloc, lines, &names_of(alloc, list)?)
+}
+
+fn add_repeated_heads(alloc: Global, lines: &mut Vec<u64>, heads: &[Head]) -> Result<(), AllocError>
+    ensures { OnOk result (lines.new.items ≡ lines.old.items ++ spec.repeats (spec.head_names heads.now)) }
+{
+    add_repeats(alloc, lines, &head_names(alloc, heads)?)
+}
+
+fn add_repeated_actions(
+    alloc: Global,
+    lines: &mut Vec<u64>,
+    actions: &[Action],
+) -> Result<(), AllocError>
+    ensures { OnOk result (lines.new.items ≡ lines.old.items ++ spec.repeats (map (λ action. action.name) actions.now)) }
+{
+    add_repeats(alloc, lines, &action_names(alloc, actions)?)
 }
 
 fn add_repeats(alloc: Global, lines: &mut Vec<u64>, names: &[&Named]) -> Result<(), AllocError>

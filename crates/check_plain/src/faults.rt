@@ -1,8 +1,10 @@
 // All kinds of faults, in their order, and the first that has any.
 ghost use Rattle.std.specs.Prelude.{◌≡◌, ◌≤◌, ◌++◌, length, map, IfOk, OnOk};
 ghost use Rattle.std.specs.List.{insert};
+ghost use Rattle.check_plain.specs.Given.{rows_of_uses, rows_of_arguments};
 ghost use Rattle.type_checker.specs.Faults as spec;
 ghost use Rattle.type_checker.specs.Lines.{placed, in_file_order};
+ghost use Rattle.type_checker.specs.Seen.{all_seen};
 ghost use Rattle.type_checker.specs.Rows.{name_rows, use_rows, argument_rows, state_rows, form_rows};
 
 use crate::declarations::{
@@ -14,13 +16,13 @@ use crate::initial::{denied_lines, revalued_lines};
 use crate::links::{recursive_axioms, type_cycles};
 use crate::scopes::{unbound_in_domain, unbound_in_problem};
 use crate::sizes::{too_large_in_domain, too_large_in_problem};
-use crate::uses::{unknown_functions, unknown_predicates, wrong_arities_in_domain, wrong_uses};
+use crate::uses::{unknown_functions, unknown_predicates, wrong_arities, wrong_uses};
 use pddl_lexer::{Fault, Kind};
 use pddl_parser::{Domain, Problem};
 use std::alloc::{AllocError, Global};
 use std::marker::Model;
 use type_checker::Side;
-use type_checker::mentions::{mentions_in_domain, mentions_in_problem};
+use type_checker::mentions::{Mention, mentions_in_domain, mentions_in_problem};
 
 /// The lines of one kind of fault in the two files. Contracts see the specification's row.
 #[derive(Drop)]
@@ -82,23 +84,23 @@ fn first_faults(alloc: Global, rows: &[Row]) -> Result<Vec<(Side, Fault)>, Alloc
 fn row_faults(alloc: Global, row: &Row) -> Result<Vec<(Side, Fault)>, AllocError>
     ensures { IfOk result (λ faults. faults.items ≡ spec.row_faults row.now) }
 {
-    let in_domain = in_file_order(alloc, &row.in_domain)?;
-    let in_problem = in_file_order(alloc, &row.in_problem)?;
     let mut faults = Vec::new(alloc);
-    add_faults(&mut faults, Side::Domain, row.kind, &in_domain)?;
-    add_faults(&mut faults, Side::Problem, row.kind, &in_problem)?;
+    add_faults(alloc, &mut faults, Side::Domain, row.kind, &row.in_domain)?;
+    add_faults(alloc, &mut faults, Side::Problem, row.kind, &row.in_problem)?;
     Ok(faults)
 }
 
 fn add_faults(
+    alloc: Global,
     faults: &mut Vec<(Side, Fault)>,
     side: Side,
     kind: Kind,
     lines: &[u64],
 ) -> Result<(), AllocError>
-    ensures { OnOk result (faults.new.items ≡ faults.old.items ++ map (λ line. (side, record { kind = kind; line = line })) lines.now) }
+    ensures { OnOk result (faults.new.items ≡ faults.old.items ++ spec.faults_at side kind lines.now) }
 {
-    for line in lines {
+    let ordered = in_file_order(alloc, lines)?;
+    for line in &ordered {
         let fault = Fault { kind, line: *line };
         faults.push((side, fault))?;
     }
@@ -174,14 +176,26 @@ fn add_use_rows(
 {
     let of_domain = mentions_in_domain(alloc, domain)?;
     let of_problem = mentions_in_problem(alloc, problem)?;
-    let in_domain = unknown_predicates(alloc, domain, &of_domain)?;
-    let in_problem = unknown_predicates(alloc, domain, &of_problem)?;
+    add_rows_of_uses(alloc, rows, domain, &of_domain, &of_problem)
+}
+
+fn add_rows_of_uses(
+    alloc: Global,
+    rows: &mut Vec<Row>,
+    domain: &Domain,
+    of_domain: &[Mention<'_>],
+    of_problem: &[Mention<'_>],
+) -> Result<(), AllocError>
+    ensures { OnOk result (rows.new.items ≡ rows.old.items ++ rows_of_uses domain.now (all_seen of_domain.now) (all_seen of_problem.now)) }
+{
+    let in_domain = unknown_predicates(alloc, domain, of_domain)?;
+    let in_problem = unknown_predicates(alloc, domain, of_problem)?;
     rows.push(row_of(Kind::UnknownPredicate, in_domain, in_problem))?;
-    let in_domain = unknown_functions(alloc, domain, &of_domain)?;
-    let in_problem = unknown_functions(alloc, domain, &of_problem)?;
+    let in_domain = unknown_functions(alloc, domain, of_domain)?;
+    let in_problem = unknown_functions(alloc, domain, of_problem)?;
     rows.push(row_of(Kind::UnknownFunction, in_domain, in_problem))?;
-    let in_domain = wrong_arities_in_domain(alloc, domain)?;
-    let in_problem = wrong_uses(alloc, domain, &of_problem)?;
+    let in_domain = wrong_arities(alloc, domain, of_domain)?;
+    let in_problem = wrong_uses(alloc, domain, of_problem)?;
     rows.push(row_of(Kind::WrongArity, in_domain, in_problem))?;
     Ok(())
 }
@@ -196,14 +210,27 @@ fn add_argument_rows(
 {
     let of_domain = mentions_in_domain(alloc, domain)?;
     let of_problem = mentions_in_problem(alloc, problem)?;
-    let in_domain = unknown_objects(alloc, domain, problem, &of_domain)?;
-    let in_problem = unknown_objects(alloc, domain, problem, &of_problem)?;
+    add_rows_of_arguments(alloc, rows, domain, problem, &of_domain, &of_problem)
+}
+
+fn add_rows_of_arguments(
+    alloc: Global,
+    rows: &mut Vec<Row>,
+    domain: &Domain,
+    problem: &Problem,
+    of_domain: &[Mention<'_>],
+    of_problem: &[Mention<'_>],
+) -> Result<(), AllocError>
+    ensures { OnOk result (rows.new.items ≡ rows.old.items ++ rows_of_arguments domain.now problem.now (all_seen of_domain.now) (all_seen of_problem.now)) }
+{
+    let in_domain = unknown_objects(alloc, domain, problem, of_domain)?;
+    let in_problem = unknown_objects(alloc, domain, problem, of_problem)?;
     rows.push(row_of(Kind::UnknownObject, in_domain, in_problem))?;
     let in_domain = unbound_in_domain(alloc, domain)?;
     let in_problem = unbound_in_problem(alloc, problem)?;
     rows.push(row_of(Kind::UnboundVariable, in_domain, in_problem))?;
-    let in_domain = written_derived(alloc, domain, &of_domain)?;
-    let in_problem = written_derived(alloc, domain, &of_problem)?;
+    let in_domain = written_derived(alloc, domain, of_domain)?;
+    let in_problem = written_derived(alloc, domain, of_problem)?;
     rows.push(row_of(Kind::DerivedWritten, in_domain, in_problem))?;
     Ok(())
 }

@@ -12,7 +12,7 @@ use crate::lines::add_line_if;
 use crate::listed::{Usage, function_uses, predicate_uses};
 use pddl_parser::{Domain, Head};
 use std::alloc::{AllocError, Global};
-use type_checker::mentions::{Mention, mentions_in_domain};
+use type_checker::mentions::Mention;
 
 // ---- uses without a declaration
 
@@ -77,17 +77,17 @@ pub(crate) fn is_total_cost(name: &[u8]) -> bool
 // ---- numbers of arguments
 
 /// The lines of the uses with another number of arguments than declared, and of `total-cost` declared with some.
-pub(crate) fn wrong_arities_in_domain(
+pub(crate) fn wrong_arities(
     alloc: Global,
     domain: &Domain,
+    mentions: &[Mention<'_>],
 ) -> Result<Vec<u64>, AllocError>
-    ensures { IfOk result (λ lines. lines.items ≡ spec.domain_arities domain.now) }
+    ensures { IfOk result (λ lines. lines.items ≡ spec.total_cost_heads domain.now ++ spec.wrong_uses domain.now (all_seen mentions.now)) }
 {
-    let mentions = mentions_in_domain(alloc, domain)?;
     let mut lines = Vec::new(alloc);
     add_total_cost_heads(&mut lines, domain)?;
-    add_wrong_predicates(alloc, &mut lines, domain, &mentions)?;
-    add_wrong_functions(alloc, &mut lines, domain, &mentions)?;
+    add_wrong_predicates(alloc, &mut lines, domain, mentions)?;
+    add_wrong_functions(alloc, &mut lines, domain, mentions)?;
     Ok(lines)
 }
 

@@ -1,18 +1,13 @@
 use Rattle.std.proofs.Common.{List, ap, ◌∙◌, ◌++◌}
-use Rattle.std.specs.Borrow.{Bor}
-use Rattle.pddl_parser.specs.declared.types.Named.{Named}
 use Rattle.pddl_parser.specs.declared.types.Typed.{Typed}
-use Rattle.check_plain.specs.Shown.{all_now}
+use Rattle.check_plain.proofs.Turns.{shown_added}
 use Rattle.type_checker.specs.Mentions.{Mention, listed_variables}
 use Rattle.type_checker.specs.Names.{names_of, repeats}
 use Rattle.type_checker.specs.Seen.{seen}
-use Rattle.check_plain.proofs.Turns.{shown_added}
 use Rattle.check_plain.proofs.declarations.add_repeated_variables.Goals as goal
 
 pub loop-mention-preserved : goal.loop-mention-preserved
 loop-mention-preserved c =
     shown_added seen (λ (mention : Mention). repeats (names_of (listed_variables mention))) c.args.mentions.now c.loop-mention.mention-index c.mention-item.result c.loop-mention-test.true c.mention-item.is
-    c.args.lines.now.items c.loop-mention.lines.items c.add_repeats.new.lines.items c.loop-mention.invariant
-    (c.in_ok-add_repeats.ensures {u = tt}
-    ∙ ap (λ (names : List Named). c.loop-mention.lines.items ++ repeats names)
-    (ap (λ (names : List (Bor Named)). all_now names) c.deref.ensures.value ∙ c.in_ok-names_of.ensures ∙ ap (λ (list : List Typed). names_of list) c.listed_variables.ensures))
+    c.args.lines.now.items c.loop-mention.lines.items c.add_repeated_names.new.lines.items c.loop-mention.invariant
+    (c.in_ok-add_repeated_names.ensures {u = tt} ∙ ap (λ (list : List Typed). c.loop-mention.lines.items ++ repeats (names_of list)) c.listed_variables.ensures)

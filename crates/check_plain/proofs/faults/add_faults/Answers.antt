@@ -6,7 +6,7 @@ use Rattle.check_plain.proofs.faults.add_faults.Goals as goal
 
 pub loop-line-preserved : goal.loop-line-preserved
 loop-line-preserved c =
-    let lines = c.args.lines.now in
+    let lines = c.deref-line-items.result.now in
     let i = c.loop-line.line-index in
     let line = get_or lines i 0 in
     let fault : ℕ → SidedFault = λ line. (c.args.side, record { kind = c.args.kind; line = line }) in
