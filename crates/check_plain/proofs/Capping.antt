@@ -18,7 +18,7 @@ times_one : (n : ℕ) → n * 1 ≡ n
 times_one n = omega arith
 
 -- a cut whose parts are counted up to the cap, before others
-cut_before : (parts line : ℕ) (more : List Cut) → too_large (cut (min parts cap) line ∷ []) ++ too_large more ≡ too_large (cut parts line ∷ more)
+pub cut_before : (parts line : ℕ) (more : List Cut) → too_large (cut (min parts cap) line ∷ []) ++ too_large more ≡ too_large (cut parts line ∷ more)
 cut_before parts line more =
     sym (too_large_append (cut (min parts cap) line ∷ []) more)
     ∙ large_cut (min parts cap) line more

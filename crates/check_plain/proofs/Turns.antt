@@ -1,9 +1,9 @@
 -- One round of a loop that puts at the end of a list what each item gives.
-use Rattle.std.proofs.Common.{◌≡◌, ℕ, ◌+◌, ◌<◌, Bool, true, false, cond, List, [], ◌∷◌, ◌++◌, map, take, length, get_or, append_assoc, refl, sym, ap, ◌∙◌}
+use Rattle.std.proofs.Common.{◌≡◌, ℕ, ◌+◌, ◌<◌, ◌≤◌, Bool, true, false, cond, List, [], ◌∷◌, ◌++◌, map, take, length, get_or, append_assoc, refl, sym, ap, ◌∙◌}
 use Rattle.std.specs.Borrow.{Bor}
 use Rattle.std.specs.List.{flat_map, filter}
 use Rattle.std.proofs.lemmas.Grind.{flat_map-append}
-use Rattle.std.proofs.lemmas.List.{take_more, map-append, append-nil}
+use Rattle.std.proofs.lemmas.List.{take_all, take_more, map-append, append-nil}
 use Rattle.std.proofs.lemmas.List.Elements.{filter-append}
 use Rattle.check_plain.specs.Shown.{all_now}
 
@@ -35,6 +35,10 @@ module _ {X Y : Type 0} (test : X → Bool) (kept : X → Y) where
 module _ {X Y : Type 0} (shown : X → Y) where
   pub pushed : (before after : List X) (item : X) → after ≡ before ++ item ∷ [] → map shown after ≡ map shown before ++ shown item ∷ []
   pushed before after item made = ap (map shown) made ∙ map-append shown before (item ∷ [])
+
+-- after the last round
+pub all_given : {X Y : Type 0} (given : List X → List Y) (items : List X) (i : ℕ) → length items ≤ i → (made : List Y) → made ≡ given (take i items) → made ≡ given items
+all_given given items i ended made held = held ∙ ap given (take_all i items ended)
 
 -- ---- one round
 

@@ -1,5 +1,5 @@
 // All kinds of faults, in their order, and the first that has any.
-ghost use Rattle.std.specs.Prelude.{◌≡◌, ◌≤◌, ◌++◌, length, map, IfOk, OnOk};
+ghost use Rattle.std.specs.Prelude.{◌≡◌, ◌≤◌, ◌++◌, ◌∷◌, [], length, map, IfOk, OnOk};
 ghost use Rattle.std.specs.List.{insert};
 ghost use Rattle.check_plain.specs.Given.{rows_of_uses, rows_of_arguments};
 ghost use Rattle.type_checker.specs.Faults as spec;
@@ -40,14 +40,20 @@ impl Model for Row {
     ghost view = { λ lines. row lines.kind lines.in_domain.items lines.in_problem.items };
 }
 
-fn row_of(kind: Kind, in_domain: Vec<u64>, in_problem: Vec<u64>) -> Row
-    ensures { result ≡ spec.row kind in_domain.items in_problem.items }
+fn add_row(
+    rows: &mut Vec<Row>,
+    kind: Kind,
+    in_domain: Vec<u64>,
+    in_problem: Vec<u64>,
+) -> Result<(), AllocError>
+    ensures { OnOk result (rows.new.items ≡ rows.old.items ++ spec.row kind in_domain.items in_problem.items ∷ []) }
 {
-    Row {
+    let row = Row {
         kind,
         in_domain,
         in_problem,
-    }
+    };
+    Ok(rows.push(row)?)
 }
 
 /// All check faults of a domain and a problem: those of the first kind that has any, those of the domain before
@@ -156,14 +162,12 @@ fn add_name_rows(
 {
     let in_domain = unknown_types_in_domain(alloc, domain)?;
     let in_problem = unknown_types_in_problem(alloc, domain, problem)?;
-    rows.push(row_of(Kind::UnknownType, in_domain, in_problem))?;
+    add_row(rows, Kind::UnknownType, in_domain, in_problem)?;
     let in_domain = type_cycles(alloc, domain)?;
-    let in_problem = Vec::new(alloc);
-    rows.push(row_of(Kind::TypeCycle, in_domain, in_problem))?;
+    add_row(rows, Kind::TypeCycle, in_domain, Vec::new(alloc))?;
     let in_domain = repeats_in_domain(alloc, domain)?;
     let in_problem = repeats_in_problem(alloc, domain, problem)?;
-    rows.push(row_of(Kind::DuplicateName, in_domain, in_problem))?;
-    Ok(())
+    add_row(rows, Kind::DuplicateName, in_domain, in_problem)
 }
 
 fn add_use_rows(
@@ -190,14 +194,13 @@ fn add_rows_of_uses(
 {
     let in_domain = unknown_predicates(alloc, domain, of_domain)?;
     let in_problem = unknown_predicates(alloc, domain, of_problem)?;
-    rows.push(row_of(Kind::UnknownPredicate, in_domain, in_problem))?;
+    add_row(rows, Kind::UnknownPredicate, in_domain, in_problem)?;
     let in_domain = unknown_functions(alloc, domain, of_domain)?;
     let in_problem = unknown_functions(alloc, domain, of_problem)?;
-    rows.push(row_of(Kind::UnknownFunction, in_domain, in_problem))?;
+    add_row(rows, Kind::UnknownFunction, in_domain, in_problem)?;
     let in_domain = wrong_arities(alloc, domain, of_domain)?;
     let in_problem = wrong_uses(alloc, domain, of_problem)?;
-    rows.push(row_of(Kind::WrongArity, in_domain, in_problem))?;
-    Ok(())
+    add_row(rows, Kind::WrongArity, in_domain, in_problem)
 }
 
 fn add_argument_rows(
@@ -225,14 +228,13 @@ fn add_rows_of_arguments(
 {
     let in_domain = unknown_objects(alloc, domain, problem, of_domain)?;
     let in_problem = unknown_objects(alloc, domain, problem, of_problem)?;
-    rows.push(row_of(Kind::UnknownObject, in_domain, in_problem))?;
+    add_row(rows, Kind::UnknownObject, in_domain, in_problem)?;
     let in_domain = unbound_in_domain(alloc, domain)?;
     let in_problem = unbound_in_problem(alloc, problem)?;
-    rows.push(row_of(Kind::UnboundVariable, in_domain, in_problem))?;
+    add_row(rows, Kind::UnboundVariable, in_domain, in_problem)?;
     let in_domain = written_derived(alloc, domain, of_domain)?;
     let in_problem = written_derived(alloc, domain, of_problem)?;
-    rows.push(row_of(Kind::DerivedWritten, in_domain, in_problem))?;
-    Ok(())
+    add_row(rows, Kind::DerivedWritten, in_domain, in_problem)
 }
 
 fn add_state_rows(
@@ -244,15 +246,11 @@ fn add_state_rows(
     ensures { OnOk result (rows.new.items ≡ rows.old.items ++ state_rows domain.now problem.now) }
 {
     let in_domain = recursive_axioms(alloc, domain)?;
-    let in_problem = Vec::new(alloc);
-    rows.push(row_of(Kind::RecursiveDerived, in_domain, in_problem))?;
-    let in_domain = Vec::new(alloc);
+    add_row(rows, Kind::RecursiveDerived, in_domain, Vec::new(alloc))?;
     let in_problem = denied_lines(alloc, problem.init.as_slice())?;
-    rows.push(row_of(Kind::InitConflict, in_domain, in_problem))?;
-    let in_domain = Vec::new(alloc);
+    add_row(rows, Kind::InitConflict, Vec::new(alloc), in_problem)?;
     let in_problem = revalued_lines(alloc, problem.init.as_slice())?;
-    rows.push(row_of(Kind::ValueConflict, in_domain, in_problem))?;
-    Ok(())
+    add_row(rows, Kind::ValueConflict, Vec::new(alloc), in_problem)
 }
 
 fn add_form_rows(
@@ -264,10 +262,8 @@ fn add_form_rows(
     ensures { OnOk result (rows.new.items ≡ rows.old.items ++ form_rows domain.now problem.now) }
 {
     let in_domain = ill_formed_increases(alloc, domain)?;
-    let in_problem = Vec::new(alloc);
-    rows.push(row_of(Kind::CostForm, in_domain, in_problem))?;
+    add_row(rows, Kind::CostForm, in_domain, Vec::new(alloc))?;
     let in_domain = too_large_in_domain(alloc, domain)?;
     let in_problem = too_large_in_problem(alloc, problem)?;
-    rows.push(row_of(Kind::TooManyParts, in_domain, in_problem))?;
-    Ok(())
+    add_row(rows, Kind::TooManyParts, in_domain, in_problem)
 }

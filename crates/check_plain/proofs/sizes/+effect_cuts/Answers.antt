@@ -1,4 +1,4 @@
-use Rattle.std.proofs.Common.{◌≡◌, ℕ, List, subst}
+use Rattle.std.proofs.Common.{◌≡◌, ℕ, List, subst, ◌++◌}
 use Rattle.std.specs.Prelude.{OnOk}
 use Rattle.std.proofs.Common.{map, ap}
 use Rattle.std.specs.List.{flat_map}
@@ -6,7 +6,7 @@ use Rattle.std.proofs.lemmas.List.{append-nil}
 use Rattle.pddl_parser.specs.declared.types.Effect.{Effect}
 use Rattle.type_checker.specs.Sizes.{Cut, effect_cuts, too_large}
 use Rattle.type_checker.proofs.Capping.{too_large_append}
-use Rattle.check_plain.proofs.Turns.{shown_join, pieces_join, more_added}
+use Rattle.check_plain.proofs.Turns.{shown_join, pieces_join, more_added, all_given}
 use Rattle.check_plain.proofs.Capping.{when_lines}
 use Rattle.check_plain.proofs.sizes.+effect_cuts.Goals as goal
 
@@ -26,3 +26,8 @@ add_in_effects-loop-member-preserved t c =
     c.args.members.now c.loop-member.member-index c.member-item.result c.loop-member-test.true c.member-item.is
     c.args.lines.now.items (too_large cuts) c.loop-member.lines.items c.add_in_effect.new.lines.items (ap too_large (append-nil cuts)) c.loop-member.invariant
     (c.in_ok-add_in_effect.ensures {u = tt})
+
+pub add_in_effects-returns : goal.add_in_effects-returns
+add_in_effects-returns t c =
+    all_given (λ (members : List Effect). c.args.lines.now.items ++ too_large (flat_map (λ (member : ℕ → List Cut). member c.args.around) (map effect_cuts members)))
+    c.args.members.now c.loop-member.member-index c.loop-member-test.false c.loop-member.lines.items c.loop-member.invariant

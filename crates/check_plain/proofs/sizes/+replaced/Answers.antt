@@ -1,4 +1,4 @@
-use Rattle.std.proofs.Common.{◌≡◌, ℕ, List, subst}
+use Rattle.std.proofs.Common.{◌≡◌, ℕ, List, subst, ◌++◌}
 use Rattle.std.specs.Prelude.{OnOk}
 use Rattle.std.proofs.Common.{Bool, map, ap}
 use Rattle.std.specs.List.{flat_map}
@@ -6,7 +6,7 @@ use Rattle.std.proofs.lemmas.List.{append-nil}
 use Rattle.pddl_parser.specs.declared.types.Condition.{Condition}
 use Rattle.type_checker.specs.Sizes.{Size, size_of, too_large}
 use Rattle.type_checker.proofs.Capping.{too_large_append}
-use Rattle.check_plain.proofs.Turns.{shown_join, pieces_join, more_added}
+use Rattle.check_plain.proofs.Turns.{shown_join, pieces_join, more_added, all_given}
 use Rattle.check_plain.proofs.Capping.{imply_lines, forall_lines, exists_lines}
 use Rattle.check_plain.proofs.sizes.+replaced.Goals as goal
 
@@ -45,3 +45,8 @@ add_replaced_in_all-loop-member-preserved t c =
     c.args.members.now c.loop-member.member-index c.member-item.result c.loop-member-test.true c.member-item.is
     c.args.lines.now.items (too_large cuts) c.loop-member.lines.items c.add_replaced.new.lines.items (ap too_large (append-nil cuts)) c.loop-member.invariant
     (c.in_ok-add_replaced.ensures {u = tt})
+
+pub add_replaced_in_all-returns : goal.add_replaced_in_all-returns
+add_replaced_in_all-returns t c =
+    all_given (λ (members : List Condition). c.args.lines.now.items ++ too_large (flat_map (λ (size : Size). size.replaced) (map (λ (member : Bool → Size). member c.args.positive) (map size_of members))))
+    c.args.members.now c.loop-member.member-index c.loop-member-test.false c.loop-member.lines.items c.loop-member.invariant

@@ -1,8 +1,10 @@
-use Rattle.std.proofs.Common.{ap, not}
+use Rattle.std.proofs.Common.{ap, not, List, ◌++◌, map, ◌∙◌}
 use Rattle.check_plain.specs.Shown.{use_shown}
 use Rattle.type_checker.specs.Mentions.{Use}
-use Rattle.type_checker.specs.Names.{is_well_used}
-use Rattle.check_plain.proofs.Turns.{passing_added}
+use Rattle.type_checker.specs.Names.{is_well_used, use_lines}
+use Rattle.std.specs.List.{filter}
+use Rattle.check_plain.specs.declared.listed.Usage.{Usage}
+use Rattle.check_plain.proofs.Turns.{passing_added, all_given}
 use Rattle.check_plain.proofs.uses.add_wrong_functions.Goals as goal
 
 pub loop-usage-preserved : goal.loop-usage-preserved
@@ -10,3 +12,10 @@ loop-usage-preserved c =
     passing_added use_shown (λ (usage : Use). not (is_well_used c.args.domain.now usage)) (λ (usage : Use). usage.name.line) c.deref-usage-items.result.now c.loop-usage.usage-index c.usage-item.result c.loop-usage-test.true c.usage-item.is
     (not c.is_well_used-is_right.result) (ap not c.is_well_used-is_right.ensures)
     c.args.lines.now.items c.loop-usage.lines.items c.add_line_if.new.lines.items c.loop-usage.invariant (c.in_ok-add_line_if.ensures {u = tt})
+
+pub returns : goal.returns
+returns c =
+    let lines = λ (uses : List Use). c.args.lines.now.items ++ use_lines (filter (λ (usage : Use). not (is_well_used c.args.domain.now usage)) uses) in
+    all_given (λ (uses : List Usage). lines (map use_shown uses)) c.deref-usage-items.result.now c.loop-usage.usage-index c.loop-usage-test.false c.loop-usage.lines.items c.loop-usage.invariant
+    ∙ ap (λ (uses : List Usage). lines (map use_shown uses)) c.deref-usage-items.ensures.value
+    ∙ ap lines c.in_ok-uses.ensures

@@ -5,7 +5,7 @@ use Rattle.type_checker.specs.Mentions.{Use}
 use Rattle.check_plain.specs.declared.listed.Usage.{Usage}
 use Rattle.type_checker.specs.Lines.{lines_where}
 use Rattle.type_checker.specs.Names.{is_declared}
-use Rattle.check_plain.proofs.Turns.{shown_join, passing_join, passing_one, more_given}
+use Rattle.check_plain.proofs.Turns.{shown_join, passing_join, passing_one, more_given, all_given}
 use Rattle.check_plain.proofs.uses.unknown_predicates.Goals as goal
 
 pub loop-usage-preserved : goal.loop-usage-preserved
@@ -20,3 +20,10 @@ loop-usage-preserved c =
     (cond is_unknown (named.line ∷ []) []) c.loop-usage.lines.items c.add_line_if.new.lines.items
     (passing_one test line is_unknown named (ap not (c.is_declared-is_known.ensures ∙ ap (λ heads. is_declared heads c.as_slice-in-loop-usage.result.now) c.as_slice.ensures ∙ ap (is_declared c.args.domain.now.predicates) c.as_slice-in-loop-usage.ensures)))
     c.loop-usage.invariant (c.in_ok-add_line_if.ensures {u = tt})
+
+pub returns : goal.returns
+returns c =
+    let lines = λ (uses : List Use). lines_where (λ (named : Named). not (is_declared c.args.domain.now.predicates named.name)) (map (λ (usage : Use). usage.name) uses) in
+    all_given (λ (uses : List Usage). lines (map use_shown uses)) c.deref-usage-items.result.now c.loop-usage.usage-index c.loop-usage-test.false c.loop-usage.lines.items c.loop-usage.invariant
+    ∙ ap (λ (uses : List Usage). lines (map use_shown uses)) c.deref-usage-items.ensures.value
+    ∙ ap lines c.in_ok-uses.ensures
