@@ -7,8 +7,9 @@ use super::*;
 use lists::{List, Text};
 use sas_task::{Operator, Pair, SasTask, Variable};
 use std::alloc::{AllocError, Global};
+use std::fmt;
 use std::process::Abort;
-use std::test::Fail;
+use std::test::*;
 
 fn text(alloc: Global, bytes: &[u8]) -> Result<Text, AllocError> {
     Ok(Text::from_vec(Vec::from_slice(alloc, bytes)?))
@@ -18,32 +19,40 @@ fn atoms(alloc: Global, atoms: &[u64]) -> Result<List<u64>, AllocError> {
     Ok(List::from_vec(Vec::from_slice(alloc, atoms)?))
 }
 
-fn push_action(
-    alloc: Global,
-    actions: &mut Vec<Action>,
-    name: &[u8],
-    conditions: &[u64],
-    added: &[u64],
-    deleted: &[u64],
-) -> Result<(), AllocError> {
-    actions.push(Action {
+/// An action: its name, its conditions, what it adds and what it deletes.
+type Row<'a> = (&'a [u8], &'a [u64], &'a [u64], &'a [u64]);
+
+fn action(alloc: Global, row: &Row<'_>) -> Result<Action, AllocError> {
+    let (name, conditions, added, deleted) = *row;
+    Ok(Action {
         name: text(alloc, name)?,
         conditions: atoms(alloc, conditions)?,
         added: atoms(alloc, added)?,
         deleted: atoms(alloc, deleted)?,
-    })?;
-    Ok(())
+    })
 }
 
-/// The task with the predicates `on` and `off`, of which `off` is true and `on` is wanted.
-fn switch(alloc: Global, actions: Vec<Action>) -> Result<Propositional, AllocError> {
+fn actions(alloc: Global, rows: &[Row<'_>]) -> Result<List<Action>, AllocError> {
+    let mut actions = Vec::new(alloc);
+    for row in rows {
+        actions.push(action(alloc, row)?)?;
+    }
+    Ok(List::from_vec(actions))
+}
+
+fn predicates(alloc: Global) -> Result<List<Text>, AllocError> {
     let mut predicates = Vec::new(alloc);
     predicates.push(text(alloc, b"on")?)?;
     predicates.push(text(alloc, b"off")?)?;
+    Ok(List::from_vec(predicates))
+}
+
+/// The task with the predicates `on` and `off`, of which `off` is true and `on` is wanted.
+fn switch(alloc: Global, rows: &[Row<'_>]) -> Result<Propositional, AllocError> {
     Ok(Propositional {
-        predicates: List::from_vec(predicates),
+        predicates: predicates(alloc)?,
         init: atoms(alloc, &[1])?,
-        actions: List::from_vec(actions),
+        actions: actions(alloc, rows)?,
         goal: atoms(alloc, &[0])?,
     })
 }
@@ -100,12 +109,21 @@ fn is_lawful(planning: &Propositional) -> bool
         && are_below(count, planning.goal.as_slice())
 }
 
-fn show_text(shown: &mut String, text: &Text) -> Result<(), Fail> {
-    shown.push_str(str::from_utf8(text.as_slice())?)?;
+/// The encoding of the switch task with these actions, which is lawful.
+fn encoded(rt: &impl Abort, alloc: Global, rows: &[Row<'_>]) -> Result<SasTask, AllocError> {
+    let planning = switch(alloc, rows)?;
+    assert!(rt; is_lawful(&planning));
+    encode(alloc, &planning)
+}
+
+fn show_text(shown: &mut String, text: &Text) -> fmt::Result {
+    for byte in text.as_slice() {
+        shown.push(char::from(*byte))?;
+    }
     Ok(())
 }
 
-fn show_pairs(shown: &mut String, pairs: &[Pair]) -> Result<(), Fail> {
+fn show_pairs(shown: &mut String, pairs: &[Pair]) -> fmt::Result {
     for pair in pairs {
         write!(shown, " {}={}", pair.var, pair.val)?;
     }
@@ -113,7 +131,7 @@ fn show_pairs(shown: &mut String, pairs: &[Pair]) -> Result<(), Fail> {
 }
 
 /// The names of the values, with a `|` after each.
-fn show_variable(shown: &mut String, variable: &Variable) -> Result<(), Fail> {
+fn show_variable(shown: &mut String, variable: &Variable) -> fmt::Result {
     for fact in variable.facts.as_slice() {
         show_text(shown, fact)?;
         shown.push_str("|")?;
@@ -125,7 +143,7 @@ fn show_variable(shown: &mut String, variable: &Variable) -> Result<(), Fail> {
 }
 
 /// The variables, the state, the goal, and how many groups and rules there are.
-fn show_frame(shown: &mut String, task: &SasTask) -> Result<(), Fail> {
+fn show_frame(shown: &mut String, task: &SasTask) -> fmt::Result {
     for i in 0..task.variables() {
         show_variable(shown, task.variable(i))?;
         write!(shown, " at {}; ", task.state(i))?;
@@ -142,7 +160,7 @@ fn show_frame(shown: &mut String, task: &SasTask) -> Result<(), Fail> {
 }
 
 /// The operator, as `name: conditions -> effects at cost; `.
-fn show_operator(shown: &mut String, operator: &Operator) -> Result<(), Fail> {
+fn show_operator(shown: &mut String, operator: &Operator) -> fmt::Result {
     show_text(shown, &operator.name)?;
     shown.push_str(":")?;
     show_pairs(shown, operator.conditions.as_slice())?;
@@ -155,65 +173,64 @@ fn show_operator(shown: &mut String, operator: &Operator) -> Result<(), Fail> {
     Ok(())
 }
 
-/// The operators of the switch task with these actions.
-fn operators(rt: &impl Abort, alloc: Global, actions: Vec<Action>) -> Result<String, Fail> {
-    let planning = switch(alloc, actions)?;
-    assert!(rt; is_lawful(&planning));
-    let task = encode(alloc, &planning)?;
-    let mut shown = String::new(alloc);
+fn show_operators(shown: &mut String, task: &SasTask) -> fmt::Result {
     for i in 0..task.operators() {
-        show_operator(&mut shown, task.operator(i))?;
+        show_operator(shown, task.operator(i))?;
     }
-    Ok(shown)
+    Ok(())
+}
+
+/// Asserts that the operators of the switch task with these actions are shown so.
+fn assert_operators(rt: &impl Abort, alloc: Global, rows: &[Row<'_>], wanted: &str) -> fmt::Result {
+    let task = encoded(rt, alloc, rows)?;
+    let mut shown = String::new(alloc);
+    show_operators(&mut shown, &task)?;
+    assert!(rt; shown.as_str() == wanted, "{shown}");
+    Ok(())
 }
 
 #[test]
-fn variables_state_and_goal(rt: HostRuntime) -> Result<(), Fail> {
-    let planning = switch(rt.alloc(), Vec::new(rt.alloc()))?;
-    assert!(rt; is_lawful(&planning));
-    let task = encode(rt.alloc(), &planning)?;
+fn variables_state_and_goal(rt: HostRuntime) -> fmt::Result {
+    let task = encoded(&rt, rt.alloc(), &[])?;
     let mut shown = String::new(rt.alloc());
     show_frame(&mut shown, &task)?;
     let wanted =
         "Atom on()|NegatedAtom on()| at 1; Atom off()|NegatedAtom off()| at 0;  0=0; 0 0 false";
-    assert_eq!(rt; shown.as_str(), wanted);
+    assert!(rt; shown.as_str() == wanted, "{shown}");
     Ok(())
 }
 
+static REPEATED: [Row<'static>; 2] = [
+    (b"flip", &[1], &[0], &[1]),
+    (b"flop", &[1, 1], &[0, 0], &[1, 1, 1]),
+];
+
 #[test]
-fn repeated_atoms_count_once(rt: HostRuntime) -> Result<(), Fail> {
-    let alloc = rt.alloc();
-    let mut actions = Vec::new(alloc);
-    push_action(alloc, &mut actions, b"flip", &[1], &[0], &[1])?;
-    push_action(alloc, &mut actions, b"flop", &[1, 1], &[0, 0], &[1, 1, 1])?;
+fn repeated_atoms_count_once(rt: HostRuntime) -> fmt::Result {
     let wanted = "flip: 1=0 -> 0:=0 1:=1 at 1; flop: 1=0 -> 0:=0 1:=1 at 1; ";
-    assert_eq!(rt; operators(&rt, alloc, actions)?.as_str(), wanted);
-    Ok(())
+    assert_operators(&rt, rt.alloc(), &REPEATED, wanted)
 }
 
+static UNORDERED: [Row<'static>; 4] = [
+    (b"b", &[], &[1], &[]),
+    (b"a b", &[], &[0], &[]),
+    (b"a", &[], &[0], &[]),
+    (b"B", &[], &[0], &[]),
+];
+
 #[test]
-fn operators_stand_by_name(rt: HostRuntime) -> Result<(), Fail> {
-    let alloc = rt.alloc();
-    let mut actions = Vec::new(alloc);
-    push_action(alloc, &mut actions, b"b", &[], &[1], &[])?;
-    push_action(alloc, &mut actions, b"a b", &[], &[0], &[])?;
-    push_action(alloc, &mut actions, b"a", &[], &[0], &[])?;
-    push_action(alloc, &mut actions, b"B", &[], &[0], &[])?;
+fn operators_stand_by_name(rt: HostRuntime) -> fmt::Result {
     let wanted = "B: -> 0:=0 at 1; a: -> 0:=0 at 1; a b: -> 0:=0 at 1; b: -> 1:=0 at 1; ";
-    assert_eq!(rt; operators(&rt, alloc, actions)?.as_str(), wanted);
-    Ok(())
+    assert_operators(&rt, rt.alloc(), &UNORDERED, wanted)
 }
 
+static IDLE: [Row<'static>; 3] = [
+    (b"wait", &[0], &[], &[]),
+    (b"keep", &[0, 1], &[0], &[0]),
+    (b"both", &[0, 1], &[0], &[1, 0]),
+];
+
 #[test]
-fn what_changes_nothing_is_left_out(rt: HostRuntime) -> Result<(), Fail> {
-    let alloc = rt.alloc();
-    let mut actions = Vec::new(alloc);
-    push_action(alloc, &mut actions, b"wait", &[0], &[], &[])?;
-    push_action(alloc, &mut actions, b"keep", &[0, 1], &[0], &[0])?;
-    push_action(alloc, &mut actions, b"both", &[0, 1], &[0], &[1, 0])?;
-    assert_eq!(rt;
-        operators(&rt, alloc, actions)?.as_str(),
-        "both: 0=0 1=0 -> 1:=1 at 1; "
-    );
-    Ok(())
+fn what_changes_nothing_is_left_out(rt: HostRuntime) -> fmt::Result {
+    assert_operators(&rt, rt.alloc(), &IDLE, "both: 0=0 1=0 -> 1:=1 at 1; ")
 }
