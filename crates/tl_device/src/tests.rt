@@ -1,57 +1,105 @@
+ghost use Rattle.std.specs.Prelude.{◌<◌, ◌^◌, IsSome};
+ghost use Rattle.std.specs.Bool.{OnTrue};
+
 use crate::{Console, Failed, Files, MemConsole, MemFiles, ReadEnd, put_all, read_all, say_all};
+use std::alloc::{AllocError, Global};
 use std::test::Fail;
 
+// The calls that say much have functions of their own that say little, so that no proof of a test carries it.
+
+/// Whether this is read of the file, where it may have so many bytes.
+fn is_read(alloc: Global, files: &mut MemFiles, name: &str, limit: u64, bytes: &[u8]) -> bool
+    requires { limit < 2 ^ 32 }
+{
+    matches!(read_all(alloc, files, name, limit), Ok(read) if read.as_slice() == bytes)
+}
+
+/// Whether reading the file ends so, where it may have so many bytes.
+fn is_unread(alloc: Global, files: &mut MemFiles, name: &str, limit: u64, end: ReadEnd) -> bool
+    requires { limit < 2 ^ 32 }
+{
+    matches!(read_all(alloc, files, name, limit), Err(found) if found == end)
+}
+
+fn holds(files: &MemFiles, name: &str, bytes: &[u8]) -> bool {
+    matches!(files.content(name), Some(content) if content == bytes)
+}
+
+fn is_absent(files: &MemFiles, name: &str) -> bool {
+    files.content(name).is_none()
+}
+
+fn two_files(alloc: Global) -> Result<MemFiles, AllocError> {
+    let mut files = MemFiles::new(alloc);
+    files.add("first", b"abcde")?;
+    files.add("second", b"")?;
+    files.add("first", b"vwxyz")?;
+    Ok(files)
+}
+
+fn are_read(alloc: Global, files: &mut MemFiles) -> bool {
+    is_read(alloc, files, "first", 5, b"vwxyz")
+        && is_read(alloc, files, "second", 0, b"")
+        && is_unread(alloc, files, "first", 4, ReadEnd::TooLong)
+        && is_unread(alloc, files, "third", 5, ReadEnd::Failed)
+        && holds(files, "second", b"")
+        && is_absent(files, "third")
+}
+
 #[test]
-fn a_file_is_read_whole_up_to_the_limit(rt: HostRuntime) -> Result<(), Fail> {
-    let alloc = rt.alloc();
+fn a_file_is_read_whole_up_to_the_limit(rt: HostRuntime) -> Result<(), AllocError> {
     for most in [1, 3, 100] {
-        let mut files = MemFiles::new(alloc);
-        files.add("first", b"abcde")?;
-        files.add("second", b"")?;
-        files.add("first", b"vwxyz")?;
+        let mut files = two_files(rt.alloc())?;
         files.most(most);
-        let first = read_all(alloc, &mut files, "first", 5)?;
-        assert_eq!(rt;
-            first.as_slice(),
-            b"vwxyz".as_slice(),
-            "{most} bytes a call"
-        );
-        assert_eq!(rt; read_all(alloc, &mut files, "second", 0)?.len(), 0);
-        let long = read_all(alloc, &mut files, "first", 4);
-        assert!(rt;
-            matches!(long, Err(ReadEnd::TooLong)),
-            "{most} bytes a call"
-        );
-        let absent = read_all(alloc, &mut files, "third", 5);
-        assert!(rt; matches!(absent, Err(ReadEnd::Failed)));
-        assert!(rt; matches!(files.content("second"), Some(b"")));
-        assert!(rt; files.content("third").is_none());
+        assert!(rt; are_read(rt.alloc(), &mut files), "{most} bytes a call");
     }
     Ok(())
 }
 
+fn is_created(files: &mut MemFiles, name: &str) -> bool
+    ensures { OnTrue result (IsSome files.new.writing) }
+{
+    files.create_file(name).is_ok()
+}
+
+fn is_put(files: &mut MemFiles, bytes: &[u8]) -> bool
+    requires { IsSome files.old.writing }
+    ensures { IsSome files.new.writing }
+{
+    put_all(files, bytes).is_ok()
+}
+
+/// Whether a file without room is left as it is.
+fn is_kept(files: &mut MemFiles) -> bool {
+    !is_created(files, "out") && holds(files, "out", b"older")
+}
+
+/// Whether a file with room for four bytes takes no more, and then nothing.
+fn is_filled(files: &mut MemFiles) -> bool {
+    is_created(files, "out")
+        && is_put(files, b"abc")
+        && !is_put(files, b"def")
+        && holds(files, "out", b"abcd")
+        && is_put(files, b"")
+}
+
+/// Whether a file that is created is empty.
+fn is_begun_empty(files: &mut MemFiles) -> bool {
+    is_created(files, "new") && holds(files, "new", b"")
+}
+
 #[test]
-fn a_name_is_written_within_its_room(rt: HostRuntime) -> Result<(), Fail> {
-    let alloc = rt.alloc();
+fn a_name_is_written_within_its_room(rt: HostRuntime) -> Result<(), AllocError> {
     for most in [1, 3, 100] {
-        let mut files = MemFiles::new(alloc);
+        let mut files = MemFiles::new(rt.alloc());
         files.add("out", b"older")?;
-        assert_eq!(rt; files.create_file("out"), Err(Failed));
-        assert!(rt; matches!(files.content("out"), Some(b"older")));
+        assert!(rt; is_kept(&mut files), "{most} bytes a call");
         files.room("out", 4)?;
         files.room("new", 2)?;
         files.most(most);
-        assert!(rt; files.content("new").is_none());
-        files.create_file("out")?;
-        put_all(&mut files, b"abc")?;
-        assert_eq!(rt; put_all(&mut files, b"def"), Err(Failed));
-        assert!(rt;
-            matches!(files.content("out"), Some(b"abcd")),
-            "{most} bytes a call"
-        );
-        put_all(&mut files, b"")?;
-        files.create_file("new")?;
-        assert!(rt; matches!(files.content("new"), Some(b"")));
+        assert!(rt; is_absent(&files, "new"), "{most} bytes a call");
+        assert!(rt; is_filled(&mut files), "{most} bytes a call");
+        assert!(rt; is_begun_empty(&mut files), "{most} bytes a call");
     }
     Ok(())
 }
@@ -75,21 +123,30 @@ fn one_file_is_copied_into_another(rt: HostRuntime) -> Result<(), Fail> {
     Ok(())
 }
 
+fn is_said(console: &mut MemConsole, bytes: &[u8]) -> bool {
+    say_all(console, bytes).is_ok()
+}
+
+fn is_taken(console: &mut MemConsole, bytes: &[u8]) -> bool {
+    console.write(bytes).is_ok()
+}
+
+/// Whether a console with room for five bytes takes no more, and then nothing.
+fn is_filled_console(console: &mut MemConsole) -> bool {
+    is_said(console, b"abc")
+        && !is_said(console, b"def")
+        && console.printed() == b"abcde".as_slice()
+        && is_said(console, b"")
+}
+
 #[test]
-fn a_console_keeps_what_is_printed(rt: HostRuntime) -> Result<(), Fail> {
+fn a_console_keeps_what_is_printed(rt: HostRuntime) -> Result<(), AllocError> {
     for most in [1, 3, 100] {
         let mut console = MemConsole::new(rt.alloc());
-        assert_eq!(rt; console.write(b"x"), Err(Failed));
+        assert!(rt; !is_taken(&mut console, b"x"), "{most} bytes a call");
         console.room(5)?;
         console.most(most);
-        say_all(&mut console, b"abc")?;
-        assert_eq!(rt; say_all(&mut console, b"def"), Err(Failed));
-        assert_eq!(rt;
-            console.printed(),
-            b"abcde".as_slice(),
-            "{most} bytes a call"
-        );
-        say_all(&mut console, b"")?;
+        assert!(rt; is_filled_console(&mut console), "{most} bytes a call");
     }
     Ok(())
 }
