@@ -67,9 +67,6 @@ module _ {X Y : Type 0} (piece : X → List Y) (items : List X) (i : ℕ) (item 
   pub piece_given : (before after : List Y) → before ≡ flat_map piece (take i items) → after ≡ before ++ piece item → after ≡ flat_map piece (take (i + 1) items)
   piece_given before after = more_given (flat_map piece) (flat_map-append piece) items i item within is (piece item) before after (append-nil (piece item))
 
-  pub piece_added : (start before after : List Y) → before ≡ start ++ flat_map piece (take i items) → after ≡ before ++ piece item → after ≡ start ++ flat_map piece (take (i + 1) items)
-  piece_added start before after = more_added (flat_map piece) (flat_map-append piece) items i item within is start (piece item) before after (append-nil (piece item))
-
 -- the same, where what they show gives it
 module _ {X Y Z : Type 0} (shown : X → Y) (piece : Y → List Z) (items : List X) (i : ℕ) (item : X) (within : i < length items) (is : item ≡ get_or items i item) where
   abbrev given : List X → List Z

@@ -2,12 +2,13 @@ use Rattle.std.proofs.Common.{List, ◌++◌}
 use Rattle.check_plain.specs.Shown.{all_now}
 use Rattle.type_checker.specs.Scopes.{unbound_term, unbound_terms}
 use Rattle.pddl_parser.specs.declared.types.Term.{Term}
-use Rattle.check_plain.proofs.Turns.{piece_added, all_given}
+use Rattle.type_checker.proofs.Pieces.{pieces_turn}
+use Rattle.check_plain.proofs.Turns.{all_given}
 use Rattle.check_plain.proofs.scopes.add_unbound_terms.Goals as goal
 
 pub loop-term-preserved : goal.loop-term-preserved
 loop-term-preserved c =
-    piece_added (unbound_term (all_now c.args.scope.now)) c.args.terms.now c.loop-term.term-index c.term-item.result c.loop-term-test.true c.term-item.is
+    pieces_turn (unbound_term (all_now c.args.scope.now)) c.args.terms.now c.loop-term.term-index c.term-item.result c.loop-term-test.true c.term-item.is
     c.args.lines.now.items c.loop-term.lines.items c.add_unbound_term.new.lines.items c.loop-term.invariant (c.in_ok-add_unbound_term.ensures {u = tt})
 
 pub returns : goal.returns
