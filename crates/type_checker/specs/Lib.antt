@@ -7,6 +7,7 @@ pub mod Increases
 pub mod Initial
 pub mod Names
 pub mod Seen
+pub mod Mentioned
 pub mod Faults
 pub mod Checked
 pub mod Rows
