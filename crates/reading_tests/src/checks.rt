@@ -131,112 +131,114 @@ fn texts(
     Ok((domain, problem))
 }
 
+static EACH_KIND: [(&str, &str, &str, &[Row]); 13] = [
+    ("", "(off)", "(on)", &[]),
+    (
+        "\n(:action a :parameters (?y - e))",
+        "(off)",
+        "(exists (?z - f) (on))",
+        &[
+            (Side::Domain, Kind::UnknownType, 7),
+            (Side::Problem, Kind::UnknownType, 3),
+        ],
+    ),
+    (
+        "\n(:action go) (:action a :parameters (?x ?x))",
+        "",
+        "(on)",
+        &[
+            (Side::Domain, Kind::DuplicateName, 7),
+            (Side::Domain, Kind::DuplicateName, 7),
+        ],
+    ),
+    (
+        "",
+        "(up)",
+        "(and (on)\n (down))",
+        &[
+            (Side::Problem, Kind::UnknownPredicate, 2),
+            (Side::Problem, Kind::UnknownPredicate, 4),
+        ],
+    ),
+    (
+        "",
+        "(= (cost) 1)",
+        "(on)",
+        &[(Side::Problem, Kind::UnknownFunction, 2)],
+    ),
+    (
+        "\n(:action a :effect (at))",
+        "(= (price x) 1) (on x)",
+        "(on)",
+        &[
+            (Side::Domain, Kind::WrongArity, 7),
+            (Side::Problem, Kind::WrongArity, 2),
+            (Side::Problem, Kind::WrongArity, 2),
+        ],
+    ),
+    (
+        "",
+        "(at x)",
+        "(= y y)",
+        &[
+            (Side::Problem, Kind::UnknownObject, 2),
+            (Side::Problem, Kind::UnknownObject, 3),
+            (Side::Problem, Kind::UnknownObject, 3),
+        ],
+    ),
+    (
+        "\n(:action a :precondition\n (at ?y))",
+        "",
+        "(forall (?z) (at ?z))",
+        &[(Side::Domain, Kind::UnboundVariable, 8)],
+    ),
+    (
+        "\n(:action a :effect (lit))",
+        "(not (lit))",
+        "(on)",
+        &[
+            (Side::Domain, Kind::DerivedWritten, 7),
+            (Side::Problem, Kind::DerivedWritten, 2),
+        ],
+    ),
+    (
+        "\n(:derived (at ?x) (not (lit)))\n(:derived (lit) (exists (?x) (at ?x)))",
+        "",
+        "(on)",
+        &[
+            (Side::Domain, Kind::RecursiveDerived, 5),
+            (Side::Domain, Kind::RecursiveDerived, 7),
+            (Side::Domain, Kind::RecursiveDerived, 8),
+        ],
+    ),
+    (
+        "",
+        "(on)\n (not (on)) (not (off))",
+        "(on)",
+        &[(Side::Problem, Kind::InitConflict, 3)],
+    ),
+    (
+        "",
+        "(= (price) 1)\n (= (price) 1)\n (= (price) 2)",
+        "(on)",
+        &[(Side::Problem, Kind::ValueConflict, 4)],
+    ),
+    (
+        "\n(:action a :effect (and (increase (total-cost) 1)\n (increase (total-cost) 1)))\n(:action b :effect (increase (price) 1))",
+        "",
+        "(on)",
+        &[
+            (Side::Domain, Kind::CostForm, 8),
+            (Side::Domain, Kind::CostForm, 9),
+        ],
+    ),
+];
+
 #[test]
 fn each_kind_is_listed_and_its_first_fault_is_answered(rt: HostRuntime) {
     let alloc = rt.alloc();
-    let rows: [(&str, &str, &str, &[Row]); 13] = [
-        ("", "(off)", "(on)", &[]),
-        (
-            "\n(:action a :parameters (?y - e))",
-            "(off)",
-            "(exists (?z - f) (on))",
-            &[
-                (Side::Domain, Kind::UnknownType, 7),
-                (Side::Problem, Kind::UnknownType, 3),
-            ],
-        ),
-        (
-            "\n(:action go) (:action a :parameters (?x ?x))",
-            "",
-            "(on)",
-            &[
-                (Side::Domain, Kind::DuplicateName, 7),
-                (Side::Domain, Kind::DuplicateName, 7),
-            ],
-        ),
-        (
-            "",
-            "(up)",
-            "(and (on)\n (down))",
-            &[
-                (Side::Problem, Kind::UnknownPredicate, 2),
-                (Side::Problem, Kind::UnknownPredicate, 4),
-            ],
-        ),
-        (
-            "",
-            "(= (cost) 1)",
-            "(on)",
-            &[(Side::Problem, Kind::UnknownFunction, 2)],
-        ),
-        (
-            "\n(:action a :effect (at))",
-            "(= (price x) 1) (on x)",
-            "(on)",
-            &[
-                (Side::Domain, Kind::WrongArity, 7),
-                (Side::Problem, Kind::WrongArity, 2),
-                (Side::Problem, Kind::WrongArity, 2),
-            ],
-        ),
-        (
-            "",
-            "(at x)",
-            "(= y y)",
-            &[
-                (Side::Problem, Kind::UnknownObject, 2),
-                (Side::Problem, Kind::UnknownObject, 3),
-                (Side::Problem, Kind::UnknownObject, 3),
-            ],
-        ),
-        (
-            "\n(:action a :precondition\n (at ?y))",
-            "",
-            "(forall (?z) (at ?z))",
-            &[(Side::Domain, Kind::UnboundVariable, 8)],
-        ),
-        (
-            "\n(:action a :effect (lit))",
-            "(not (lit))",
-            "(on)",
-            &[
-                (Side::Domain, Kind::DerivedWritten, 7),
-                (Side::Problem, Kind::DerivedWritten, 2),
-            ],
-        ),
-        (
-            "\n(:derived (at ?x) (not (lit)))\n(:derived (lit) (exists (?x) (at ?x)))",
-            "",
-            "(on)",
-            &[
-                (Side::Domain, Kind::RecursiveDerived, 5),
-                (Side::Domain, Kind::RecursiveDerived, 7),
-                (Side::Domain, Kind::RecursiveDerived, 8),
-            ],
-        ),
-        (
-            "",
-            "(on)\n (not (on)) (not (off))",
-            "(on)",
-            &[(Side::Problem, Kind::InitConflict, 3)],
-        ),
-        (
-            "",
-            "(= (price) 1)\n (= (price) 1)\n (= (price) 2)",
-            "(on)",
-            &[(Side::Problem, Kind::ValueConflict, 4)],
-        ),
-        (
-            "\n(:action a :effect (and (increase (total-cost) 1)\n (increase (total-cost) 1)))\n(:action b :effect (increase (price) 1))",
-            "",
-            "(on)",
-            &[
-                (Side::Domain, Kind::CostForm, 8),
-                (Side::Domain, Kind::CostForm, 9),
-            ],
-        ),
-    ];
-    for (section, init, goal, faults) in rows {
+    for row in &EACH_KIND {
+        let (section, init, goal, faults) = *row;
         let (domain, problem) = texts(alloc, section, init, goal).ok().expect(&rt, "memory");
         assert!(rt;
             are(alloc, &domain, &problem, faults),

@@ -105,120 +105,122 @@ fn sections_and_keys_stand_in_any_order(rt: HostRuntime) {
     assert!(rt; matches!(&domain_of(rt.alloc(), TYPED), Ok(domain) if is_typed(domain)));
 }
 
+static FIRST_FAULTS: [(File, &str, Kind, u64); 19] = [
+    (
+        File::Domain,
+        "(define (domain d)\n(:predicates on (off)))",
+        Kind::Shape(ShapePlace::Head),
+        2,
+    ),
+    (File::Domain, "(define (domain sw@tch))", Kind::BadName, 1),
+    (
+        File::Domain,
+        "(define (domain d)\n(:predicates (and) (off)))",
+        Kind::ReservedWord,
+        2,
+    ),
+    (
+        File::Domain,
+        "(define (domain d)\n(:requirements :fluents))",
+        Kind::UnsupportedRequirement,
+        2,
+    ),
+    (
+        File::Domain,
+        "(define (domain d) (:predicates (p))\n(x)\ny)",
+        Kind::Shape(ShapePlace::Section),
+        3,
+    ),
+    (
+        File::Domain,
+        "(define (domain d) (:types a -\n(either b c)))",
+        Kind::UnsupportedSection,
+        2,
+    ),
+    (
+        File::Domain,
+        "(define (domain d)\n(:types a -\n))",
+        Kind::Shape(ShapePlace::Section),
+        2,
+    ),
+    (
+        File::Domain,
+        "(define (domain d) (:functions (f) - number\n- number))",
+        Kind::Shape(ShapePlace::Head),
+        2,
+    ),
+    (
+        File::Domain,
+        "(define (domain d) (:action a :precondition\n:effect (p)))",
+        Kind::Shape(ShapePlace::Condition),
+        2,
+    ),
+    (
+        File::Domain,
+        "(define (domain d) (:action a :effect ()\n:effect))",
+        Kind::RepeatedSection,
+        2,
+    ),
+    (
+        File::Domain,
+        "(define (domain d) (:action a :precondition\n(< (f) 1)))",
+        Kind::UnsupportedSection,
+        2,
+    ),
+    (
+        File::Domain,
+        "(define (domain d) (:action a :effect (= a b)))",
+        Kind::BadName,
+        1,
+    ),
+    (
+        File::Problem,
+        "(define (problem p)\n(:init (= (total-cost) 1.5)))",
+        Kind::NotWhole,
+        2,
+    ),
+    (
+        File::Problem,
+        "(define (problem p)\n(:init (= (total-cost) 2147483648)))",
+        Kind::NumberTooLarge,
+        2,
+    ),
+    (
+        File::Problem,
+        "(define (problem p)\n(:constraints (on)))",
+        Kind::UnsupportedSection,
+        2,
+    ),
+    (
+        File::Problem,
+        "(define (problem p) (:init (off))\n(:init))",
+        Kind::RepeatedSection,
+        2,
+    ),
+    (
+        File::Problem,
+        "(define (problem p)\n(:domain d) (:init))",
+        Kind::MissingSection,
+        1,
+    ),
+    (
+        File::Problem,
+        "(define (problem p) (:metric minimize (total-cost))\n(:metric maximize (x)))",
+        Kind::RepeatedSection,
+        2,
+    ),
+    (
+        File::Problem,
+        "(define (problem p) (:init (< (p) 1)))",
+        Kind::ReservedWord,
+        1,
+    ),
+];
+
 #[test]
 fn first_faults(rt: HostRuntime) {
-    let cases: [(File, &str, Kind, u64); 19] = [
-        (
-            File::Domain,
-            "(define (domain d)\n(:predicates on (off)))",
-            Kind::Shape(ShapePlace::Head),
-            2,
-        ),
-        (File::Domain, "(define (domain sw@tch))", Kind::BadName, 1),
-        (
-            File::Domain,
-            "(define (domain d)\n(:predicates (and) (off)))",
-            Kind::ReservedWord,
-            2,
-        ),
-        (
-            File::Domain,
-            "(define (domain d)\n(:requirements :fluents))",
-            Kind::UnsupportedRequirement,
-            2,
-        ),
-        (
-            File::Domain,
-            "(define (domain d) (:predicates (p))\n(x)\ny)",
-            Kind::Shape(ShapePlace::Section),
-            3,
-        ),
-        (
-            File::Domain,
-            "(define (domain d) (:types a -\n(either b c)))",
-            Kind::UnsupportedSection,
-            2,
-        ),
-        (
-            File::Domain,
-            "(define (domain d)\n(:types a -\n))",
-            Kind::Shape(ShapePlace::Section),
-            2,
-        ),
-        (
-            File::Domain,
-            "(define (domain d) (:functions (f) - number\n- number))",
-            Kind::Shape(ShapePlace::Head),
-            2,
-        ),
-        (
-            File::Domain,
-            "(define (domain d) (:action a :precondition\n:effect (p)))",
-            Kind::Shape(ShapePlace::Condition),
-            2,
-        ),
-        (
-            File::Domain,
-            "(define (domain d) (:action a :effect ()\n:effect))",
-            Kind::RepeatedSection,
-            2,
-        ),
-        (
-            File::Domain,
-            "(define (domain d) (:action a :precondition\n(< (f) 1)))",
-            Kind::UnsupportedSection,
-            2,
-        ),
-        (
-            File::Domain,
-            "(define (domain d) (:action a :effect (= a b)))",
-            Kind::BadName,
-            1,
-        ),
-        (
-            File::Problem,
-            "(define (problem p)\n(:init (= (total-cost) 1.5)))",
-            Kind::NotWhole,
-            2,
-        ),
-        (
-            File::Problem,
-            "(define (problem p)\n(:init (= (total-cost) 2147483648)))",
-            Kind::NumberTooLarge,
-            2,
-        ),
-        (
-            File::Problem,
-            "(define (problem p)\n(:constraints (on)))",
-            Kind::UnsupportedSection,
-            2,
-        ),
-        (
-            File::Problem,
-            "(define (problem p) (:init (off))\n(:init))",
-            Kind::RepeatedSection,
-            2,
-        ),
-        (
-            File::Problem,
-            "(define (problem p)\n(:domain d) (:init))",
-            Kind::MissingSection,
-            1,
-        ),
-        (
-            File::Problem,
-            "(define (problem p) (:metric minimize (total-cost))\n(:metric maximize (x)))",
-            Kind::RepeatedSection,
-            2,
-        ),
-        (
-            File::Problem,
-            "(define (problem p) (:init (< (p) 1)))",
-            Kind::ReservedWord,
-            1,
-        ),
-    ];
-    for (file, text, kind, line) in cases {
+    for row in &FIRST_FAULTS {
+        let (file, text, kind, line) = *row;
         assert!(rt;
             has_first_fault(rt.alloc(), file, text, Fault { kind, line }),
             "{text}"
@@ -382,144 +384,146 @@ const ENTRY: Kind = Kind::Shape(ShapePlace::InitEntry);
 const COST: Kind = Kind::Shape(ShapePlace::Cost);
 
 // A list at fault isn't looked into, so that it has one fault. Missing sections come last.
+static FAULTS_IN_ORDER: [(File, &str, &[(Kind, u64)]); 18] = [
+    (File::Domain, DOMAIN, &[]),
+    (File::Domain, TYPED, &[]),
+    (File::Problem, PROBLEM, &[]),
+    (
+        File::Domain,
+        DOMAIN_AT_FAULT,
+        &[
+            (Kind::BadName, 1),
+            (Kind::UnsupportedRequirement, 2),
+            (Kind::UnsupportedSection, 3),
+            (Kind::ReservedWord, 5),
+            (VARIABLES, 6),
+            (Kind::RepeatedSection, 7),
+            (VARIABLES, 8),
+            (CONDITION, 10),
+            (Kind::BadName, 11),
+            (Kind::UnsupportedSection, 12),
+            (Kind::NotWhole, 14),
+            (Kind::ReservedWord, 16),
+            (SECTION, 18),
+        ],
+    ),
+    (
+        File::Problem,
+        PROBLEM_AT_FAULT,
+        &[
+            (Kind::BadName, 3),
+            (Kind::BadName, 5),
+            (Kind::BadName, 6),
+            (Kind::NotWhole, 7),
+            (Kind::UnsupportedSection, 8),
+            (Kind::ReservedWord, 9),
+            (Kind::UnsupportedSection, 10),
+            (Kind::RepeatedSection, 11),
+            (Kind::MissingSection, 1),
+            (Kind::MissingSection, 1),
+        ],
+    ),
+    (
+        File::Domain,
+        DANGLING,
+        &[
+            (SECTION, 2),
+            (SECTION, 4),
+            (SECTION, 6),
+            (HEAD, 9),
+            (VARIABLES, 12),
+        ],
+    ),
+    (
+        File::Domain,
+        NO_TYPES,
+        &[
+            (TYPE_NAME, 3),
+            (Kind::UnsupportedSection, 5),
+            (TYPE_NAME, 7),
+            (TYPE_NAME, 9),
+            (Kind::UnsupportedSection, 11),
+        ],
+    ),
+    (
+        File::Domain,
+        NO_LISTS,
+        &[
+            (EFFECT, 3),
+            (EFFECT, 5),
+            (COST, 7),
+            (Kind::NotWhole, 9),
+            (CONDITION, 11),
+            (Kind::RepeatedSection, 13),
+        ],
+    ),
+    (
+        File::Domain,
+        RESERVED,
+        &[
+            (Kind::ReservedWord, 3),
+            (Kind::ReservedWord, 5),
+            (Kind::BadName, 7),
+            (Kind::UnsupportedSection, 9),
+        ],
+    ),
+    (
+        File::Problem,
+        "(define (problem p) (:domain d) (:objects a\n-) (:init (not\np) (=\nx 1)\n((p))))",
+        &[
+            (SECTION, 1),
+            (ENTRY, 3),
+            (ENTRY, 4),
+            (ENTRY, 5),
+            (Kind::MissingSection, 1),
+        ],
+    ),
+    (
+        File::Problem,
+        "(define (problem p) (:domain d) (:init) (:goal ())\n(:metric minimize (total-cost))\n(:metric maximize (x)))",
+        &[(Kind::RepeatedSection, 3)],
+    ),
+    (
+        File::Problem,
+        "(define (problem p) (:domain d) (:init) (:goal ())\n(:metric minimize))",
+        &[(Kind::UnsupportedSection, 2)],
+    ),
+    (
+        File::Domain,
+        "(define (domain d) (:predicates (p))\n(x)\ny)",
+        &[(SECTION, 3)],
+    ),
+    (
+        File::Domain,
+        "(define (domain d) (:predicates (p))\n(x)\n(:types a - (b)))",
+        &[(SECTION, 2), (TYPE_NAME, 3)],
+    ),
+    (
+        File::Domain,
+        "(define (domain d) (:functions (f) (g) - number (h)\n- number\n- number))",
+        &[(HEAD, 3)],
+    ),
+    (
+        File::Domain,
+        "(define (domain d) (:functions\n- number (f)))",
+        &[(HEAD, 2)],
+    ),
+    (
+        File::Domain,
+        "(define (domain d) (:functions (f)\nnumber))",
+        &[(HEAD, 2)],
+    ),
+    (
+        File::Domain,
+        "(define (domain d) (:functions (f) -\nreal))",
+        &[(Kind::UnsupportedSection, 2)],
+    ),
+];
+
 #[test]
 fn all_faults_in_order(rt: HostRuntime) {
-    let cases: [(File, &str, &[(Kind, u64)]); 18] = [
-        (File::Domain, DOMAIN, &[]),
-        (File::Domain, TYPED, &[]),
-        (File::Problem, PROBLEM, &[]),
-        (
-            File::Domain,
-            DOMAIN_AT_FAULT,
-            &[
-                (Kind::BadName, 1),
-                (Kind::UnsupportedRequirement, 2),
-                (Kind::UnsupportedSection, 3),
-                (Kind::ReservedWord, 5),
-                (VARIABLES, 6),
-                (Kind::RepeatedSection, 7),
-                (VARIABLES, 8),
-                (CONDITION, 10),
-                (Kind::BadName, 11),
-                (Kind::UnsupportedSection, 12),
-                (Kind::NotWhole, 14),
-                (Kind::ReservedWord, 16),
-                (SECTION, 18),
-            ],
-        ),
-        (
-            File::Problem,
-            PROBLEM_AT_FAULT,
-            &[
-                (Kind::BadName, 3),
-                (Kind::BadName, 5),
-                (Kind::BadName, 6),
-                (Kind::NotWhole, 7),
-                (Kind::UnsupportedSection, 8),
-                (Kind::ReservedWord, 9),
-                (Kind::UnsupportedSection, 10),
-                (Kind::RepeatedSection, 11),
-                (Kind::MissingSection, 1),
-                (Kind::MissingSection, 1),
-            ],
-        ),
-        (
-            File::Domain,
-            DANGLING,
-            &[
-                (SECTION, 2),
-                (SECTION, 4),
-                (SECTION, 6),
-                (HEAD, 9),
-                (VARIABLES, 12),
-            ],
-        ),
-        (
-            File::Domain,
-            NO_TYPES,
-            &[
-                (TYPE_NAME, 3),
-                (Kind::UnsupportedSection, 5),
-                (TYPE_NAME, 7),
-                (TYPE_NAME, 9),
-                (Kind::UnsupportedSection, 11),
-            ],
-        ),
-        (
-            File::Domain,
-            NO_LISTS,
-            &[
-                (EFFECT, 3),
-                (EFFECT, 5),
-                (COST, 7),
-                (Kind::NotWhole, 9),
-                (CONDITION, 11),
-                (Kind::RepeatedSection, 13),
-            ],
-        ),
-        (
-            File::Domain,
-            RESERVED,
-            &[
-                (Kind::ReservedWord, 3),
-                (Kind::ReservedWord, 5),
-                (Kind::BadName, 7),
-                (Kind::UnsupportedSection, 9),
-            ],
-        ),
-        (
-            File::Problem,
-            "(define (problem p) (:domain d) (:objects a\n-) (:init (not\np) (=\nx 1)\n((p))))",
-            &[
-                (SECTION, 1),
-                (ENTRY, 3),
-                (ENTRY, 4),
-                (ENTRY, 5),
-                (Kind::MissingSection, 1),
-            ],
-        ),
-        (
-            File::Problem,
-            "(define (problem p) (:domain d) (:init) (:goal ())\n(:metric minimize (total-cost))\n(:metric maximize (x)))",
-            &[(Kind::RepeatedSection, 3)],
-        ),
-        (
-            File::Problem,
-            "(define (problem p) (:domain d) (:init) (:goal ())\n(:metric minimize))",
-            &[(Kind::UnsupportedSection, 2)],
-        ),
-        (
-            File::Domain,
-            "(define (domain d) (:predicates (p))\n(x)\ny)",
-            &[(SECTION, 3)],
-        ),
-        (
-            File::Domain,
-            "(define (domain d) (:predicates (p))\n(x)\n(:types a - (b)))",
-            &[(SECTION, 2), (TYPE_NAME, 3)],
-        ),
-        (
-            File::Domain,
-            "(define (domain d) (:functions (f) (g) - number (h)\n- number\n- number))",
-            &[(HEAD, 3)],
-        ),
-        (
-            File::Domain,
-            "(define (domain d) (:functions\n- number (f)))",
-            &[(HEAD, 2)],
-        ),
-        (
-            File::Domain,
-            "(define (domain d) (:functions (f)\nnumber))",
-            &[(HEAD, 2)],
-        ),
-        (
-            File::Domain,
-            "(define (domain d) (:functions (f) -\nreal))",
-            &[(Kind::UnsupportedSection, 2)],
-        ),
-    ];
-    for (file, text, expected) in cases {
+    for row in &FAULTS_IN_ORDER {
+        let (file, text, expected) = *row;
         assert!(rt;
             has_shape_faults(rt.alloc(), file, text, expected),
             "{text}"
@@ -528,142 +532,144 @@ fn all_faults_in_order(rt: HostRuntime) {
 }
 
 // Names have none of `?`, `@` and `,`, don't begin with `:`, and aren't `-` or `=`. A `?` begins another word.
+static ODD_NAMES: [(File, &str, &[(Kind, u64)]); 16] = [
+    (
+        File::Domain,
+        ODD_HEADS,
+        &[
+            (Kind::BadName, 2),
+            (Kind::BadName, 3),
+            (Kind::BadName, 4),
+            (Kind::BadName, 5),
+            (Kind::BadName, 6),
+            (Kind::BadName, 7),
+            (VARIABLES, 8),
+            (VARIABLES, 9),
+            (VARIABLES, 10),
+            (Kind::BadName, 11),
+            (Kind::BadName, 12),
+            (Kind::BadName, 13),
+            (Kind::BadName, 14),
+            (Kind::BadName, 15),
+            (Kind::BadName, 16),
+            (Kind::BadName, 17),
+            (Kind::BadName, 18),
+            (Kind::BadName, 19),
+        ],
+    ),
+    (
+        File::Domain,
+        ODD_ACTIONS,
+        &[
+            (Kind::BadName, 2),
+            (Kind::BadName, 3),
+            (Kind::BadName, 4),
+            (Kind::BadName, 5),
+            (Kind::BadName, 6),
+            (Kind::Shape(ShapePlace::Action), 7),
+            (Kind::BadName, 9),
+            (Kind::BadName, 10),
+            (Kind::BadName, 11),
+            (Kind::BadName, 12),
+            (Kind::BadName, 13),
+            (Kind::BadName, 14),
+            (Kind::BadName, 15),
+            (Kind::BadName, 16),
+            (Kind::BadName, 17),
+            (Kind::BadName, 18),
+            (Kind::NotWhole, 19),
+            (Kind::NotWhole, 20),
+            (Kind::NotWhole, 21),
+            (Kind::NotWhole, 22),
+            (Kind::NotWhole, 23),
+            (Kind::BadName, 24),
+        ],
+    ),
+    (
+        File::Problem,
+        ODD_ENTRIES,
+        &[
+            (Kind::BadName, 2),
+            (Kind::BadName, 3),
+            (Kind::BadName, 4),
+            (Kind::BadName, 5),
+            (Kind::BadName, 6),
+            (Kind::BadName, 7),
+            (Kind::BadName, 8),
+            (Kind::NotWhole, 9),
+        ],
+    ),
+    (
+        File::Domain,
+        "(define (domain :d)\n(:types a - ?b)\n(:constants a@))",
+        THREE_NAMES,
+    ),
+    (
+        File::Domain,
+        "(define (domain ?d)\n(:types a - =)\n(:constants :c))",
+        THREE_NAMES,
+    ),
+    (
+        File::Domain,
+        "(define (domain @)\n(:types a - -)\n(:constants =))",
+        THREE_NAMES,
+    ),
+    (
+        File::Domain,
+        "(define (domain d,e)\n(:types a - :b)\n(:constants ?c))",
+        THREE_NAMES,
+    ),
+    (
+        File::Domain,
+        "(define (domain =)\n(:types a - b,)\n(:constants c - t ,))",
+        THREE_NAMES,
+    ),
+    (
+        File::Domain,
+        "(define (domain -)\n(:types a - b@)\n(:constants c d:e :f))",
+        THREE_NAMES,
+    ),
+    (
+        File::Problem,
+        "(define (problem :p)\n(:domain ?d)\n(:objects =) (:init) (:goal ()))",
+        THREE_NAMES,
+    ),
+    (
+        File::Problem,
+        "(define (problem ?p)\n(:domain =)\n(:objects :o) (:init) (:goal ()))",
+        THREE_NAMES,
+    ),
+    (
+        File::Problem,
+        "(define (problem @)\n(:domain :d)\n(:objects o,) (:init) (:goal ()))",
+        THREE_NAMES,
+    ),
+    (
+        File::Problem,
+        "(define (problem p,q)\n(:domain -)\n(:objects ?o) (:init) (:goal ()))",
+        THREE_NAMES,
+    ),
+    (
+        File::Problem,
+        "(define (problem -)\n(:domain d@)\n(:objects a - ?) (:init) (:goal ()))",
+        THREE_NAMES,
+    ),
+    (
+        File::Domain,
+        "(define (domain d\n?e))",
+        &[(Kind::Shape(ShapePlace::File), 2)],
+    ),
+    (
+        File::Problem,
+        "(define (problem p)\n(:domain d?e)\n(:objects -) (:init) (:goal ()))",
+        &[(SECTION, 2), (SECTION, 3)],
+    ),
+];
+
 #[test]
 fn odd_names(rt: HostRuntime) {
-    let cases: [(File, &str, &[(Kind, u64)]); 16] = [
-        (
-            File::Domain,
-            ODD_HEADS,
-            &[
-                (Kind::BadName, 2),
-                (Kind::BadName, 3),
-                (Kind::BadName, 4),
-                (Kind::BadName, 5),
-                (Kind::BadName, 6),
-                (Kind::BadName, 7),
-                (VARIABLES, 8),
-                (VARIABLES, 9),
-                (VARIABLES, 10),
-                (Kind::BadName, 11),
-                (Kind::BadName, 12),
-                (Kind::BadName, 13),
-                (Kind::BadName, 14),
-                (Kind::BadName, 15),
-                (Kind::BadName, 16),
-                (Kind::BadName, 17),
-                (Kind::BadName, 18),
-                (Kind::BadName, 19),
-            ],
-        ),
-        (
-            File::Domain,
-            ODD_ACTIONS,
-            &[
-                (Kind::BadName, 2),
-                (Kind::BadName, 3),
-                (Kind::BadName, 4),
-                (Kind::BadName, 5),
-                (Kind::BadName, 6),
-                (Kind::Shape(ShapePlace::Action), 7),
-                (Kind::BadName, 9),
-                (Kind::BadName, 10),
-                (Kind::BadName, 11),
-                (Kind::BadName, 12),
-                (Kind::BadName, 13),
-                (Kind::BadName, 14),
-                (Kind::BadName, 15),
-                (Kind::BadName, 16),
-                (Kind::BadName, 17),
-                (Kind::BadName, 18),
-                (Kind::NotWhole, 19),
-                (Kind::NotWhole, 20),
-                (Kind::NotWhole, 21),
-                (Kind::NotWhole, 22),
-                (Kind::NotWhole, 23),
-                (Kind::BadName, 24),
-            ],
-        ),
-        (
-            File::Problem,
-            ODD_ENTRIES,
-            &[
-                (Kind::BadName, 2),
-                (Kind::BadName, 3),
-                (Kind::BadName, 4),
-                (Kind::BadName, 5),
-                (Kind::BadName, 6),
-                (Kind::BadName, 7),
-                (Kind::BadName, 8),
-                (Kind::NotWhole, 9),
-            ],
-        ),
-        (
-            File::Domain,
-            "(define (domain :d)\n(:types a - ?b)\n(:constants a@))",
-            THREE_NAMES,
-        ),
-        (
-            File::Domain,
-            "(define (domain ?d)\n(:types a - =)\n(:constants :c))",
-            THREE_NAMES,
-        ),
-        (
-            File::Domain,
-            "(define (domain @)\n(:types a - -)\n(:constants =))",
-            THREE_NAMES,
-        ),
-        (
-            File::Domain,
-            "(define (domain d,e)\n(:types a - :b)\n(:constants ?c))",
-            THREE_NAMES,
-        ),
-        (
-            File::Domain,
-            "(define (domain =)\n(:types a - b,)\n(:constants c - t ,))",
-            THREE_NAMES,
-        ),
-        (
-            File::Domain,
-            "(define (domain -)\n(:types a - b@)\n(:constants c d:e :f))",
-            THREE_NAMES,
-        ),
-        (
-            File::Problem,
-            "(define (problem :p)\n(:domain ?d)\n(:objects =) (:init) (:goal ()))",
-            THREE_NAMES,
-        ),
-        (
-            File::Problem,
-            "(define (problem ?p)\n(:domain =)\n(:objects :o) (:init) (:goal ()))",
-            THREE_NAMES,
-        ),
-        (
-            File::Problem,
-            "(define (problem @)\n(:domain :d)\n(:objects o,) (:init) (:goal ()))",
-            THREE_NAMES,
-        ),
-        (
-            File::Problem,
-            "(define (problem p,q)\n(:domain -)\n(:objects ?o) (:init) (:goal ()))",
-            THREE_NAMES,
-        ),
-        (
-            File::Problem,
-            "(define (problem -)\n(:domain d@)\n(:objects a - ?) (:init) (:goal ()))",
-            THREE_NAMES,
-        ),
-        (
-            File::Domain,
-            "(define (domain d\n?e))",
-            &[(Kind::Shape(ShapePlace::File), 2)],
-        ),
-        (
-            File::Problem,
-            "(define (problem p)\n(:domain d?e)\n(:objects -) (:init) (:goal ()))",
-            &[(SECTION, 2), (SECTION, 3)],
-        ),
-    ];
-    for (file, text, expected) in cases {
+    for row in &ODD_NAMES {
+        let (file, text, expected) = *row;
         assert!(rt;
             has_shape_faults(rt.alloc(), file, text, expected),
             "{text}"
@@ -671,65 +677,67 @@ fn odd_names(rt: HostRuntime) {
     }
 }
 
+static ONE_CHANGE: [(File, &str, Kind, u64); 9] = [
+    (
+        File::Domain,
+        "(define (domain switch)\n(:predicates on (off)))",
+        Kind::Shape(ShapePlace::Head),
+        2,
+    ),
+    (
+        File::Domain,
+        "(define (domain sw@tch)\n(:predicates (on) (off)))",
+        Kind::BadName,
+        1,
+    ),
+    (
+        File::Domain,
+        "(define (domain switch)\n(:predicates (and) (off)))",
+        Kind::ReservedWord,
+        2,
+    ),
+    (
+        File::Domain,
+        "(define (domain switch)\n(:requirements :fluents) (:predicates (on) (off)))",
+        Kind::UnsupportedRequirement,
+        2,
+    ),
+    (
+        File::Problem,
+        "(define (problem one) (:domain switch)\n(:init (= (total-cost) 1.5))\n(:goal (on)))",
+        Kind::NotWhole,
+        2,
+    ),
+    (
+        File::Problem,
+        "(define (problem one) (:domain switch)\n(:init (= (total-cost) 2147483648))\n(:goal (on)))",
+        Kind::NumberTooLarge,
+        2,
+    ),
+    (
+        File::Problem,
+        "(define (problem one) (:domain switch)\n(:init (off))\n(:constraints (on)) (:goal (on)))",
+        Kind::UnsupportedSection,
+        3,
+    ),
+    (
+        File::Problem,
+        "(define (problem one) (:domain switch)\n(:init (off)) (:init)\n(:goal (on)))",
+        Kind::RepeatedSection,
+        2,
+    ),
+    (
+        File::Problem,
+        "(define (problem one) (:domain switch)\n(:init (off)))",
+        Kind::MissingSection,
+        1,
+    ),
+];
+
 #[test]
 fn one_change_of_the_switch_files_is_the_one_fault_listed(rt: HostRuntime) {
-    let rows: [(File, &str, Kind, u64); 9] = [
-        (
-            File::Domain,
-            "(define (domain switch)\n(:predicates on (off)))",
-            Kind::Shape(ShapePlace::Head),
-            2,
-        ),
-        (
-            File::Domain,
-            "(define (domain sw@tch)\n(:predicates (on) (off)))",
-            Kind::BadName,
-            1,
-        ),
-        (
-            File::Domain,
-            "(define (domain switch)\n(:predicates (and) (off)))",
-            Kind::ReservedWord,
-            2,
-        ),
-        (
-            File::Domain,
-            "(define (domain switch)\n(:requirements :fluents) (:predicates (on) (off)))",
-            Kind::UnsupportedRequirement,
-            2,
-        ),
-        (
-            File::Problem,
-            "(define (problem one) (:domain switch)\n(:init (= (total-cost) 1.5))\n(:goal (on)))",
-            Kind::NotWhole,
-            2,
-        ),
-        (
-            File::Problem,
-            "(define (problem one) (:domain switch)\n(:init (= (total-cost) 2147483648))\n(:goal (on)))",
-            Kind::NumberTooLarge,
-            2,
-        ),
-        (
-            File::Problem,
-            "(define (problem one) (:domain switch)\n(:init (off))\n(:constraints (on)) (:goal (on)))",
-            Kind::UnsupportedSection,
-            3,
-        ),
-        (
-            File::Problem,
-            "(define (problem one) (:domain switch)\n(:init (off)) (:init)\n(:goal (on)))",
-            Kind::RepeatedSection,
-            2,
-        ),
-        (
-            File::Problem,
-            "(define (problem one) (:domain switch)\n(:init (off)))",
-            Kind::MissingSection,
-            1,
-        ),
-    ];
-    for (file, text, kind, line) in rows {
+    for row in &ONE_CHANGE {
+        let (file, text, kind, line) = *row;
         assert!(rt;
             has_shape_faults(rt.alloc(), file, text, &[(kind, line)]),
             "{text}"
