@@ -22,4 +22,4 @@ pub mod Given
 pub mod Spelling
 pub mod Numbers
 pub mod WellSpelled
-pub mod Listed
+pub mod Steps

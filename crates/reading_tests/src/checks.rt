@@ -1,9 +1,8 @@
-//! The check faults of two files, by the plain program, and the first of them, by the checker.
+//! The first check fault of two files.
 
 ghost use Rattle.pddl_parser.specs.Spelled.{IsWellSpelled, IsWellSpelledProblem};
 
 use crate::reading::{domain_of, problem_of};
-use check_plain::check_faults;
 use pddl_lexer::{Fault, Kind};
 use pddl_parser::{Domain, Problem};
 use std::alloc::{AllocError, Global};
@@ -21,20 +20,6 @@ fn is_first(side: Side, fault: Fault, expected: &[Row]) -> bool {
     match expected {
         [first, ..] => is_fault(side, fault, first),
         [] => false,
-    }
-}
-
-fn are_faults(faults: &[(Side, Fault)], expected: &[Row]) -> bool {
-    let mut pairs = faults.iter().zip(expected);
-    faults.len() == expected.len()
-        && pairs.all(|((side, fault), expected)| is_fault(*side, *fault, expected))
-}
-
-/// Whether these are the faults that are listed.
-fn are_listed(alloc: Global, domain: &Domain, problem: &Problem, expected: &[Row]) -> bool {
-    match check_faults(alloc, domain, problem) {
-        Ok(faults) => are_faults(&faults, expected),
-        Err(_) => false,
     }
 }
 
@@ -58,7 +43,7 @@ fn are(alloc: Global, domain: &str, problem: &str, expected: &[Row]) -> bool {
     let Ok(problem) = problem_of(alloc, problem) else {
         return false;
     };
-    are_listed(alloc, &domain, &problem, expected) && is_answered(alloc, domain, problem, expected)
+    is_answered(alloc, domain, problem, expected)
 }
 
 const SWITCH: &str = "(define (domain switch)

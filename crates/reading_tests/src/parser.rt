@@ -1,6 +1,6 @@
 //! What the parser reads, its first fault, and all faults that are listed.
 
-use crate::reading::{File, domain_of, has_first_fault, has_shape_faults, problem_of};
+use crate::reading::{File, domain_of, has_first_fault, has_first_of, problem_of};
 use pddl_lexer::{Fault, Kind, ShapePlace};
 use pddl_parser::{Action, Condition, Derived, Domain, Effect, Head, Init, Named, Problem, Typed};
 use std::test::*;
@@ -525,7 +525,7 @@ fn all_faults_in_order(rt: HostRuntime) {
     for row in &FAULTS_IN_ORDER {
         let (file, text, expected) = *row;
         assert!(rt;
-            has_shape_faults(rt.alloc(), file, text, expected),
+            has_first_of(rt.alloc(), file, text, expected),
             "{text}"
         );
     }
@@ -671,7 +671,7 @@ fn odd_names(rt: HostRuntime) {
     for row in &ODD_NAMES {
         let (file, text, expected) = *row;
         assert!(rt;
-            has_shape_faults(rt.alloc(), file, text, expected),
+            has_first_of(rt.alloc(), file, text, expected),
             "{text}"
         );
     }
@@ -739,7 +739,7 @@ fn one_change_of_the_switch_files_is_the_one_fault_listed(rt: HostRuntime) {
     for row in &ONE_CHANGE {
         let (file, text, kind, line) = *row;
         assert!(rt;
-            has_shape_faults(rt.alloc(), file, text, &[(kind, line)]),
+            has_first_fault(rt.alloc(), file, text, Fault { kind, line }),
             "{text}"
         );
     }

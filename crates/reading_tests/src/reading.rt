@@ -4,10 +4,7 @@ ghost use Rattle.std.specs.Prelude.{IfOk};
 ghost use Rattle.pddl_parser.specs.Spelled.{IsWellSpelled, IsWellSpelledProblem};
 
 use pddl_lexer::{Fault, Kind, read_tree};
-use pddl_parser::{
-    Domain, ParseEnd, Problem, domain_shape_faults, parse_domain, parse_problem,
-    problem_shape_faults,
-};
+use pddl_parser::{Domain, ParseEnd, Problem, parse_domain, parse_problem};
 use std::alloc::Global;
 
 pub(crate) fn domain_of(alloc: Global, text: &str) -> Result<Domain, ParseEnd>
@@ -35,34 +32,6 @@ pub(crate) enum File {
     Problem,
 }
 
-/// All faults of shape, where the text has a tree.
-fn shape_faults(alloc: Global, file: File, text: &str) -> Option<Vec<Fault>> {
-    let tree = read_tree(alloc, text.as_bytes()).ok()?;
-    match file {
-        File::Domain => domain_shape_faults(alloc, &tree).ok(),
-        File::Problem => problem_shape_faults(alloc, &tree).ok(),
-    }
-}
-
-fn are(faults: &[Fault], expected: &[(Kind, u64)]) -> bool {
-    let mut pairs = faults.iter().zip(expected);
-    faults.len() == expected.len()
-        && pairs.all(|(fault, (kind, line))| fault.kind == *kind && fault.line == *line)
-}
-
-/// Whether these are all faults of shape, in order.
-pub(crate) fn has_shape_faults(
-    alloc: Global,
-    file: File,
-    text: &str,
-    expected: &[(Kind, u64)],
-) -> bool {
-    match shape_faults(alloc, file, text) {
-        Some(faults) => are(&faults, expected),
-        None => false,
-    }
-}
-
 /// Whether the parser answers this fault.
 pub(crate) fn has_first_fault(alloc: Global, file: File, text: &str, expected: Fault) -> bool {
     let end = match file {
@@ -70,4 +39,25 @@ pub(crate) fn has_first_fault(alloc: Global, file: File, text: &str, expected: F
         File::Problem => problem_of(alloc, text).err(),
     };
     matches!(end, Some(ParseEnd::Fault(fault)) if fault == expected)
+}
+
+/// Whether the parser answers the first of these faults.
+pub(crate) fn has_first_of(
+    alloc: Global,
+    file: File,
+    text: &str,
+    expected: &[(Kind, u64)],
+) -> bool {
+    match expected {
+        [(kind, line), ..] => has_first_fault(
+            alloc,
+            file,
+            text,
+            Fault {
+                kind: *kind,
+                line: *line,
+            },
+        ),
+        [] => false,
+    }
 }

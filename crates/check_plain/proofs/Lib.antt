@@ -1,3 +1,0 @@
-pub mod AllRows
-pub mod Capping
-pub mod Turns

@@ -1,7 +1,0 @@
-use Rattle.std.proofs.Common.{take, ◌++◌, ◌≡◌}
-use Rattle.check_plain.specs.Shown.{all_now}
-use Rattle.type_checker.specs.Names.{types_of}
-use Rattle.check_plain.proofs.listed.add_types.Given as goal
-
-abbrev pub invariant-loop-typed : goal.invariant-loop-typed
-invariant-loop-typed l = all_now l.types.items ≡ all_now l.initial.types.items ++ types_of (take l.typed-index l.list)
