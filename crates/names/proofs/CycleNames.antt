@@ -4,13 +4,13 @@ use Rattle.std.specs.List.{list_any}
 use Rattle.std.proofs.lemmas.Cmp.{nat_list_eq_equiv}
 use Rattle.std.proofs.lemmas.List.{get_or-map, length-map, map_more, map_push, take_all}
 use Rattle.std.proofs.lemmas.List.Folds.{list_any_more}
-use Rattle.pddl_parser.specs.Words.{Name, is_same}
-use Rattle.pddl_parser.proofs.SameAtoms.{same_name}
+use Rattle.names.specs.Names.{Name, is_same}
+use Rattle.names.proofs.SameNames.{same_name}
 use Rattle.names.specs.declared.components.Arc.{Arc}
 use Rattle.names.specs.declared.links.Pair.{Pair}
 use Rattle.names.specs.Links.{Link, link, leads, is_on_cycle}
 use Rattle.names.specs.Cycles.{closes, arc_of, pair_links}
-use Rattle.names.proofs.Items.{same_any}
+use Rattle.lists.proofs.Items.{same_any}
 
 -- the link leads on from the name, and closes a cycle
 abbrev pub turns : List Link → Name → Link → Bool

@@ -5,15 +5,15 @@ use Rattle.std.proofs.lemmas.Bool.{or_cases, and_parts, eqb-true, ltb-true}
 use Rattle.std.proofs.lemmas.List.{get_or-map, length-map}
 use Rattle.std.proofs.lemmas.List.Folds.{list_all-map}
 use Rattle.std.proofs.lemmas.Simd.{map-map}
-use Rattle.pddl_parser.specs.Words.{Name, is_same}
-use Rattle.pddl_parser.proofs.SameAtoms.{same_name}
+use Rattle.names.specs.Names.{Name, is_same}
+use Rattle.names.proofs.SameNames.{same_name}
 use Rattle.names.specs.declared.components.Arc.{Arc}
 use Rattle.names.specs.declared.components.Place.{Place}
 use Rattle.names.specs.Components.{place_at, arc_at, has_one_root, rank, leads_on, leads_to_root, is_led_to, IsShown}
 use Rattle.names.specs.Cycles.{closes, arc_of}
 use Rattle.names.specs.Links.{Link, link, leads}
 use Rattle.names.proofs.Chains.{First, first_link, Chain, standing, stepping, joining, any_chain}
-use Rattle.names.proofs.Items.{Among, among_at, all_passes}
+use Rattle.lists.proofs.Items.{Among, among_at, all_passes}
 use Rattle.names.proofs.Tables.{name_at}
 
 -- ---- lists

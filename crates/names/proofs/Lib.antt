@@ -1,4 +1,6 @@
+pub mod SameNames
 pub mod Items
+pub mod Reachability
 pub mod Chains
 pub mod Tables
 pub mod Evidence

@@ -5,8 +5,8 @@ use Rattle.std.proofs.lemmas.Cmp.{nat_list_eq_equiv}
 use Rattle.std.proofs.lemmas.List.{map_push}
 use Rattle.std.proofs.lemmas.List.Folds.{list_any-append}
 use Rattle.std.proofs.lemmas.Map.Steps.{list_any_congr}
-use Rattle.pddl_parser.specs.Words.{Name, is_same}
-use Rattle.pddl_parser.proofs.SameAtoms.{same_name}
+use Rattle.names.specs.Names.{Name, is_same}
+use Rattle.names.proofs.SameNames.{same_name}
 
 abbrev pub Key : Type 0
 Key = Bor (List ℕ)

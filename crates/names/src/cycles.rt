@@ -1,7 +1,7 @@
 // Which names are on a cycle of links.
 ghost use Rattle.std.specs.Prelude.{◌≡◌, map, IfOk};
 ghost use Rattle.std.specs.List.{list_any};
-ghost use Rattle.pddl_parser.specs.Words.{Name, is_same};
+ghost use Rattle.names.specs.Names.{Name, is_same};
 ghost use Rattle.names.specs.Cycles.{closes, arc_of, pair_links};
 ghost use Rattle.names.specs.Links as spec;
 ghost use Rattle.names.specs.Links.{link};

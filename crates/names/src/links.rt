@@ -1,7 +1,7 @@
 // Links between names.
 ghost use Rattle.std.specs.Prelude.{◌≡◌, ◌++◌, ◌∷◌, [], OnOk, OnErr, IfOk};
 ghost use Rattle.std.specs.List.{list_any};
-ghost use Rattle.pddl_parser.specs.Words.{Name, is_same};
+ghost use Rattle.names.specs.Names.{Name, is_same};
 ghost use Rattle.names.specs.Links.{link, is_on_cycle};
 
 use crate::cycles::on_cycles;
