@@ -1,7 +1,10 @@
+-- laws, which other crates may cite
 pub mod SameNames
-pub mod Items
 pub mod Reachability
 pub mod Chains
-pub mod Tables
-pub mod Evidence
-pub mod CycleNames
+pub mod Items
+
+-- lemmas of this crate
+mod Tables
+mod Evidence
+mod CycleNames

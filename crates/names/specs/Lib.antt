@@ -1,5 +1,8 @@
+-- what the public contracts say
 pub mod Names
 pub mod Reachability
 pub mod Links
+
+-- words of private contracts
 pub mod Components
 pub mod Cycles
