@@ -2,7 +2,6 @@
 pub mod Names
 pub mod Reachability
 pub mod Links
-
 -- words of private contracts
 pub mod Components
 pub mod Cycles

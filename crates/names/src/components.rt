@@ -9,14 +9,14 @@ ghost use Rattle.names.specs.Components as spec;
 use std::alloc::{AllocError, Global};
 
 /// An edge of the graph, from a number to a number.
-#[derive(Clone, Copy, Debug)]
+#[derive(Clone, Copy)]
 pub(crate) struct Arc {
     pub(crate) from: usize,
     pub(crate) to: usize,
 }
 
 /// How a search came to a number.
-#[derive(Clone, Copy, Debug)]
+#[derive(Clone, Copy)]
 pub(crate) struct Place {
     /// Where it had begun.
     pub(crate) root: usize,

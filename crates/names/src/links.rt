@@ -10,7 +10,7 @@ use std::alloc::{AllocError, Global};
 use std::marker::Model;
 
 /// A link from a name to a name.
-#[derive(Clone, Copy, Debug)]
+#[derive(Clone, Copy)]
 pub(crate) struct Pair<'a> {
     pub(crate) from: &'a [u8],
     pub(crate) to: &'a [u8],

@@ -1,4 +1,4 @@
-use Rattle.std.proofs.Common.{rules, ◌≡◌, map, IfOk}
+use Rattle.std.proofs.Common.{rules}
 use Rattle.std.proofs.lemmas.Simd.{map-map}
 use Rattle.names.proofs.cycles.arcs_of.Goals as goal
 
