@@ -1,5 +1,5 @@
 -- One step more of a loop over a list: what the items so far gave, and what the next one adds.
-use Rattle.std.proofs.Common.{◌≡◌, ℕ, zero, suc, ◌+◌, ◌<◌, Bool, true, false, ◌||◌, cond, List, [], ◌∷◌, ◌++◌, map, take, length, get_or, Some, sym, ap, ◌∙◌, append_assoc, append-nil, arith}
+use Rattle.std.proofs.Common.{◌≡◌, ℕ, zero, suc, ◌+◌, ◌<◌, Bool, true, false, ◌||◌, cond, List, [], ◌∷◌, ◌++◌, map, take, length, get_or, Some, refl, sym, ap, ◌∙◌, append_assoc, append-nil, arith}
 use Rattle.std.specs.List.{list_any, filter, flat_map, slice_get, range_with_len}
 use Rattle.std.proofs.lemmas.List.{take_more, map-append}
 use Rattle.std.proofs.lemmas.List.Concat.{flat_map-append}
@@ -41,7 +41,32 @@ module _ {X : Type 0} (xs : List X) (i : ℕ) (x : X) (within : i < length xs) (
   flat_map_turn f start before after held made =
       made ∙ ap (λ all. all ++ f x) held ∙ append_assoc start (flat_map f (take i xs)) (f x) ∙ ap (λ more. start ++ more) (sym (flat_map_next f))
 
+  -- one round of a loop that asks whether some item passes
+  pub any_last : (test : X → Bool) (before after : Bool) → before ≡ list_any test (take i xs) → after ≡ (test x || before) → after ≡ list_any test (take (i + 1) xs)
+  any_last test before after held asked =
+      asked ∙ ap (λ b. test x || b) held ∙ turned (test x) (list_any test (take i xs)) ∙ sym (any_next test)
+    where
+      turned : (a b : Bool) → (a || b) ≡ (b || a)
+      turned true true = refl
+      turned true false = refl
+      turned false true = refl
+      turned false false = refl
+
+  -- the same where something else may have held from the start
+  pub any_turn : (test : X → Bool) (start before after : Bool) → before ≡ (list_any test (take i xs) || start) → after ≡ (test x || before) → after ≡ (list_any test (take (i + 1) xs) || start)
+  any_turn test start before after held asked =
+      asked ∙ ap (λ b. test x || b) held ∙ turned (test x) (list_any test (take i xs)) start ∙ ap (λ b. b || start) (sym (any_next test))
+    where
+      turned : (a b c : Bool) → (a || (b || c)) ≡ ((b || a) || c)
+      turned true true c = refl
+      turned true false c = refl
+      turned false true c = refl
+      turned false false c = refl
+
 -- the same where the item was taken by `get`
+pub take_got : {X : Type 0} (xs : List X) (i : ℕ) (x : X) → slice_get xs i ≡ Some x → take (i + 1) xs ≡ take i xs ++ x ∷ []
+take_got xs i x at = take_next xs i x (slice_get_within xs i x at) (sym (get_or_from_slice_get xs i x x at))
+
 pub flat_map_got : {X Y : Type 0} (f : X → List Y) (xs : List X) (i : ℕ) (x : X) → slice_get xs i ≡ Some x → flat_map f (take (i + 1) xs) ≡ flat_map f (take i xs) ++ f x
 flat_map_got f xs i x at = flat_map_next xs i x (slice_get_within xs i x at) (sym (get_or_from_slice_get xs i x x at)) f
 
