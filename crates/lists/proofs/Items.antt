@@ -84,6 +84,26 @@ same_any test other (x ∷ xs) same =
     let rest = same_any test other xs (λ y there. same y (inr there)) in
     cc (here, rest)
 
+pub same_all : {X : Type 0} (test other : X → Bool) (xs : List X) → ((x : X) → Among x xs → test x ≡ other x) → list_all test xs ≡ list_all other xs
+same_all test other [] same = refl
+same_all test other (x ∷ xs) same =
+    let here = same x (inl refl) in
+    let rest = same_all test other xs (λ y there. same y (inr there)) in
+    cc (here, rest)
+
+-- functions that give the same of each item give the same of the list
+pub same_map : {X Y : Type 0} (f g : X → Y) (xs : List X) → ((x : X) → Among x xs → f x ≡ g x) → map f xs ≡ map g xs
+same_map f g [] same = refl
+same_map f g (x ∷ xs) same =
+    let here = same x (inl refl) in
+    let rest = same_map f g xs (λ y there. same y (inr there)) in
+    cc (here, rest)
+
+-- a test of a mapped list
+pub any_map : {X Y : Type 0} (test : Y → Bool) (f : X → Y) (xs : List X) → list_any test (map f xs) ≡ list_any (λ x. test (f x)) xs
+any_map test f [] = refl
+any_map test f (x ∷ xs) = ap (λ b. test (f x) || b) (any_map test f xs)
+
 -- lists with the same items pass a test alike
 pub same_items_any : {X : Type 0} (test : X → Bool) (xs ys : List X) → ((x : X) → Among x xs → Among x ys) → ((x : X) → Among x ys → Among x xs) → list_any test xs ≡ list_any test ys
 same_items_any test xs ys forth back =
