@@ -1,12 +1,14 @@
 -- Chains of links: they join, none needs more links than there are, and where no link starts on a cycle each of them ends.
-use Rattle.std.proofs.Common.{◌≡◌, ℕ, zero, suc, Bool, true, false, ◌&&◌, ◌⊎◌, inl, inr, List, length, refl, sym, ap, subst, arith}
+use Rattle.std.proofs.Common.{◌≡◌, ℕ, zero, suc, Bool, true, false, ◌&&◌, ◌⊎◌, inl, inr, List, map, length, refl, sym, ap, subst, arith}
 use Rattle.std.specs.List.{list_any}
-use Rattle.std.proofs.lemmas.Bool.{or_cases, or_left, or_right, and_from, and_parts}
-use Rattle.std.proofs.lemmas.Cmp.{nat_list_eq_equiv}
-use Rattle.pddl_parser.specs.Words.{Name, is_same}
-use Rattle.pddl_parser.proofs.SameAtoms.{same_name}
-use Rattle.names.specs.Links.{Link, leads, is_on_cycle}
-use Rattle.names.proofs.Items.{Among, taken_out, one_fewer, out_or_left, put_back, any_passes, passing}
+use Rattle.std.proofs.lemmas.Bool.{or_cases, or_right, and_from, and_parts}
+use Rattle.std.proofs.lemmas.List.{length-map}
+use Rattle.names.specs.Names.{Name, is_same}
+use Rattle.names.proofs.SameNames.{same_name}
+use Rattle.names.specs.Links.{Link, some_link, leads, is_on_cycle}
+use Rattle.names.proofs.Reachability as graph
+use Rattle.names.proofs.Reachability.{IsGraph, same_as}
+use Rattle.lists.proofs.Items.{Among, among_map, taken_out, one_fewer, out_or_left, any_passes, passing}
 
 -- ---- the first link
 
@@ -21,13 +23,9 @@ pub record First (links : List Link) (steps : ℕ) (from to : Name) : Type 0 whe
   pub starts : first.from ≡ from
   pub chain : leads links steps first.to to ≡ true
 
-same_as : (a b : Name) → a ≡ b → is_same a b ≡ true
-same_as a b equal = subst (λ (name : Name). is_same a name ≡ true) equal (nat_list_eq_equiv.refl a)
-
 -- a chain of no links
 pub standing : (links : List Link) (steps : ℕ) (from to : Name) → from ≡ to → leads links steps from to ≡ true
-standing links zero from to equal = same_as from to equal
-standing links (suc steps) from to equal = or_left (is_same from to) (list_any (goes_on links steps from to) links) (same_as from to equal)
+standing links = graph.standing (some_link links)
 
 pub with_first : (links : List Link) (steps : ℕ) (from to : Name) → First links steps from to → leads links (suc steps) from to ≡ true
 with_first links steps from to on =
@@ -72,66 +70,28 @@ joining links from middle to first rest = from_steps links first.steps from midd
 
 -- ---- no chain needs more links than there are
 
--- a link more doesn't matter
-leads_with : (item : Link) (links : List Link) (among : Among item links) (steps : ℕ) (from to : Name) → leads (taken_out item links among) steps from to ≡ true → leads links steps from to ≡ true
-leads_with item links among zero from to chain = chain
-leads_with item links among (suc steps) from to chain = by (λ (next : Name). leads_with item links among steps next to) (first_link (taken_out item links among) steps from to chain)
-  where
-    by : ((next : Name) → leads (taken_out item links among) steps next to ≡ true → leads links steps next to ≡ true) → (from ≡ to) ⊎ First (taken_out item links among) steps from to →
-        leads links (suc steps) from to ≡ true
-    by rest (inl equal) = standing links (suc steps) from to equal
-    by rest (inr on) = with_first links steps from to (record { first = on.first; among = put_back item links among on.first on.among; starts = on.starts; chain = rest on.first.to on.chain })
-
--- a chain goes without the link, or goes without it behind its last use
-last_use : (item : Link) (links : List Link) (among : Among item links) (steps : ℕ) (from to : Name) → leads links steps from to ≡ true →
-    (leads (taken_out item links among) steps from to ≡ true) ⊎ Chain (taken_out item links among) item.to to
-last_use item links among zero from to chain = inl chain
-last_use item links among (suc steps) from to chain = by_first (λ (next : Name). last_use item links among steps next to) (first_link links steps from to chain)
-  where
-    others : List Link
-    others = taken_out item links among
-
-    by_link : (on : First links steps from to) → (item ≡ on.first) ⊎ Among on.first others → (leads others steps on.first.to to ≡ true) ⊎ Chain others item.to to →
-        (leads others (suc steps) from to ≡ true) ⊎ Chain others item.to to
-    by_link on which (inr behind) = inr behind
-    by_link on (inl same) (inl chain) = inr (record { steps = steps; leads_there = subst (λ (l : Link). leads others steps l.to to ≡ true) (sym same) chain })
-    by_link on (inr other) (inl chain) = inl (with_first others steps from to (record { first = on.first; among = other; starts = on.starts; chain = chain }))
-
-    by_first : ((next : Name) → leads links steps next to ≡ true → (leads others steps next to ≡ true) ⊎ Chain others item.to to) → (from ≡ to) ⊎ First links steps from to →
-        (leads others (suc steps) from to ≡ true) ⊎ Chain others item.to to
-    by_first rest (inl equal) = inl (standing others (suc steps) from to equal)
-    by_first rest (inr on) = by_link on (out_or_left item links among on.first on.among) (rest on.first.to on.chain)
-
-abbrev IsShort : ℕ → Type 0
-IsShort size = (links : List Link) → length links ≡ size → (steps : ℕ) (from to : Name) → leads links steps from to ≡ true → leads links size from to ≡ true
-
-shortened : (size : ℕ) → IsShort size
-shortened size links sized zero from to chain = standing links size from to (same_name from to chain)
-shortened zero links sized (suc steps) from to chain = by (first_link links steps from to chain)
-  where
-    by : (from ≡ to) ⊎ First links steps from to → leads links zero from to ≡ true
-    by (inl equal) = standing links zero from to equal
-    by (inr on) = absurd (omega (arith, sized, one_fewer on.first links on.among))
-shortened (suc size) links sized (suc steps) from to chain = by (shortened size) (first_link links steps from to chain)
-  where
-    by : IsShort size → (from ≡ to) ⊎ First links steps from to → leads links (suc size) from to ≡ true
-    by short (inl equal) = standing links (suc size) from to equal
-    by short (inr on) = with_first links size from to (record { first = on.first; among = on.among; starts = on.starts; chain = by_use (last_use on.first links on.among steps on.first.to to on.chain) })
-      where
-        others : List Link
-        others = taken_out on.first links on.among
-
-        without : (fewer : ℕ) → leads others fewer on.first.to to ≡ true → leads links size on.first.to to ≡ true
-        without fewer behind =
-            leads_with on.first links on.among size on.first.to to (short others (omega (arith, sized, one_fewer on.first links on.among)) fewer on.first.to to behind)
-
-        by_use : (leads others steps on.first.to to ≡ true) ⊎ Chain others on.first.to to → leads links size on.first.to to ≡ true
-        by_use (inl behind) = without steps behind
-        by_use (inr behind) = without behind.steps behind.leads_there
+-- links as the edges of a graph
+links_graph : (links : List Link) → IsGraph (some_link links) (map (λ link. link.from) links)
+links_graph links = record {
+  next_of = λ from passes some.
+      let on = passing (λ link. is_same link.from from && passes link.to) links some in
+      let parts = and_parts (is_same on.item.from from) (passes on.item.to) on.passes in
+      record {
+        next = on.item.to;
+        passing = parts.1;
+        edge = λ other passed. any_passes (λ link. is_same link.from from && other link.to) on.item links on.among (and_from (is_same on.item.from from) (other on.item.to) parts.0 passed);
+      };
+  start_of = λ from passes some.
+      let on = passing (λ link. is_same link.from from && passes link.to) links some in
+      let start = same_name on.item.from from (and_parts (is_same on.item.from from) (passes on.item.to) on.passes).0 in
+      subst (λ (name : Name). Among name (map (λ (link : Link). link.from) links)) start (among_map (λ (link : Link). link.from) on.item links on.among);
+}
 
 -- a chain of any number of links leads no further than one of as many as there are
 pub any_chain : (links : List Link) (steps : ℕ) (from to : Name) → leads links steps from to ≡ true → leads links (length links) from to ≡ true
-any_chain links steps from to chain = shortened (length links) links refl steps from to chain
+any_chain links steps from to chain =
+    subst (λ (count : ℕ). leads links count from to ≡ true) (length-map links (λ (link : Link). link.from))
+    (graph.any_chain (some_link links) (map (λ (link : Link). link.from) links) (links_graph links) steps from to chain)
 
 -- ---- chains that end
 

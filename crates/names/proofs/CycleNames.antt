@@ -1,16 +1,15 @@
 -- The names on cycles are those from which a link leads that closes one.
-use Rattle.std.proofs.Common.{◌≡◌, ℕ, ◌+◌, ◌<◌, ◌≤◌, Bool, true, false, ◌&&◌, ◌||◌, List, [], ◌∷◌, ◌++◌, map, take, length, get_or, refl, sym, ap, ◌∙◌, arith}
+use Rattle.std.proofs.Common.{◌≡◌, ℕ, ◌+◌, ◌<◌, ◌≤◌, Bool, true, false, ◌&&◌, ◌||◌, List, map, take, length, get_or, refl, sym, ap, ◌∙◌, arith}
 use Rattle.std.specs.List.{list_any}
 use Rattle.std.proofs.lemmas.Cmp.{nat_list_eq_equiv}
-use Rattle.std.proofs.lemmas.List.{get_or-map, length-map, map_more, map_push, take_all}
-use Rattle.std.proofs.lemmas.List.Folds.{list_any_more}
-use Rattle.pddl_parser.specs.Words.{Name, is_same}
-use Rattle.pddl_parser.proofs.SameAtoms.{same_name}
-use Rattle.names.specs.declared.components.Arc.{Arc}
+use Rattle.std.proofs.lemmas.List.{get_or-map, length-map, take_all}
+use Rattle.names.specs.Names.{Name, is_same}
+use Rattle.names.proofs.SameNames.{same_name}
 use Rattle.names.specs.declared.links.Pair.{Pair}
 use Rattle.names.specs.Links.{Link, link, leads, is_on_cycle}
-use Rattle.names.specs.Cycles.{closes, arc_of, pair_links}
-use Rattle.names.proofs.Items.{same_any}
+use Rattle.names.specs.Cycles.{closes, pair_links}
+use Rattle.lists.proofs.Items.{same_any}
+use Rattle.lists.proofs.LoopSteps.{any_next}
 
 -- the link leads on from the name, and closes a cycle
 abbrev pub turns : List Link → Name → Link → Bool
@@ -56,13 +55,6 @@ module _ (pairs : List Pair) (i : ℕ) (other : Pair) (within : i < length pairs
   inside : i < length links
   inside = omega (arith, within, length-map pairs link_of)
 
-  pub arcs_more : (names : List Name) (arcs more : List Arc) (arc : Arc) → arcs ≡ map (arc_of names) (pair_links (take i pairs)) → arc ≡ arc_of names this → more ≡ arcs ++ arc ∷ [] →
-      more ≡ map (arc_of names) (pair_links (take (i + 1) pairs))
-  arcs_more names arcs more arc before is pushed =
-      let one_more = map_more link_of pairs i other within in
-      let mapped = map_push (arc_of names) (pair_links (take i pairs)) this in
-      cc (one_more, mapped)
-
   -- the answer for the link
   pub answer_at : (answers : List Bool) (answer : Bool) → answers ≡ map (closes links) links → answer ≡ get_or answers i answer → answer ≡ closes links this
   answer_at answers answer are is =
@@ -73,7 +65,7 @@ module _ (pairs : List Pair) (i : ℕ) (other : Pair) (within : i < length pairs
   Are count names = (name : Name) → list_any (is_same name) names ≡ list_any (turns links name) (take count links)
 
   turns_more : (name : Name) → list_any (turns links name) (take (i + 1) links) ≡ (list_any (turns links name) (take i links) || turns links name this)
-  turns_more name = list_any_more (turns links name) links i this inside ∙ ap (λ one. list_any (turns links name) (take i links) || turns links name one) (link_is this)
+  turns_more name = any_next links i this inside (sym (link_is this)) (turns links name)
 
   pub named : (before after : List Name) → closes links this ≡ true → Are i before → ((name : Name) → list_any (is_same name) after ≡ (is_same name this.from || list_any (is_same name) before)) → Are (i + 1) after
   named before after closing was added = λ name.

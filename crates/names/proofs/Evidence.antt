@@ -1,29 +1,21 @@
 -- Two searches that are checked show which links close a cycle.
-use Rattle.std.proofs.Common.{◌≡◌, ℕ, zero, suc, ◌<◌, ◌≤◌, Bool, true, false, ◌&&◌, ◌||◌, ◌⊎◌, inl, inr, List, [], ◌∷◌, map, length, get_or, nat_lt, nat_eq, Option, refl, sym, ap, ◌∙◌, subst, arith}
+use Rattle.std.proofs.Common.{◌≡◌, ℕ, zero, suc, ◌<◌, ◌≤◌, Bool, true, ◌&&◌, ◌||◌, ◌⊎◌, inl, inr, List, [], map, length, get_or, nat_lt, nat_eq, Option, refl, sym, ap, ◌∙◌, subst, arith}
+use Rattle.std.specs.Cmp.{both_ways}
 use Rattle.std.specs.List.{list_all, position_or_len}
 use Rattle.std.proofs.lemmas.Bool.{or_cases, and_parts, eqb-true, ltb-true}
 use Rattle.std.proofs.lemmas.List.{get_or-map, length-map}
 use Rattle.std.proofs.lemmas.List.Folds.{list_all-map}
 use Rattle.std.proofs.lemmas.Simd.{map-map}
-use Rattle.pddl_parser.specs.Words.{Name, is_same}
-use Rattle.pddl_parser.proofs.SameAtoms.{same_name}
+use Rattle.names.specs.Names.{Name, is_same}
+use Rattle.names.proofs.SameNames.{same_name}
 use Rattle.names.specs.declared.components.Arc.{Arc}
 use Rattle.names.specs.declared.components.Place.{Place}
 use Rattle.names.specs.Components.{place_at, arc_at, has_one_root, rank, leads_on, leads_to_root, is_led_to, IsShown}
 use Rattle.names.specs.Cycles.{closes, arc_of}
 use Rattle.names.specs.Links.{Link, link, leads}
 use Rattle.names.proofs.Chains.{First, first_link, Chain, standing, stepping, joining, any_chain}
-use Rattle.names.proofs.Items.{Among, among_at, all_passes}
+use Rattle.lists.proofs.Items.{Among, among_at, all_passes, same_map}
 use Rattle.names.proofs.Tables.{name_at}
-
--- ---- lists
-
-map_same : {X Y : Type 0} (f g : X → Y) (other : X) (xs : List X) → ((place : ℕ) → place < length xs → f (get_or xs place other) ≡ g (get_or xs place other)) → map f xs ≡ map g xs
-map_same f g other [] same = refl
-map_same f g other (x ∷ xs) same =
-    let here : f x ≡ g x = same 0 (omega arith) in
-    let rest : map f xs ≡ map g xs = map_same f g other xs (λ place within. same (suc place) (omega (arith, within))) in
-    cc (here, rest)
 
 -- ---- what the check shows
 
@@ -203,52 +195,43 @@ module _ (names : List Name) (links : List Link) (against along : List (Option P
 
   -- ---- a link closes a cycle where its ends have one root
 
-  closed : (place : ℕ) → place < length links → has_one_root against (number (link_at place).from) (number (link_at place).to) ≡ closes links (link_at place)
-  closed place within = by (has_one_root against (number one.from) (number one.to)) refl (closes links one) refl
+  closed : (one : Link) → Among one links → has_one_root against (number one.from) (number one.to) ≡ closes links one
+  closed one among = both_ways (has_one_root against (number one.from) (number one.to)) (closes links one) comes_back stays_here
     where
-      one : Link
-      one = link_at place
+      on : On one
+      on = on_of one among
 
-      on : On (link_at place)
-      on = on_at place within
-
-      back : root (number (link_at place).from) ≡ root (number (link_at place).to) → Chain links (link_at place).to (link_at place).from
+      back : root (number one.from) ≡ root (number one.to) → Chain links one.to one.from
       back same =
-          let up : Chain links (name_of (number (link_at place).to)) (name_of (root (number (link_at place).to))) =
-          to_root (suc (place_at against (number (link_at place).to)).order) (number (link_at place).to) on.ends (omega arith) in
-          let down : Chain links (name_of (root (number (link_at place).from))) (name_of (number (link_at place).from)) =
-          from_root (suc (place_at along (number (link_at place).from)).order) (number (link_at place).from) on.begins (omega arith) in
-          let whole : Chain links (name_of (number (link_at place).to)) (name_of (number (link_at place).from)) =
-          joining links (name_of (number (link_at place).to)) (name_of (root (number (link_at place).to))) (name_of (number (link_at place).from)) up
-          (subst (λ (r : ℕ). Chain links (name_of r) (name_of (number (link_at place).from))) same down) in
-          subst (λ (n : Name). Chain links n (link_at place).from) (spelled (link_at place).to on.ends)
-          (subst (λ (n : Name). Chain links (name_of (number (link_at place).to)) n) (spelled (link_at place).from on.begins) whole)
+          let up : Chain links (name_of (number one.to)) (name_of (root (number one.to))) =
+          to_root (suc (place_at against (number one.to)).order) (number one.to) on.ends (omega arith) in
+          let down : Chain links (name_of (root (number one.from))) (name_of (number one.from)) =
+          from_root (suc (place_at along (number one.from)).order) (number one.from) on.begins (omega arith) in
+          let whole : Chain links (name_of (number one.to)) (name_of (number one.from)) =
+          joining links (name_of (number one.to)) (name_of (root (number one.to))) (name_of (number one.from)) up
+          (subst (λ (r : ℕ). Chain links (name_of r) (name_of (number one.from))) same down) in
+          subst (λ (n : Name). Chain links n one.from) (spelled one.to on.ends)
+          (subst (λ (n : Name). Chain links (name_of (number one.to)) n) (spelled one.from on.begins) whole)
 
-      comes_back : has_one_root against (number (link_at place).from) (number (link_at place).to) ≡ true → closes links (link_at place) ≡ true
+      comes_back : has_one_root against (number one.from) (number one.to) ≡ true → closes links one ≡ true
       comes_back same =
-          let chain = back (eqb-true (root (number (link_at place).from)) (root (number (link_at place).to)) same) in
-          any_chain links chain.steps (link_at place).to (link_at place).from chain.leads_there
+          let chain = back (eqb-true (root (number one.from)) (root (number one.to)) same) in
+          any_chain links chain.steps one.to one.from chain.leads_there
 
-      never : has_one_root against (number (link_at place).from) (number (link_at place).to) ≡ false → closes links (link_at place) ≡ true → ⊥
-      never apart closing = by_rise on.stays_or_rises
+      stays_here : closes links one ≡ true → has_one_root against (number one.from) (number one.to) ≡ true
+      stays_here closing = by on.stays_or_rises
         where
-          by_rise : (has_one_root against (number (link_at place).from) (number (link_at place).to) ≡ true) ⊎ (nat_lt (rank_of (link_at place).from) (rank_of (link_at place).to) ≡ true) → ⊥
-          by_rise (inl same) = cc
-          by_rise (inr rises) =
-              let above : rank_of (link_at place).from < rank_of (link_at place).to = ltb-true (rank_of (link_at place).from) (rank_of (link_at place).to) rises in
-              let back_again : rank_of (link_at place).to ≤ rank_of (link_at place).from = chain_rank (length links) (link_at place).to (link_at place).from closing in
-              omega (arith, above, back_again)
-
-      by : (same : Bool) → has_one_root against (number (link_at place).from) (number (link_at place).to) ≡ same → (closing : Bool) → closes links (link_at place) ≡ closing →
-          has_one_root against (number (link_at place).from) (number (link_at place).to) ≡ closes links (link_at place)
-      by true e closing f = e ∙ sym (comes_back e)
-      by false e true f = absurd (never e f)
-      by false e false f = e ∙ sym f
+          by : (has_one_root against (number one.from) (number one.to) ≡ true) ⊎ (nat_lt (rank_of one.from) (rank_of one.to) ≡ true) → has_one_root against (number one.from) (number one.to) ≡ true
+          by (inl same) = same
+          by (inr rises) =
+              let above : rank_of one.from < rank_of one.to = ltb-true (rank_of one.from) (rank_of one.to) rises in
+              let back_again : rank_of one.to ≤ rank_of one.from = chain_rank (length links) one.to one.from closing in
+              absurd (omega (arith, above, back_again))
 
   pub shows : map (λ arc. has_one_root against arc.from arc.to) (map (arc_of names) links) ≡ map (closes links) links
   shows =
       map-map (λ (arc : Arc). has_one_root against arc.from arc.to) (arc_of names) links
-      ∙ map_same (λ (one : Link). has_one_root against (number one.from) (number one.to)) (closes links) no_link links closed
+      ∙ same_map (λ (one : Link). has_one_root against (number one.from) (number one.to)) (closes links) links closed
 
 -- the same, as the code has it
 pub shown_answers : (names : List Name) (links : List Link) (against along : List (Option Place)) (count : ℕ) (all checked asked : List Arc) (answers : List Bool) →

@@ -1,5 +1,9 @@
-pub mod Items
+-- laws, which other crates may cite
+pub mod SameNames
+pub mod Reachability
 pub mod Chains
-pub mod Tables
-pub mod Evidence
-pub mod CycleNames
+pub mod Items
+-- lemmas of this crate
+mod Tables
+mod Evidence
+mod CycleNames

@@ -5,15 +5,15 @@ use Rattle.std.proofs.lemmas.Cmp.{nat_list_eq_equiv}
 use Rattle.std.proofs.lemmas.List.{map_push}
 use Rattle.std.proofs.lemmas.List.Folds.{list_any-append}
 use Rattle.std.proofs.lemmas.Map.Steps.{list_any_congr}
-use Rattle.pddl_parser.specs.Words.{Name, is_same}
-use Rattle.pddl_parser.proofs.SameAtoms.{same_name}
+use Rattle.lists.proofs.Items.{any_map}
+use Rattle.names.specs.Names.{Name, is_same}
+use Rattle.names.proofs.SameNames.{same_name}
 
 abbrev pub Key : Type 0
 Key = Bor (List ℕ)
 
 pub list_any-now : (p : Name → Bool) (keys : List Key) → list_any p (map (λ key. key.now) keys) ≡ list_any (λ key. p key.now) keys
-list_any-now p [] = refl
-list_any-now p (key ∷ keys) = ap (λ b. p key.now || b) (list_any-now p keys)
+list_any-now p = any_map p (λ (key : Key). key.now)
 
 pub position_or_len-now : (p : Name → Bool) (keys : List Key) → position_or_len p (map (λ key. key.now) keys) ≡ position_or_len (λ key. p key.now) keys
 position_or_len-now p [] = refl

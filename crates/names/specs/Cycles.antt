@@ -1,7 +1,7 @@
 -- Links as they are searched for cycles.
 use Rattle.std.specs.Prelude.{Bool, List, map, length}
 use Rattle.std.specs.List.{position_or_len}
-use Rattle.pddl_parser.specs.Words.{Name, is_same}
+use Rattle.names.specs.Names.{Name, is_same}
 use Rattle.names.specs.declared.components.Arc.{Arc}
 use Rattle.names.specs.declared.links.Pair.{Pair}
 use Rattle.names.specs.Links.{Link, link, leads}

@@ -1,3 +1,7 @@
+-- what the public contracts say
+pub mod Names
+pub mod Reachability
 pub mod Links
+-- words of private contracts
 pub mod Components
 pub mod Cycles

@@ -1,21 +1,22 @@
-// Numbers that lead to each other by arcs. Two searches in depth find them, by Kosaraju's way: along the arcs, and then
-// against them, from the number that the first search left last. What they found is checked, so that nothing rests on
-// the searches.
+// Strongly connected components of a graph whose nodes are numbers: two numbers are in one component where each reaches
+// the other. Kosaraju's algorithm finds them by two searches in depth: along the arcs, and then against them, from the
+// number that the first search left last; each component has one root in the second search. What they found is
+// checked, so that nothing rests on the searches.
 ghost use Rattle.std.specs.Prelude.{◌≡◌, ℕ, ◌<◌, true, map, IfOk};
 ghost use Rattle.std.specs.List.{list_all};
 ghost use Rattle.names.specs.Components as spec;
 
 use std::alloc::{AllocError, Global};
 
-/// A link between two numbers.
-#[derive(Clone, Copy, Debug)]
+/// An edge of the graph, from a number to a number.
+#[derive(Clone, Copy)]
 pub(crate) struct Arc {
     pub(crate) from: usize,
     pub(crate) to: usize,
 }
 
 /// How a search came to a number.
-#[derive(Clone, Copy, Debug)]
+#[derive(Clone, Copy)]
 pub(crate) struct Place {
     /// Where it had begun.
     pub(crate) root: usize,
@@ -54,14 +55,12 @@ impl Searches {
 }
 
 fn turned(alloc: Global, arcs: &[Arc]) -> Result<Vec<Arc>, AllocError> {
-    let mut turned = Vec::new(alloc);
-    for arc in arcs {
-        turned.push(Arc {
+    arcs.iter()
+        .map(|arc| Arc {
             from: arc.to,
             to: arc.from,
-        })?;
-    }
-    Ok(turned)
+        })
+        .collect(alloc)
 }
 
 /// A search in depth.
@@ -203,12 +202,7 @@ fn leads_on(count: usize, against: &[Option<Place>], arc: Arc) -> bool
 fn all_lead_on(count: usize, against: &[Option<Place>], arcs: &[Arc]) -> bool
     ensures { result ≡ list_all (spec.leads_on count against.now) arcs.now }
 {
-    for arc in arcs {
-        if !leads_on(count, against, *arc) {
-            return false;
-        }
-    }
-    true
+    arcs.iter().all(|arc| leads_on(count, against, *arc))
 }
 
 fn leads_to_root(arcs: &[Arc], against: &[Option<Place>], number: usize) -> bool
@@ -267,7 +261,7 @@ fn are_joined(
 }
 
 impl Searches {
-    /// Whether they show which numbers lead to each other, as searches of these arcs do.
+    /// Whether they show which numbers reach each other, as searches of these arcs do.
     pub(crate) fn are_right(&self, count: usize, arcs: &[Arc]) -> bool
         ensures { result ≡ true → spec.IsShown count arcs.now self.now.against.items self.now.along.items }
     {
@@ -275,16 +269,14 @@ impl Searches {
         all_lead_on(count, against, arcs) && are_joined(count, arcs, against, self.along.as_slice())
     }
 
-    /// Of each arc, whether it stays at one root.
+    /// Of each arc, whether it stays in one component.
     pub(crate) fn stay(&self, alloc: Global, arcs: &[Arc]) -> Result<Vec<bool>, AllocError>
         ensures { IfOk result (λ answers. answers.items ≡ map (λ arc. spec.has_one_root self.now.against.items arc.from arc.to) arcs.now) }
     {
         let against = self.against.as_slice();
-        let mut answers = Vec::new(alloc);
-        for arc in arcs {
-            answers.push(has_one_root(against, arc.from, arc.to))?;
-        }
-        Ok(answers)
+        arcs.iter()
+            .map(|arc| has_one_root(against, arc.from, arc.to))
+            .collect(alloc)
     }
 }
 

@@ -1,7 +1,7 @@
 // Which names are on a cycle of links.
 ghost use Rattle.std.specs.Prelude.{◌≡◌, map, IfOk};
 ghost use Rattle.std.specs.List.{list_any};
-ghost use Rattle.pddl_parser.specs.Words.{Name, is_same};
+ghost use Rattle.names.specs.Names.{Name, is_same};
 ghost use Rattle.names.specs.Cycles.{closes, arc_of, pair_links};
 ghost use Rattle.names.specs.Links as spec;
 ghost use Rattle.names.specs.Links.{link};
@@ -42,11 +42,10 @@ fn closing(alloc: Global, pairs: &[Pair]) -> Result<Vec<bool>, AllocError>
 fn closing_by_definition(alloc: Global, pairs: &[Pair]) -> Result<Vec<bool>, AllocError>
     ensures { IfOk result (λ answers. answers.items ≡ map (closes (pair_links pairs.now)) (pair_links pairs.now)) }
 {
-    let mut answers = Vec::new(alloc);
-    for pair in pairs {
-        answers.push(leads(pairs, pairs.len(), pair.to, pair.from))?;
-    }
-    Ok(answers)
+    pairs
+        .iter()
+        .map(|pair| leads(pairs, pairs.len(), pair.to, pair.from))
+        .collect(alloc)
 }
 
 /// Whether a chain of at most so many links leads from one name to another.
@@ -80,11 +79,10 @@ fn names_of<'a>(alloc: Global, pairs: &[Pair<'a>]) -> Result<Names<'a>, AllocErr
 fn arcs_of(alloc: Global, names: &Names, pairs: &[Pair]) -> Result<Vec<Arc>, AllocError>
     ensures { IfOk result (λ arcs. arcs.items ≡ map (arc_of names.now) (pair_links pairs.now)) }
 {
-    let mut arcs = Vec::new(alloc);
-    for pair in pairs {
-        arcs.push(arc_between(names, pair))?;
-    }
-    Ok(arcs)
+    pairs
+        .iter()
+        .map(|pair| arc_between(names, pair))
+        .collect(alloc)
 }
 
 fn arc_between(names: &Names, pair: &Pair) -> Arc

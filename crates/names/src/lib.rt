@@ -3,6 +3,7 @@
 
 mod components;
 mod cycles;
+pub mod laws;
 mod links;
 mod table;
 

@@ -1,7 +1,7 @@
 // Links between names.
 ghost use Rattle.std.specs.Prelude.{◌≡◌, ◌++◌, ◌∷◌, [], OnOk, OnErr, IfOk};
 ghost use Rattle.std.specs.List.{list_any};
-ghost use Rattle.pddl_parser.specs.Words.{Name, is_same};
+ghost use Rattle.names.specs.Names.{Name, is_same};
 ghost use Rattle.names.specs.Links.{link, is_on_cycle};
 
 use crate::cycles::on_cycles;
@@ -10,7 +10,7 @@ use std::alloc::{AllocError, Global};
 use std::marker::Model;
 
 /// A link from a name to a name.
-#[derive(Clone, Copy, Debug)]
+#[derive(Clone, Copy)]
 pub(crate) struct Pair<'a> {
     pub(crate) from: &'a [u8],
     pub(crate) to: &'a [u8],

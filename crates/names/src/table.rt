@@ -1,7 +1,7 @@
 // Sets of names.
 ghost use Rattle.std.specs.Prelude.{◌≡◌, ◌||◌, ◌++◌, ◌∷◌, [], not, length, take, nat_lt, OnOk, OnErr, IfOk, if◌then◌else◌};
 ghost use Rattle.std.specs.List.{list_any, position_or_len};
-ghost use Rattle.pddl_parser.specs.Words.{Name, is_same};
+ghost use Rattle.names.specs.Names.{Name, is_same};
 
 use indexmap::IndexSet;
 use std::alloc::{AllocFailed, Global};

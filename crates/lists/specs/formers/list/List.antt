@@ -16,7 +16,6 @@ use denote.Hole.Fix.{over}
 use denote.Model.Placed.{view_places}
 use denote.Param.Weighed.{Weighed, w_list}
 use Rattle.std.specs.declared.alloc.Global.{Global}
-use Rattle.std.specs.declared.vec.Vec.{Vec}
 use Rattle.std.specs.contracts.alloc.Global as global
 use Rattle.std.specs.contracts.impls.GlobalAllocator.TheImpl.{ghosts}
 use Rattle.std.specs.contracts.vec.Vec as buffer

@@ -1,6 +1,6 @@
 use Rattle.std.proofs.Common.{◌≡◌, ◌-◌, ◌&&◌, drop, map}
 use Rattle.std.specs.List.{list_any}
-use Rattle.pddl_parser.specs.Words.{is_same}
+use Rattle.names.specs.Names.{is_same}
 use Rattle.names.specs.Links as spec
 use Rattle.names.specs.Links.{link}
 use Rattle.names.proofs.cycles.+leads.Given as goal

@@ -1,6 +1,6 @@
 use Rattle.std.proofs.Common.{[], sym, ap, ◌∙◌}
 use Rattle.std.specs.List.{list_any}
-use Rattle.pddl_parser.specs.Words.{is_same}
+use Rattle.names.specs.Names.{is_same}
 use Rattle.names.specs.declared.links.Pair.{Pair}
 use Rattle.names.proofs.CycleNames.{answer_at, named, passed, all_passed}
 use Rattle.names.proofs.cycles.on_cycles.Goals as goal

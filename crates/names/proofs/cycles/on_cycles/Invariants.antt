@@ -1,6 +1,6 @@
 use Rattle.std.proofs.Common.{◌≡◌, take}
 use Rattle.std.specs.List.{list_any}
-use Rattle.pddl_parser.specs.Words.{Name, is_same}
+use Rattle.names.specs.Names.{Name, is_same}
 use Rattle.names.specs.Cycles.{pair_links}
 use Rattle.names.proofs.CycleNames.{turns}
 use Rattle.names.proofs.cycles.on_cycles.Given as goal

@@ -2,7 +2,7 @@ use Rattle.std.proofs.Common.{◌≡◌, not, sym, ap, ◌∙◌, subst}
 use Rattle.std.specs.Prelude.{IfOk}
 use Rattle.std.specs.List.{list_any}
 use Rattle.std.proofs.lemmas.Result.{on_ok_weaker}
-use Rattle.pddl_parser.specs.Words.{is_same}
+use Rattle.names.specs.Names.{is_same}
 use Rattle.names.proofs.Tables.{list_any-now, names_after, among_after}
 use Rattle.names.proofs.table.Names.add.Goals as goal
 

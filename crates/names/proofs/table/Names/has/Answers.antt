@@ -1,6 +1,6 @@
 use Rattle.std.proofs.Common.{sym, ap, ◌∙◌}
 use Rattle.std.specs.List.{list_any}
-use Rattle.pddl_parser.specs.Words.{is_same}
+use Rattle.names.specs.Names.{is_same}
 use Rattle.names.proofs.Tables.{list_any-now}
 use Rattle.names.proofs.table.Names.has.Goals as goal
 

@@ -2,7 +2,7 @@ use Rattle.std.proofs.Common.{◌≡◌, Bool, List, length, map, sym, ap, ◌�
 use Rattle.std.specs.List.{list_any, position_or_len}
 use Rattle.std.proofs.lemmas.Bool.{lt-ltb, le-ltb}
 use Rattle.std.proofs.lemmas.List.{length-map}
-use Rattle.pddl_parser.specs.Words.{Name, is_same}
+use Rattle.names.specs.Names.{Name, is_same}
 use Rattle.names.proofs.Tables.{Key, list_any-now, position_or_len-now, position-place, position-none}
 use Rattle.names.proofs.table.Names.position.Goals as goal
 
