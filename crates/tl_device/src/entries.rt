@@ -216,7 +216,8 @@ impl Entries {
     // How many bytes more the file of an entry can hold.
     pub(crate) fn free_room(&self, i: usize) -> u64
         requires { IsFileAt self.now i }
-        ensures { result ≡ free_in (contents self.now) (rooms self.now) (name_at self.now i) }
+        ensures free { result ≡ free_in (contents self.now) (rooms self.now) (name_at self.now i) }
+        ensures held { IsSome (map.get (contents self.now) (name_at self.now i)) }
     {
         self.items[i].free_room()
     }

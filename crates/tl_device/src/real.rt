@@ -40,6 +40,8 @@ impl<'a, R: rt::Files> RealFiles<'a, R> {
 impl<'a, R: rt::Files> Files for RealFiles<'a, R> {
     ghost files = { λ _. None };
 
+    ghost asked = { λ _. None };
+
     ghost reading = { λ _. [] };
 
     ghost rest = { λ _. [] };
