@@ -144,11 +144,7 @@ impl<'a, R: rt::Files> Files for RealFiles<'a, R> {
 }
 
 // Writes a front of the piece. It is a fault to fail, and to take nothing where there is something.
-fn write_counted<W: Write>(
-    output: &mut W,
-    piece: &[u8],
-    faults: &mut u64,
-) -> Result<usize, Failed>
+fn write_counted<W: Write>(output: &mut W, piece: &[u8], faults: &mut u64) -> Result<usize, Failed>
     ensures bytes { WriteAppends (W.contents output.old) (W.contents output.new) result piece.now }
     ensures bound { IfOk result (λ n. n ≤ length piece.now) }
     ensures progress { IfOk result (λ n. 0 < length piece.now → 0 < n) }

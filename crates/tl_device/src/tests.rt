@@ -1,9 +1,8 @@
 ghost use Rattle.std.specs.Prelude.{◌<◌, ◌^◌, IsSome};
 ghost use Rattle.std.specs.Bool.{OnTrue};
 
-use crate::{Console, Failed, Files, MemConsole, MemFiles, ReadEnd, put_all, read_all, say_all};
+use crate::{Console, Files, MemConsole, MemFiles, ReadEnd, put_all, read_all, say_all};
 use std::alloc::{AllocError, Global};
-use std::test::Fail;
 
 // The calls that say much have functions of their own that say little, so that no proof of a test carries it.
 
@@ -101,25 +100,6 @@ fn a_name_is_written_within_its_room(rt: HostRuntime) -> Result<(), AllocError> 
         assert!(rt; is_filled(&mut files), "{most} bytes a call");
         assert!(rt; is_begun_empty(&mut files), "{most} bytes a call");
     }
-    Ok(())
-}
-
-#[test]
-fn one_file_is_copied_into_another(rt: HostRuntime) -> Result<(), Fail> {
-    let mut files = MemFiles::new(rt.alloc());
-    files.add("from", b"abcde")?;
-    files.room("to", 10)?;
-    files.most(2);
-    files.open_file("from")?;
-    files.create_file("to")?;
-    let mut buffer = [0; 3];
-    for piece in [b"ab".as_slice(), b"cd", b"e", b""] {
-        let given = files.read(&mut buffer)?;
-        assert_eq!(rt; given, piece.len());
-        assert_eq!(rt; files.write(piece)?, given);
-    }
-    assert!(rt; matches!(files.content("to"), Some(b"abcde")));
-    assert_eq!(rt; files.open_file("absent"), Err(Failed));
     Ok(())
 }
 
