@@ -8,8 +8,8 @@ use Rattle.std.specs.Ordering.{nat_cmp}
 use Rattle.std.specs.Cmp.Lexicographic.{slice_cmp, nat_list_cmp_total}
 use Rattle.std.specs.FinMap.{FinMap, get, insert, remove, get-empty, get-insert, get-remove}
 use Rattle.tl_device.specs.Contents.{Contents, grow}
-use Rattle.tl_device.specs.EntryState.{EntryState}
-use Rattle.tl_device.specs.Entries.{table, contents, rooms, seen_at, name_at, file_at, room_at, NoneNamed, HaveOwnNames, IsEntryOf, IsUnknown, KeepsPlaces}
+use Rattle.tl_device.specs.memory.EntryState.{EntryState}
+use Rattle.tl_device.specs.memory.Entries.{table, contents, rooms, seen_at, name_at, file_at, room_at, NoneNamed, HaveOwnNames, IsEntryOf, IsUnknown, KeepsPlaces}
 use Rattle.tl_device.proofs.Names.{same_name, same_name-self, by_name, alike}
 
 -- the entry that stands at a place is what is seen there

@@ -5,9 +5,9 @@ use Rattle.std.specs.declared.option.Option.TheVariants.{Some, None}
 use Rattle.std.specs.Option.{option_map}
 use Rattle.std.specs.FinMap.{get, insert, get-insert}
 use Rattle.tl_device.specs.Contents.{Contents, HoldsCreated, OthersStay, grow}
-use Rattle.tl_device.specs.EntryState.{EntryState}
-use Rattle.tl_device.specs.Entries.{KeepsPlaces, IsFileAt, open_file_at, contents, name_at}
-use Rattle.tl_device.specs.FilesState.{FilesState, OpenFile, rest_in, rest_of, name_in, name_read}
+use Rattle.tl_device.specs.memory.EntryState.{EntryState}
+use Rattle.tl_device.specs.memory.Entries.{KeepsPlaces, IsFileAt, open_file_at, contents, name_at}
+use Rattle.tl_device.specs.memory.FilesState.{FilesState, OpenFile, rest_in, rest_of, name_in, name_read}
 use Rattle.tl_device.specs.declared.entries.Cursor.{Cursor}
 use Rattle.tl_device.proofs.Grown.{held_after, others_grown}
 use Rattle.tl_device.proofs.Names.{same_name-self}

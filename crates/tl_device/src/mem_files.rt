@@ -4,7 +4,7 @@ ghost use Rattle.std.specs.FinMap as map;
 ghost use Rattle.std.specs.Option.{option_copied, option_map};
 ghost use Rattle.tl_device.specs.Causes.{HasCause, saturating_add};
 ghost use Rattle.tl_device.specs.Contents.{HoldsCreated, grow};
-ghost use Rattle.tl_device.specs.FilesState.{rest_of, name_read, position_of, name_written, free_room, read_on};
+ghost use Rattle.tl_device.specs.memory.FilesState.{rest_of, name_read, position_of, name_written, free_room, read_on};
 
 use crate::entries::{Cursor, Entries};
 use crate::{Failed, Files};
@@ -26,14 +26,14 @@ pub struct MemFiles {
 }
 
 impl Model for MemFiles {
-    ghost use Rattle.tl_device.specs.FilesState.{FilesState, files_state_code};
+    ghost use Rattle.tl_device.specs.memory.FilesState.{FilesState, files_state_code};
 
     ghost Value = { FilesState };
 
     ghost coded = { files_state_code };
 
     ghost use Rattle.std.specs.Option.{option_map};
-    ghost use Rattle.tl_device.specs.Entries.{contents, rooms, name_at, open_file_at, IsSound};
+    ghost use Rattle.tl_device.specs.memory.Entries.{contents, rooms, name_at, open_file_at, IsSound};
 
     ghost view = { λ s. record {
       files = contents s.entries;

@@ -1,6 +1,6 @@
 use Rattle.std.proofs.Common.{◌≡◌, ◌∙◌, sym, ap, Some}
 use Rattle.tl_device.specs.Contents.{emptied}
-use Rattle.tl_device.specs.Entries.{contents}
+use Rattle.tl_device.specs.memory.Entries.{contents}
 use Rattle.tl_device.proofs.Grown.{others_emptied}
 use Rattle.tl_device.proofs.FilesLemmas.{emptied_held, rest_of-other, reading_kept}
 use Rattle.tl_device.proofs.mem_files.MemFilesFiles.create_file.Goals as goal

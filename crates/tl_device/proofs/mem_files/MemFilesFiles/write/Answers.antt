@@ -1,7 +1,7 @@
 use Rattle.std.proofs.Common.{◌≡◌, ◌∙◌, [], unwrap_or, sym, ap, subst, IfSome}
 use Rattle.std.specs.Option.{option_map}
-use Rattle.tl_device.specs.Entries.{IsFileAt, name_at, contents}
-use Rattle.tl_device.specs.FilesState.{name_written}
+use Rattle.tl_device.specs.memory.Entries.{IsFileAt, name_at, contents}
+use Rattle.tl_device.specs.memory.FilesState.{name_written}
 use Rattle.tl_device.proofs.FilesLemmas.{written_held, appended_held, rest_of-other, reading_kept, others_grow}
 use Rattle.tl_device.proofs.mem_files.MemFilesFiles.write.Goals as goal
 
