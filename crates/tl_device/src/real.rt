@@ -62,17 +62,12 @@ impl<'a, R: rt::Files> Files for RealFiles<'a, R> {
 
     fn open_file(&mut self, name: &str) -> Result<(), Failed> {
         self.taken = 0;
-        match fs::open(self.runtime, name) {
-            Ok(file) => {
-                self.reading = Some(file);
-                Ok(())
-            }
-            Err(_) => {
-                self.reading = None;
-                self.read_faults = self.read_faults.saturating_add(1);
-                Err(Failed)
-            }
+        self.reading = fs::open(self.runtime, name).ok();
+        if self.reading.is_none() {
+            self.read_faults = self.read_faults.saturating_add(1);
+            return Err(Failed);
         }
+        Ok(())
     }
 
     fn read(&mut self, into: &mut [u8]) -> Result<usize, Failed>
@@ -107,17 +102,12 @@ impl<'a, R: rt::Files> Files for RealFiles<'a, R> {
     }
 
     fn create_file(&mut self, name: &str) -> Result<(), Failed> {
-        match fs::create(self.runtime, name) {
-            Ok(file) => {
-                self.writing = Some(file);
-                Ok(())
-            }
-            Err(_) => {
-                self.writing = None;
-                self.write_faults = self.write_faults.saturating_add(1);
-                Err(Failed)
-            }
+        self.writing = fs::create(self.runtime, name).ok();
+        if self.writing.is_none() {
+            self.write_faults = self.write_faults.saturating_add(1);
+            return Err(Failed);
         }
+        Ok(())
     }
 
     fn write(&mut self, piece: &[u8]) -> Result<usize, Failed>

@@ -1,10 +1,9 @@
-ghost use Rattle.std.specs.Prelude.{◌<◌, ◌^◌};
+ghost use Rattle.std.specs.Prelude.{◌<◌, ◌^◌, IsErr};
 
 use crate::{Files, ReadEnd, RealConsole, RealFiles, put_all, read_all, say_all};
 use std::alloc::{AllocError, Global};
-use std::cell::RefCell;
+use std::cell::Cell;
 use std::fmt::Display;
-use std::test::Fail;
 use std::{fs, io};
 
 // The files of a test lie where it runs, and it removes them.
@@ -30,16 +29,26 @@ fn is_put(rt: &HostRuntime, name: &str, bytes: &[u8]) -> bool {
     files.create_file(name).is_ok() && put_all(&mut files, bytes).is_ok()
 }
 
+fn is_begun(rt: &HostRuntime, name: &str) -> bool {
+    RealFiles::new(rt).open_file(name).is_ok()
+}
+
+fn found(rt: &HostRuntime, name: &str, limit: u64) -> Result<Vec<u8>, ReadEnd>
+    requires { limit < 2 ^ 32 }
+{
+    read_all(rt.alloc(), &mut RealFiles::new(rt), name, limit)
+}
+
 fn is_read(rt: &HostRuntime, name: &str, limit: u64, bytes: &[u8]) -> bool
     requires { limit < 2 ^ 32 }
 {
-    matches!(read_all(rt.alloc(), &mut RealFiles::new(rt), name, limit), Ok(read) if read.as_slice() == bytes)
+    matches!(found(rt, name, limit), Ok(read) if read.as_slice() == bytes)
 }
 
 fn is_unread(rt: &HostRuntime, name: &str, limit: u64, end: ReadEnd) -> bool
     requires { limit < 2 ^ 32 }
 {
-    matches!(read_all(rt.alloc(), &mut RealFiles::new(rt), name, limit), Err(found) if found == end)
+    matches!(found(rt, name, limit), Err(found) if found == end)
 }
 
 /// Whether the system itself finds these bytes in the file.
@@ -53,87 +62,99 @@ fn is_replaced(rt: &HostRuntime, bytes: &[u8]) -> bool {
         && holds(rt, BESIDE, b"beside")
         && is_read(rt, WRITTEN, 300_000, bytes)
         && is_read(rt, BESIDE, 6, b"beside")
+        && is_unread(rt, BESIDE, 5, ReadEnd::TooLong)
+}
+
+fn is_replaced_by(rt: &HostRuntime, first: u8, length: usize) -> bool {
+    matches!(counted(rt.alloc(), first, length), Ok(bytes) if is_replaced(rt, &bytes))
+}
+
+fn is_set(rt: &HostRuntime) -> bool {
+    fs::write(rt, BESIDE, b"beside").is_ok()
+}
+
+fn is_removed(rt: &HostRuntime, name: &str) -> bool {
+    fs::remove_file(rt, name).is_ok()
 }
 
 #[test]
-fn a_real_file_is_replaced_and_read_whole(rt: HostRuntime) -> Result<(), Fail> {
-    fs::write(&rt, BESIDE, b"beside")?;
+fn a_real_file_is_replaced_and_read_whole(rt: HostRuntime) {
+    assert!(rt; is_set(&rt));
     for (first, length) in [(0, 200_000), (100, 70_000), (3, 0)] {
-        let bytes = counted(rt.alloc(), first, length)?;
-        assert!(rt; is_replaced(&rt, &bytes), "{length} bytes");
+        assert!(rt; is_replaced_by(&rt, first, length), "{length} bytes");
     }
-    assert!(rt; is_unread(&rt, BESIDE, 5, ReadEnd::TooLong));
-    fs::remove_file(&rt, WRITTEN)?;
-    fs::remove_file(&rt, BESIDE)?;
-    Ok(())
+    assert!(rt; is_removed(&rt, WRITTEN) && is_removed(&rt, BESIDE));
+}
+
+/// Whether nothing is read of a name that no file has, nor of a folder, which can be begun, and nothing written there.
+fn are_refused(rt: &HostRuntime) -> bool {
+    is_unread(rt, ABSENT, 10, ReadEnd::Failed)
+        && is_begun(rt, ".")
+        && is_unread(rt, ".", 10, ReadEnd::Failed)
+        && !is_put(rt, ".", b"x")
 }
 
 #[test]
-fn a_real_file_fails(rt: HostRuntime) {
-    // A folder can be opened, and its first read fails.
-    assert!(rt; RealFiles::new(&rt).open_file(".").is_ok());
-    for name in [ABSENT, "."] {
-        assert!(rt; is_unread(&rt, name, 10, ReadEnd::Failed), "{name}");
-    }
-    assert!(rt; !is_put(&rt, ".", b"x"));
+fn an_absent_file_and_a_folder_fail(rt: HostRuntime) {
+    assert!(rt; are_refused(&rt));
 }
 
-/// A printer that keeps what is printed. A call takes so many bytes at most, and fails once that many are kept.
+/// A printer that is to print a text. A call takes so many bytes at most, and fails where they aren't the next ones,
+/// or where so many were printed as there is room for.
 #[derive(Drop)]
-struct Paper {
-    kept: RefCell<Vec<u8>>,
+struct Paper<'a> {
+    text: &'a [u8],
+    printed: Cell<usize>,
     most: usize,
     room: usize,
 }
 
-impl Print for Paper {
+fn refused<T>() -> io::Result<T>
+    ensures { IsErr result }
+{
+    Err(io::Error::from(io::ErrorKind::Unsupported))
+}
+
+impl<'a> Print for Paper<'a> {
     fn print<D: Display + Drop>(&self, _: D) -> io::Result<()> {
-        Err(io::Error::from(io::ErrorKind::Unsupported))
+        refused()
     }
 
     fn println<D: Display + Drop>(&self, _: D) -> io::Result<()> {
-        Err(io::Error::from(io::ErrorKind::Unsupported))
+        refused()
     }
 
     fn write_all(&self, _: &[u8]) -> io::Result<()> {
-        Err(io::Error::from(io::ErrorKind::Unsupported))
+        refused()
     }
 
     fn write_some(&self, bytes: &[u8]) -> io::Result<usize> {
-        let Ok(mut kept) = self.kept.try_borrow_mut() else {
-            return Err(io::Error::from(io::ErrorKind::ResourceBusy));
-        };
-        if kept.len() >= self.room {
-            return Err(io::Error::from(io::ErrorKind::StorageFull));
+        let printed = self.printed.get();
+        let piece = &bytes[..bytes.len().min(self.most)];
+        let rest = &self.text[printed.min(self.text.len())..];
+        if printed >= self.room || !rest.starts_with(piece) {
+            return refused();
         }
-        let taken = bytes.len().min(self.most);
-        kept.extend_from_slice(&bytes[..taken])?;
-        Ok(taken)
+        self.printed.set(printed.saturating_add(piece.len()));
+        Ok(piece.len())
     }
 }
 
-/// Whether printing the bytes ends so, and leaves this front of them on the paper.
-fn is_printed(
-    alloc: Global,
-    most: usize,
-    room: usize,
-    bytes: &[u8],
-    whole: bool,
-    length: usize,
-) -> bool {
+/// Whether printing a text ends so, when this front of it is printed.
+fn is_printed(text: &[u8], most: usize, room: usize, whole: bool, length: usize) -> bool {
     let paper = Paper {
-        kept: RefCell::new(Vec::new(alloc)),
+        text,
+        printed: Cell::new(0),
         most,
         room,
     };
-    let said = say_all(&mut RealConsole::new(&paper), bytes).is_ok();
-    let kept = paper.kept.into_inner();
-    said == whole && kept.as_slice() == &bytes[..length.min(bytes.len())]
+    let is_said = say_all(&mut RealConsole::new(&paper), text).is_ok();
+    is_said == whole && paper.printed.get() == length
 }
 
 #[test]
 fn the_real_console_prints_all_or_a_front(rt: HostRuntime) -> Result<(), AllocError> {
-    let bytes = counted(rt.alloc(), 0, 70_000)?;
+    let text = counted(rt.alloc(), 0, 70_000)?;
     for (most, room, whole, length) in [
         (100_000, 100_000, true, 70_000),
         (999, 100_000, true, 70_000),
@@ -142,7 +163,7 @@ fn the_real_console_prints_all_or_a_front(rt: HostRuntime) -> Result<(), AllocEr
         (0, 100_000, false, 0),
     ] {
         assert!(rt;
-            is_printed(rt.alloc(), most, room, &bytes, whole, length),
+            is_printed(&text, most, room, whole, length),
             "{most} bytes a call"
         );
     }

@@ -1,4 +1,4 @@
-use Rattle.std.proofs.Common.{◌≡◌, ◌∙◌, ◌<◌, length, sym, refl, subst, IsSome}
+use Rattle.std.proofs.Common.{◌≡◌, ◌<◌, length, sym, refl, subst, IsSome}
 use Rattle.tl_device.specs.memory.Entries.{file_at, room_at, IsEntryOf, name_at}
 use Rattle.tl_device.proofs.EntryLemmas.{file_is, room_is, entry_of}
 use Rattle.tl_device.proofs.entries.Entries.free_room.Goals as goal

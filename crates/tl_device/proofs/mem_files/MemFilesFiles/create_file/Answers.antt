@@ -1,4 +1,4 @@
-use Rattle.std.proofs.Common.{◌≡◌, ◌∙◌, sym, ap, Some}
+use Rattle.std.proofs.Common.{◌∙◌, ap, Some}
 use Rattle.tl_device.specs.Contents.{emptied}
 use Rattle.tl_device.specs.memory.Entries.{contents}
 use Rattle.tl_device.proofs.Grown.{others_emptied}
