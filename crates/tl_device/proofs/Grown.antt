@@ -135,7 +135,3 @@ holds_written (Some m) name bytes =
     get-grow (insert m name []) name bytes name
     ∙ ap (λ held. cond (same_name name name) (option_map (λ h. h ++ bytes) held) held) (get-insert nat_list_cmp_total m name [] name)
     ∙ rw (same_name-self name) refl
-
--- a name that was emptied and grew in part holds a front of the bytes
-pub holds_part : (old new : Option Contents) (name bytes : List ℕ) (part : GrownInPart (emptied old name) new name bytes) → Holds new name part.written
-holds_part old new name bytes part = rw part.grows (holds_written old name part.written)

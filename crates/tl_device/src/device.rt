@@ -18,6 +18,8 @@ pub trait Files {
     ghost files: { Self → Option Contents };
 
     /// The name that was asked for last to be read, whether it could be begun or not, where it is told.
+    ///
+    /// What works on every store is held to it, whether the store at hand tells it or not.
     ghost asked: { Self → Option (List ℕ) };
 
     /// The name being read. It means nothing where the files aren't told or no file is begun.
