@@ -1,15 +1,15 @@
 -- What entries stand for, and how a change of one changes it.
-use Rattle.std.proofs.Common.{◌≡◌, ◌≢◌, ℕ, zero, suc, ◌<◌, ◌≤◌, true, false, cond, List, [], ◌∷◌, ◌++◌, length, get_or, set, length-set, length-append, unwrap_or, IsSome, inl, inr, refl, sym, ◌∙◌, ap, subst, arith}
+use Rattle.std.proofs.Common.{◌≡◌, ℕ, zero, suc, ◌<◌, ◌≤◌, true, false, cond, List, [], ◌∷◌, ◌++◌, length, get_or, set, length-set, length-append, unwrap_or, IsSome, inl, inr, refl, sym, ◌∙◌, ap, subst, arith}
 use Rattle.std.proofs.lemmas.Bool.{cases_eq}
 use Rattle.std.specs.declared.option.Option.{Option}
 use Rattle.std.specs.declared.option.Option.TheVariants.{Some, None}
 use Rattle.std.specs.Option.{option_map_or}
 use Rattle.std.specs.Ordering.{nat_cmp}
 use Rattle.std.specs.Cmp.Lexicographic.{slice_cmp, nat_list_cmp_total}
-use Rattle.std.specs.FinMap.{FinMap, get, insert, remove, get-empty, get-insert, get-remove}
+use Rattle.std.specs.FinMap.{get, insert, remove, get-empty, get-insert, get-remove}
 use Rattle.tl_device.specs.Contents.{Contents, grow}
-use Rattle.tl_device.specs.EntryState.{EntryState}
-use Rattle.tl_device.specs.Entries.{table, contents, rooms, seen_at, name_at, file_at, room_at, NoneNamed, HaveOwnNames, IsEntryOf, IsUnknown, KeepsPlaces}
+use Rattle.tl_device.specs.memory.EntryState.{EntryState}
+use Rattle.tl_device.specs.memory.Entries.{table, contents, rooms, seen_at, name_at, file_at, room_at, NoneNamed, HaveOwnNames, IsEntryOf, IsUnknown, KeepsPlaces}
 use Rattle.tl_device.proofs.Names.{same_name, same_name-self, by_name, alike}
 
 -- the entry that stands at a place is what is seen there

@@ -1,5 +1,5 @@
 -- What files hold while one of them is written.
-use Rattle.std.proofs.Common.{◌≡◌, ◌≢◌, ℕ, ◌+◌, ◌-◌, Bool, true, false, cond, List, [], ◌++◌, length, take, drop, refl, sym, ◌∙◌, ap, append_assoc}
+use Rattle.std.proofs.Common.{◌≡◌, ◌≢◌, ℕ, ◌+◌, ◌-◌, Bool, true, false, cond, List, [], ◌++◌, length, take, drop, refl, sym, ◌∙◌, ap, append_assoc, subst, IsSome}
 use Rattle.std.proofs.lemmas.List.{append-nil, take_rest, take-append-drop}
 use Rattle.std.proofs.Math.Seq.{take-add}
 use Rattle.std.specs.declared.option.Option.{Option}
@@ -7,7 +7,7 @@ use Rattle.std.specs.declared.option.Option.TheVariants.{Some, None}
 use Rattle.std.specs.Option.{option_map, option_map_or}
 use Rattle.std.specs.Cmp.Lexicographic.{nat_list_cmp_total}
 use Rattle.std.specs.FinMap.{get, insert, get-insert}
-use Rattle.tl_device.specs.Contents.{Contents, grow, grown, emptied, IsTold, Holds, OthersStay, GrownInPart}
+use Rattle.tl_device.specs.Contents.{Contents, grow, grown, emptied, IsTold, Holds, HoldsCreated, OthersStay, GrownInPart}
 use Rattle.tl_device.proofs.Names.{same_name, same_name-self, by_name, alike}
 
 get-grow_held : (m : Contents) (name bytes q : List ℕ) (held : Option (List ℕ)) → get m name ≡ held
@@ -21,6 +21,40 @@ unfolding grow
 get-grow m name bytes q =
     get-grow_held m name bytes q (get m name) refl
     ∙ by_name q name (λ here tied. ap (λ held. cond (same_name q name) (option_map (λ h. h ++ bytes) held) (get m q)) (ap (get m) (sym here))) (λ other. rw other refl)
+
+-- what the grown name holds
+get-grow_here : (m : Contents) (name bytes : List ℕ) → get (grow m name bytes) name ≡ option_map (λ h. h ++ bytes) (get m name)
+get-grow_here m name bytes = get-grow m name bytes name ∙ ap (λ b. cond b (option_map (λ h. h ++ bytes) (get m name)) (get m name)) (same_name-self name)
+
+-- the name holds what it held and the bytes
+pub holds_grown : (old new : Option Contents) (name bytes held : List ℕ) → new ≡ grown old name bytes → Holds old name held → Holds new name (held ++ bytes)
+holds_grown None None name bytes held grows holds = tt
+holds_grown None (Some n) name bytes held grows holds = cc
+holds_grown (Some m) None name bytes held grows holds = cc
+holds_grown (Some m) (Some n) name bytes held grows holds =
+    let same : n ≡ grow m name bytes = cc in
+    ap (λ c. get c name) same ∙ get-grow_here m name bytes ∙ ap (option_map (λ (h : List ℕ). h ++ bytes)) holds
+
+-- there is a file of a name that grows where there was one
+some_before : (bytes : List ℕ) (o : Option (List ℕ)) → IsSome (option_map (λ h. h ++ bytes) o) → IsSome o
+some_before bytes None some = some
+some_before bytes (Some held) some = refl
+
+some_after : (bytes : List ℕ) (o : Option (List ℕ)) → IsSome o → IsSome (option_map (λ h. h ++ bytes) o)
+some_after bytes None some = some
+some_after bytes (Some held) some = refl
+
+pub held_after : (m : Contents) (name bytes : List ℕ) → IsSome (get m name) → IsSome (get (grow m name bytes) name)
+held_after m name bytes held = subst IsSome (sym (get-grow_here m name bytes)) (some_after bytes (get m name) held)
+
+pub held_before : (old new : Option Contents) (is_created : Bool) (here name bytes : List ℕ) → is_created ≡ true → here ≡ name → new ≡ grown old name bytes
+    → HoldsCreated new is_created here → HoldsCreated old true name
+held_before None new is_created here name bytes created same grows held = tt
+held_before (Some m) None is_created here name bytes created same grows held = cc
+held_before (Some m) (Some n) is_created here name bytes created same grows held =
+    let now : n ≡ grow m name bytes = cc in
+    let there : HoldsCreated (Some n) true name = subst (λ (c : Bool). HoldsCreated (Some n) c name) created (subst (λ (at : List ℕ). HoldsCreated (Some n) is_created at) same held) in
+    some_before bytes (get m name) (subst IsSome (ap (λ c. get c name) now ∙ get-grow_here m name bytes) there)
 
 same_held : (b : Bool) (o : Option (List ℕ)) → cond b (option_map (λ h. h ++ []) o) o ≡ o
 same_held false o = refl
@@ -101,7 +135,3 @@ holds_written (Some m) name bytes =
     get-grow (insert m name []) name bytes name
     ∙ ap (λ held. cond (same_name name name) (option_map (λ h. h ++ bytes) held) held) (get-insert nat_list_cmp_total m name [] name)
     ∙ rw (same_name-self name) refl
-
--- a name that was emptied and grew in part holds a front of the bytes
-pub holds_part : (old new : Option Contents) (name bytes : List ℕ) (part : GrownInPart (emptied old name) new name bytes) → Holds new name part.written
-holds_part old new name bytes part = rw part.grows (holds_written old name part.written)

@@ -45,7 +45,3 @@ part_of_second old mid new xs ys first part = record {
   parts = ap (λ (l : List ℕ). xs ++ l) part.parts ∙ sym (append_assoc xs part.written part.left);
   grows = part.grows ∙ ap (λ (k : Option (List ℕ)). append_known k part.written) first ∙ append_more old xs part.written;
 }
-
--- one text printed after another is both
-pub both_printed : (old mid new : Option (List ℕ)) (xs ys : List ℕ) → mid ≡ append_known old xs → new ≡ append_known mid ys → new ≡ append_known old (xs ++ ys)
-both_printed old mid new xs ys first second = second ∙ ap (λ (k : Option (List ℕ)). append_known k ys) first ∙ append_more old xs ys

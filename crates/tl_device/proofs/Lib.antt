@@ -1,6 +1,6 @@
-pub mod EntryLemmas
-pub mod FilesLemmas
+mod EntryLemmas
+mod FilesLemmas
 pub mod Grown
 pub mod Known
-pub mod Names
-pub mod Rest
+mod Names
+mod Rest

@@ -1,10 +1,9 @@
 -- What a name holds behind the bytes that were taken.
-use Rattle.std.proofs.Common.{◌≡◌, ℕ, ◌+◌, ◌<◌, List, [], ◌++◌, length, drop, length-append, refl, sym, ◌∙◌, ap, append_assoc, arith}
+use Rattle.std.proofs.Common.{◌≡◌, ℕ, ◌+◌, ◌<◌, List, ◌++◌, length, drop, length-append, refl, sym, ◌∙◌, ap, append_assoc, arith}
 use Rattle.std.proofs.Math.Seq.{drop-append_seam}
 use Rattle.std.specs.declared.option.Option.{Option}
 use Rattle.std.specs.declared.option.Option.TheVariants.{Some, None}
 use Rattle.std.specs.Option.{option_map}
-use Rattle.std.specs.FinMap.{get}
 use Rattle.tl_device.specs.Contents.{Contents, Holds, HoldsMoreThan, IsRest, IsTold}
 
 -- the bytes taken so far, a piece more and the rest behind it are what the name holds

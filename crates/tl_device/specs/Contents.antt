@@ -1,5 +1,5 @@
 -- What files hold, by their names, and how the calls change it. Names and contents are lists of bytes.
-use Rattle.std.specs.Prelude.{◌≡◌, ◌≢◌, ℕ, ◌<◌, ◌≤◌, List, [], ◌++◌, length, drop, ⊤, IsTrue, is_some}
+use Rattle.std.specs.Prelude.{◌≡◌, ◌≢◌, ℕ, ◌<◌, ◌≤◌, List, [], ◌++◌, length, drop, ⊤, Bool, true, false, IsTrue, IsSome, is_some}
 use Rattle.std.specs.declared.option.Option.{Option}
 use Rattle.std.specs.declared.option.Option.TheVariants.{Some, None}
 use Rattle.std.specs.Option.{option_map, option_map_or}
@@ -20,6 +20,17 @@ IsTold files = IsTrue (is_some files)
 abbrev pub Holds : Option Contents → List ℕ → List ℕ → Type 0
 Holds None name bytes = ⊤
 Holds (Some files) name bytes = get files name ≡ Some bytes
+
+-- where the files are told and one is created, there is a file of the name being written
+abbrev pub HoldsCreated : Option Contents → Bool → List ℕ → Type 0
+HoldsCreated None is_created name = ⊤
+HoldsCreated (Some files) false name = ⊤
+HoldsCreated (Some files) true name = IsSome (get files name)
+
+-- where it is told which name was asked for last, it is this one
+abbrev pub IsAskedFor : Option (List ℕ) → List ℕ → Type 0
+IsAskedFor None name = ⊤
+IsAskedFor (Some asked) name = asked ≡ name
 
 -- where the files are told, the name holds bytes, and at most so many
 pub record HoldsAtMost (files : Option Contents) (name : List ℕ) (limit : ℕ) : Type 0 where

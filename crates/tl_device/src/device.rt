@@ -2,7 +2,7 @@
 ghost use Rattle.std.specs.Prelude.{◌≡◌, ◌≢◌, ℕ, ◌≤◌, ◌<◌, Bool, true, List, [], ◌++◌, length, take, is_ok, IsTrue, IsErr, IfOk, OnOk, OnErr};
 ghost use Rattle.std.specs.declared.option.Option.{Option};
 ghost use Rattle.std.specs.Io.KnownBytes.{append_known};
-ghost use Rattle.tl_device.specs.Contents.{Contents, Holds, IsTold, emptied, grown};
+ghost use Rattle.tl_device.specs.Contents.{Contents, Holds, HoldsCreated, IsAskedFor, IsTold, emptied, grown};
 ghost use Rattle.tl_device.specs.Causes.{HasCause, HasCauseOr, IsAbsent, saturating_add};
 
 /// A call on the files or the console failed. Its count of faults has risen.
@@ -16,6 +16,11 @@ pub struct Failed;
 pub trait Files {
     /// What each name holds, where it is told.
     ghost files: { Self → Option Contents };
+
+    /// The name that was asked for last to be read, whether it could be begun or not, where it is told.
+    ///
+    /// What works on every store is held to it, whether the store at hand tells it or not.
+    ghost asked: { Self → Option (List ℕ) };
 
     /// The name being read. It means nothing where the files aren't told or no file is begun.
     ghost reading: { Self → List ℕ };
@@ -45,6 +50,7 @@ pub trait Files {
     ///
     /// It fails at a name that no file has. A store that tells its files needn't count that.
     fn open_file(&mut self, name: &str) -> Result<(), Failed>
+        ensures asked { IsAskedFor (asked self.new) name.now }
         ensures begun { is_begun self.new ≡ is_ok result }
         ensures name { OnOk result (IsTold (files self.old) → reading self.new ≡ name.now) }
         ensures whole { OnOk result (Holds (files self.old) name.now (rest self.new)) }
@@ -80,6 +86,7 @@ pub trait Files {
 
         // What it leaves as it was.
         ensures files { files self.new ≡ files self.old }
+        ensures asked { asked self.new ≡ asked self.old }
         ensures begun { is_begun self.new ≡ true }
         ensures reading { reading self.new ≡ reading self.old }
         ensures created { is_created self.new ≡ is_created self.old }
@@ -92,11 +99,13 @@ pub trait Files {
         ensures err { OnErr result (files self.new ≡ files self.old) }
         ensures created { is_created self.new ≡ is_ok result }
         ensures name { OnOk result (IsTold (files self.old) → writing self.new ≡ name.now) }
+        ensures held { HoldsCreated (files self.new) (is_created self.new) (writing self.new) }
 
         // When it fails, by the count of writing.
         ensures cause { HasCause (write_faults self.old) (write_faults self.new) result }
 
         // What it leaves as it was. Of the name being read, nothing more is said if it is emptied.
+        ensures asked { asked self.new ≡ asked self.old }
         ensures begun { is_begun self.new ≡ is_begun self.old }
         ensures reading { reading self.new ≡ reading self.old }
         ensures rest { reading self.old ≢ name.now → rest self.new ≡ rest self.old }
@@ -113,11 +122,13 @@ pub trait Files {
         ensures ok { IfOk result (λ n.
             files self.new ≡ grown (files self.old) (writing self.old) (take n piece.now)) }
         ensures err { OnErr result (files self.new ≡ files self.old) }
+        ensures held { HoldsCreated (files self.new) (is_created self.new) (writing self.new) }
 
         // When it fails, by the count of writing.
         ensures cause { HasCause (write_faults self.old) (write_faults self.new) result }
 
         // What it leaves as it was. Of the name being read, nothing more is said if it grows.
+        ensures asked { asked self.new ≡ asked self.old }
         ensures created { is_created self.new ≡ true }
         ensures writing { writing self.new ≡ writing self.old }
         ensures begun { is_begun self.new ≡ is_begun self.old }

@@ -2,8 +2,8 @@
 ghost use Rattle.std.specs.Prelude.{◌≡◌, ◌↔◌, ◌+◌, ◌-◌, ◌^◌, ◌≤◌, ◌<◌, [], ◌++◌, length, drop, vec_capacity, unwrap_or, IsTrue, IsSome, IfOk, IfSome, IfNone, OnOk, OnErr, Some, None};
 ghost use Rattle.std.specs.FinMap as map;
 ghost use Rattle.tl_device.specs.Contents.{grow};
-ghost use Rattle.tl_device.specs.Entries.{contents, rooms, name_at, file_at, room_at, IsEntryOf, IsFileAt, IsUnknown, KeepsPlaces};
-ghost use Rattle.tl_device.specs.FilesState.{held_bytes, free_in};
+ghost use Rattle.tl_device.specs.memory.Entries.{contents, rooms, name_at, file_at, room_at, IsEntryOf, IsFileAt, IsUnknown, KeepsPlaces};
+ghost use Rattle.tl_device.specs.memory.FilesState.{held_bytes, free_in};
 
 use std::alloc::{AllocError, Global};
 use std::marker::Model;
@@ -20,7 +20,7 @@ pub(crate) struct Entry {
 impl Model for Entry {
     ghost use Rattle.std.specs.Prelude.{◌≤◌, if◌then◌else◌, vec_capacity, string_bytes, Some, None};
     ghost use Rattle.std.specs.Option.{ForSome};
-    ghost use Rattle.tl_device.specs.EntryState.{EntryState};
+    ghost use Rattle.tl_device.specs.memory.EntryState.{EntryState};
 
     ghost Value = { EntryState };
 
@@ -140,11 +140,11 @@ pub(crate) struct Cursor {
 
 impl Model for Entries {
     ghost use Rattle.std.specs.Prelude.{List};
-    ghost use Rattle.tl_device.specs.EntryState.{EntryState};
+    ghost use Rattle.tl_device.specs.memory.EntryState.{EntryState};
 
     ghost Value = { List EntryState };
 
-    ghost use Rattle.tl_device.specs.Entries.{HaveOwnNames};
+    ghost use Rattle.tl_device.specs.memory.Entries.{HaveOwnNames};
 
     ghost view = { λ e. e.items.items };
 
@@ -216,7 +216,8 @@ impl Entries {
     // How many bytes more the file of an entry can hold.
     pub(crate) fn free_room(&self, i: usize) -> u64
         requires { IsFileAt self.now i }
-        ensures { result ≡ free_in (contents self.now) (rooms self.now) (name_at self.now i) }
+        ensures free { result ≡ free_in (contents self.now) (rooms self.now) (name_at self.now i) }
+        ensures held { IsSome (map.get (contents self.now) (name_at self.now i)) }
     {
         self.items[i].free_room()
     }

@@ -8,6 +8,8 @@ mod mem_console;
 mod mem_files;
 mod real;
 #[cfg(test)]
+mod real_tests;
+#[cfg(test)]
 mod tests;
 mod whole;
 

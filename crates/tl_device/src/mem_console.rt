@@ -18,7 +18,7 @@ pub struct MemConsole {
 
 impl Model for MemConsole {
     ghost use Rattle.std.specs.Prelude.{◌≤◌, vec_capacity};
-    ghost use Rattle.tl_device.specs.ConsoleState.{ConsoleState};
+    ghost use Rattle.tl_device.specs.memory.ConsoleState.{ConsoleState};
 
     ghost Value = { ConsoleState };
 

@@ -1,10 +1,10 @@
 // Files in memory.
 ghost use Rattle.std.specs.Prelude.{◌≡◌, ◌≢◌, ◌↔◌, ◌≤◌, ◌<◌, ◌+◌, [], IsErr, IsSome, IfOk, OnOk, OnErr, length, min, take, is_some, Some, None};
 ghost use Rattle.std.specs.FinMap as map;
-ghost use Rattle.std.specs.Option.{option_copied};
+ghost use Rattle.std.specs.Option.{option_copied, option_map};
 ghost use Rattle.tl_device.specs.Causes.{HasCause, saturating_add};
-ghost use Rattle.tl_device.specs.Contents.{grow};
-ghost use Rattle.tl_device.specs.FilesState.{rest_of, name_read, position_of, name_written, free_room, read_on};
+ghost use Rattle.tl_device.specs.Contents.{HoldsCreated, grow};
+ghost use Rattle.tl_device.specs.memory.FilesState.{rest_of, name_read, position_of, name_written, free_room, read_on};
 
 use crate::entries::{Cursor, Entries};
 use crate::{Failed, Files};
@@ -26,14 +26,14 @@ pub struct MemFiles {
 }
 
 impl Model for MemFiles {
-    ghost use Rattle.tl_device.specs.FilesState.{FilesState, files_state_code};
+    ghost use Rattle.tl_device.specs.memory.FilesState.{FilesState, files_state_code};
 
     ghost Value = { FilesState };
 
     ghost coded = { files_state_code };
 
     ghost use Rattle.std.specs.Option.{option_map};
-    ghost use Rattle.tl_device.specs.Entries.{contents, rooms, name_at, open_file_at, IsSound};
+    ghost use Rattle.tl_device.specs.memory.Entries.{contents, rooms, name_at, open_file_at, IsSound};
 
     ghost view = { λ s. record {
       files = contents s.entries;
@@ -120,6 +120,8 @@ fn copy_front(into: &mut [u8], bytes: &[u8], most: u64) -> usize
 impl Files for MemFiles {
     ghost files = { λ s. Some s.files };
 
+    ghost asked = { λ s. option_map (λ file. file.name) s.reading };
+
     ghost reading = { name_read };
 
     ghost rest = { rest_of };
@@ -194,6 +196,7 @@ impl Files for MemFiles {
         }) }
 
         // As of all files.
+        ensures held { HoldsCreated (Some self.new.files) (is_some self.new.writing) (name_written self.new) }
         ensures cause { HasCause self.old.write_faults self.new.write_faults result }
         ensures rest { name_read self.old ≢ name.now → rest_of self.new ≡ rest_of self.old }
     {
@@ -228,6 +231,7 @@ impl Files for MemFiles {
         }) }
 
         // As of all files.
+        ensures held { HoldsCreated (Some self.new.files) (is_some self.new.writing) (name_written self.new) }
         ensures progress { IfOk result (λ n. 0 < length piece.now → 0 < n) }
         ensures cause { HasCause self.old.write_faults self.new.write_faults result }
         ensures rest { name_read self.old ≢ name_written self.old

@@ -1,5 +1,7 @@
 // The real files and the standard output. They tell no content, and count their failures.
-ghost use Rattle.std.specs.Prelude.{◌≡◌, ℕ, false, List, [], is_some, None};
+ghost use Rattle.std.specs.Prelude.{◌≡◌, ℕ, ◌≤◌, ◌<◌, false, true, List, [], length, is_some, IsTrue, IfOk, IfSome, OnErr, None};
+ghost use Rattle.std.specs.Io.KnownBytes.{ReadConsumes, WriteAppends};
+ghost use Rattle.tl_device.specs.Causes.{HasCause, saturating_add};
 
 use crate::{Console, Failed, Files};
 use std::io::{Printer, Read, Write};
@@ -40,6 +42,8 @@ impl<'a, R: rt::Files> RealFiles<'a, R> {
 impl<'a, R: rt::Files> Files for RealFiles<'a, R> {
     ghost files = { λ _. None };
 
+    ghost asked = { λ _. None };
+
     ghost reading = { λ _. [] };
 
     ghost rest = { λ _. [] };
@@ -58,20 +62,30 @@ impl<'a, R: rt::Files> Files for RealFiles<'a, R> {
 
     fn open_file(&mut self, name: &str) -> Result<(), Failed> {
         self.taken = 0;
-        match fs::open(self.runtime, name) {
-            Ok(file) => {
-                self.reading = Some(file);
-                Ok(())
-            }
-            Err(_) => {
-                self.reading = None;
-                self.read_faults = self.read_faults.saturating_add(1);
-                Err(Failed)
-            }
+        self.reading = fs::open(self.runtime, name).ok();
+        if self.reading.is_none() {
+            self.read_faults = self.read_faults.saturating_add(1);
+            return Err(Failed);
         }
+        Ok(())
     }
 
-    fn read(&mut self, into: &mut [u8]) -> Result<usize, Failed> {
+    fn read(&mut self, into: &mut [u8]) -> Result<usize, Failed>
+        requires { IsTrue (is_some self.old.reading) }
+
+        // What is known of the bytes that are left of the file loses those given, and none at a failure.
+        ensures bytes { IfSome self.old.reading (λ old. IfSome self.new.reading (λ new.
+            ReadConsumes (⟦<R::File as Read>⟧.remaining old) (⟦<R::File as Read>⟧.remaining new) result into.new)) }
+
+        // As of all files.
+        ensures bound { IfOk result (λ n. n ≤ length into.new) }
+        ensures taken { IfOk result (λ n. self.new.taken ≡ saturating_add self.old.taken n) }
+        ensures none_taken { OnErr result (self.new.taken ≡ self.old.taken) }
+        ensures cause { HasCause self.old.read_faults self.new.read_faults result }
+        ensures begun { is_some self.new.reading ≡ true }
+        ensures created { is_some self.new.writing ≡ is_some self.old.writing }
+        ensures write_faults { self.new.write_faults ≡ self.old.write_faults }
+    {
         let Some(file) = &mut self.reading else {
             unreachable!()
         };
@@ -88,29 +102,49 @@ impl<'a, R: rt::Files> Files for RealFiles<'a, R> {
     }
 
     fn create_file(&mut self, name: &str) -> Result<(), Failed> {
-        match fs::create(self.runtime, name) {
-            Ok(file) => {
-                self.writing = Some(file);
-                Ok(())
-            }
-            Err(_) => {
-                self.writing = None;
-                self.write_faults = self.write_faults.saturating_add(1);
-                Err(Failed)
-            }
+        self.writing = fs::create(self.runtime, name).ok();
+        if self.writing.is_none() {
+            self.write_faults = self.write_faults.saturating_add(1);
+            return Err(Failed);
         }
+        Ok(())
     }
 
-    fn write(&mut self, piece: &[u8]) -> Result<usize, Failed> {
+    fn write(&mut self, piece: &[u8]) -> Result<usize, Failed>
+        requires { IsTrue (is_some self.old.writing) }
+
+        // What is known of the bytes of the file grows by those taken, and by none at a failure.
+        ensures bytes { IfSome self.old.writing (λ old. IfSome self.new.writing (λ new.
+            WriteAppends (⟦<R::File as Write>⟧.contents old) (⟦<R::File as Write>⟧.contents new) result piece.now)) }
+
+        // As of all files.
+        ensures bound { IfOk result (λ n. n ≤ length piece.now) }
+        ensures progress { IfOk result (λ n. 0 < length piece.now → 0 < n) }
+        ensures cause { HasCause self.old.write_faults self.new.write_faults result }
+        ensures created { is_some self.new.writing ≡ true }
+        ensures begun { is_some self.new.reading ≡ is_some self.old.reading }
+        ensures taken { self.new.taken ≡ self.old.taken }
+        ensures read_faults { self.new.read_faults ≡ self.old.read_faults }
+    {
         let Some(file) = &mut self.writing else {
             unreachable!()
         };
-        match file.write(piece) {
-            Ok(taken) if taken > 0 || piece.is_empty() => Ok(taken),
-            _ => {
-                self.write_faults = self.write_faults.saturating_add(1);
-                Err(Failed)
-            }
+        write_counted(file, piece, &mut self.write_faults)
+    }
+}
+
+// Writes a front of the piece. It is a fault to fail, and to take nothing where there is something.
+fn write_counted<W: Write>(output: &mut W, piece: &[u8], faults: &mut u64) -> Result<usize, Failed>
+    ensures bytes { WriteAppends (W.contents output.old) (W.contents output.new) result piece.now }
+    ensures bound { IfOk result (λ n. n ≤ length piece.now) }
+    ensures progress { IfOk result (λ n. 0 < length piece.now → 0 < n) }
+    ensures cause { HasCause faults.old faults.new result }
+{
+    match output.write(piece) {
+        Ok(taken) if taken > 0 || piece.is_empty() => Ok(taken),
+        _ => {
+            *faults = faults.saturating_add(1);
+            Err(Failed)
         }
     }
 }
@@ -142,12 +176,6 @@ impl<'a, R: Print> Console for RealConsole<'a, R> {
     ghost faults = { λ s. s.faults };
 
     fn write(&mut self, piece: &[u8]) -> Result<usize, Failed> {
-        match self.output.write(piece) {
-            Ok(taken) if taken > 0 || piece.is_empty() => Ok(taken),
-            _ => {
-                self.faults = self.faults.saturating_add(1);
-                Err(Failed)
-            }
-        }
+        write_counted(&mut self.output, piece, &mut self.faults)
     }
 }

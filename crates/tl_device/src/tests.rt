@@ -1,24 +1,29 @@
 ghost use Rattle.std.specs.Prelude.{◌<◌, ◌^◌, IsSome};
 ghost use Rattle.std.specs.Bool.{OnTrue};
 
-use crate::{Console, Failed, Files, MemConsole, MemFiles, ReadEnd, put_all, read_all, say_all};
+use crate::{Console, Files, MemConsole, MemFiles, ReadEnd, put_all, read_all, say_all};
 use std::alloc::{AllocError, Global};
-use std::test::Fail;
 
 // The calls that say much have functions of their own that say little, so that no proof of a test carries it.
+
+fn found(alloc: Global, files: &mut MemFiles, name: &str, limit: u64) -> Result<Vec<u8>, ReadEnd>
+    requires { limit < 2 ^ 32 }
+{
+    read_all(alloc, files, name, limit)
+}
 
 /// Whether this is read of the file, where it may have so many bytes.
 fn is_read(alloc: Global, files: &mut MemFiles, name: &str, limit: u64, bytes: &[u8]) -> bool
     requires { limit < 2 ^ 32 }
 {
-    matches!(read_all(alloc, files, name, limit), Ok(read) if read.as_slice() == bytes)
+    matches!(found(alloc, files, name, limit), Ok(read) if read.as_slice() == bytes)
 }
 
 /// Whether reading the file ends so, where it may have so many bytes.
 fn is_unread(alloc: Global, files: &mut MemFiles, name: &str, limit: u64, end: ReadEnd) -> bool
     requires { limit < 2 ^ 32 }
 {
-    matches!(read_all(alloc, files, name, limit), Err(found) if found == end)
+    matches!(found(alloc, files, name, limit), Err(found) if found == end)
 }
 
 fn holds(files: &MemFiles, name: &str, bytes: &[u8]) -> bool {
@@ -29,11 +34,12 @@ fn is_absent(files: &MemFiles, name: &str) -> bool {
     files.content(name).is_none()
 }
 
-fn two_files(alloc: Global) -> Result<MemFiles, AllocError> {
+fn three_files(alloc: Global) -> Result<MemFiles, AllocError> {
     let mut files = MemFiles::new(alloc);
     files.add("first", b"abcde")?;
     files.add("second", b"")?;
     files.add("first", b"vwxyz")?;
+    files.add("out", b"older")?;
     Ok(files)
 }
 
@@ -44,16 +50,6 @@ fn are_read(alloc: Global, files: &mut MemFiles) -> bool {
         && is_unread(alloc, files, "third", 5, ReadEnd::Failed)
         && holds(files, "second", b"")
         && is_absent(files, "third")
-}
-
-#[test]
-fn a_file_is_read_whole_up_to_the_limit(rt: HostRuntime) -> Result<(), AllocError> {
-    for most in [1, 3, 100] {
-        let mut files = two_files(rt.alloc())?;
-        files.most(most);
-        assert!(rt; are_read(rt.alloc(), &mut files), "{most} bytes a call");
-    }
-    Ok(())
 }
 
 fn is_created(files: &mut MemFiles, name: &str) -> bool
@@ -88,38 +84,30 @@ fn is_begun_empty(files: &mut MemFiles) -> bool {
     is_created(files, "new") && holds(files, "new", b"")
 }
 
-#[test]
-fn a_name_is_written_within_its_room(rt: HostRuntime) -> Result<(), AllocError> {
-    for most in [1, 3, 100] {
-        let mut files = MemFiles::new(rt.alloc());
-        files.add("out", b"older")?;
-        assert!(rt; is_kept(&mut files), "{most} bytes a call");
-        files.room("out", 4)?;
-        files.room("new", 2)?;
-        files.most(most);
-        assert!(rt; is_absent(&files, "new"), "{most} bytes a call");
-        assert!(rt; is_filled(&mut files), "{most} bytes a call");
-        assert!(rt; is_begun_empty(&mut files), "{most} bytes a call");
-    }
-    Ok(())
+fn is_given_room(files: &mut MemFiles) -> bool {
+    files.room("out", 4).is_ok() && files.room("new", 2).is_ok()
+}
+
+fn are_written(files: &mut MemFiles) -> bool {
+    is_kept(files)
+        && is_given_room(files)
+        && is_absent(files, "new")
+        && is_filled(files)
+        && is_begun_empty(files)
 }
 
 #[test]
-fn one_file_is_copied_into_another(rt: HostRuntime) -> Result<(), Fail> {
-    let mut files = MemFiles::new(rt.alloc());
-    files.add("from", b"abcde")?;
-    files.room("to", 10)?;
-    files.most(2);
-    files.open_file("from")?;
-    files.create_file("to")?;
-    let mut buffer = [0; 3];
-    for piece in [b"ab".as_slice(), b"cd", b"e", b""] {
-        let given = files.read(&mut buffer)?;
-        assert_eq!(rt; given, piece.len());
-        assert_eq!(rt; files.write(piece)?, given);
+fn files_in_memory_are_read_whole_and_written_within_their_room(
+    rt: HostRuntime,
+) -> Result<(), AllocError> {
+    for most in [1, 3, 100] {
+        let mut files = three_files(rt.alloc())?;
+        files.most(most);
+        assert!(rt;
+            are_read(rt.alloc(), &mut files) && are_written(&mut files),
+            "{most} bytes a call"
+        );
     }
-    assert!(rt; matches!(files.content("to"), Some(b"abcde")));
-    assert_eq!(rt; files.open_file("absent"), Err(Failed));
     Ok(())
 }
 
@@ -131,22 +119,21 @@ fn is_taken(console: &mut MemConsole, bytes: &[u8]) -> bool {
     console.write(bytes).is_ok()
 }
 
-/// Whether a console with room for five bytes takes no more, and then nothing.
+/// Whether a console takes nothing, then the five bytes that there is room for, and then nothing.
 fn is_filled_console(console: &mut MemConsole) -> bool {
-    is_said(console, b"abc")
+    !is_taken(console, b"x")
+        && console.room(5).is_ok()
+        && is_said(console, b"abc")
         && !is_said(console, b"def")
         && console.printed() == b"abcde".as_slice()
         && is_said(console, b"")
 }
 
 #[test]
-fn a_console_keeps_what_is_printed(rt: HostRuntime) -> Result<(), AllocError> {
+fn a_console_keeps_what_is_printed(rt: HostRuntime) {
     for most in [1, 3, 100] {
         let mut console = MemConsole::new(rt.alloc());
-        assert!(rt; !is_taken(&mut console, b"x"), "{most} bytes a call");
-        console.room(5)?;
         console.most(most);
         assert!(rt; is_filled_console(&mut console), "{most} bytes a call");
     }
-    Ok(())
 }

@@ -1,8 +1,8 @@
 // Whole files and whole texts.
-ghost use Rattle.std.specs.Prelude.{◌≡◌, ◌≢◌, ◌⊎◌, ◌↔◌, ℕ, ◌+◌, ◌^◌, ◌≤◌, ◌<◌, Bool, true, List, length, IsTrue, IsOk, IfOk, OnOk, OnErr, IsErrOf};
+ghost use Rattle.std.specs.Prelude.{◌≡◌, ◌≢◌, ◌⊎◌, ◌↔◌, ℕ, ◌+◌, ◌++◌, ◌^◌, ◌≤◌, ◌<◌, Bool, true, List, length, IsTrue, IsOk, IfOk, OnOk, OnErr, IsErrOf};
 ghost use Rattle.std.specs.Io.KnownBytes.{append_known};
 ghost use Rattle.tl_device.specs.Causes.{HasCause, HasReadCause, IsAbsent, Rose};
-ghost use Rattle.tl_device.specs.Contents.{grown, GrownInPart, PrintedInPart, Holds, HoldsAtMost, HoldsMoreThan, IsRest, IsTold, OthersStay};
+ghost use Rattle.tl_device.specs.Contents.{grown, GrownInPart, PrintedInPart, Holds, HoldsAtMost, HoldsCreated, HoldsMoreThan, IsAskedFor, IsRest, IsTold, OthersStay};
 ghost use Rattle.tl_device.specs.declared.whole.ReadEnd.TheVariants.{NoMemory, Failed as ReadFailed};
 
 use crate::{Console, Failed, Files};
@@ -37,7 +37,13 @@ pub fn put_all<F: Files>(files: &mut F, bytes: &[u8]) -> Result<(), Failed>
     // When it fails, by the count of writing.
     ensures cause { HasCause (F.write_faults files.old) (F.write_faults files.new) result }
 
+    // The name holds what it held and these bytes; where there are any, it is no name without a file.
+    ensures holds { OnOk result ((held : List ℕ) → Holds (F.files files.old) (F.writing files.old) held
+        → Holds (F.files files.new) (F.writing files.old) (held ++ bytes.now)) }
+    ensures held { 0 < length bytes.now → HoldsCreated (F.files files.old) true (F.writing files.old) }
+
     // What it leaves as it was.
+    ensures asked { F.asked files.new ≡ F.asked files.old }
     ensures created { F.is_created files.new ≡ true }
     ensures writing { F.writing files.new ≡ F.writing files.old }
     ensures begun { F.is_begun files.new ≡ F.is_begun files.old }
@@ -93,6 +99,7 @@ pub fn read_all<F: Files>(
     limit: u64,
 ) -> Result<Vec<u8>, ReadEnd>
     requires { limit < 2 ^ 32 }
+    ensures asked { IsAskedFor (F.asked files.new) name.now }
     ensures whole { IfOk result (λ bytes. Holds (F.files files.old) name.now bytes.items) }
     ensures within { IfOk result (λ bytes. length bytes.items ≤ limit) }
     ensures taken { IfOk result (λ bytes. F.taken files.new ≡ length bytes.items) }

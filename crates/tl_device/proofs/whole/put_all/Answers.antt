@@ -1,11 +1,16 @@
-use Rattle.std.proofs.Common.{◌∙◌, sym, arith, length-drop}
-use Rattle.tl_device.proofs.Grown.{grown_next, others_grown}
+use Rattle.std.proofs.Common.{◌∙◌, sym, ap, arith, length-drop}
+use Rattle.std.proofs.lemmas.List.{take_all}
+use Rattle.tl_device.specs.Contents.{grown}
+use Rattle.tl_device.proofs.Grown.{grown_next, held_before, holds_grown, others_grown}
 use Rattle.tl_device.proofs.whole.put_all.Goals as goal
 
 pub loop-done-preserved : goal.loop-done-preserved
 loop-done-preserved g c = record {
   within = omega (arith, c.in_ok-done.ensures.bound, length-drop c.loop-done.done c.args.bytes.now);
   files = grown_next _ _ _ _ _ _ _ _ c.loop-done.invariant.writing c.loop-done.invariant.files c.in_ok-done.ensures.ok;
+  held = λ _. held_before _ _ _ _ _ _ c.in_ok-done.ensures.created (c.in_ok-done.ensures.writing ∙ c.loop-done.invariant.writing)
+      (grown_next _ _ _ _ _ _ _ _ c.loop-done.invariant.writing c.loop-done.invariant.files c.in_ok-done.ensures.ok) c.in_ok-done.ensures.held;
+  asked = c.in_ok-done.ensures.asked ∙ c.loop-done.invariant.asked;
   write_faults = c.in_ok-done.ensures.cause.same ∙ c.loop-done.invariant.write_faults;
   created = c.in_ok-done.ensures.created;
   writing = c.in_ok-done.ensures.writing ∙ c.loop-done.invariant.writing;
@@ -23,3 +28,8 @@ returns-in_err-done-clause-others g c =
 pub returns-clause-others : goal.returns-clause-others
 returns-clause-others g c =
     others_grown (g.F.Files.files c.args.files.now) (g.F.Files.files c.loop-done.files) (g.F.Files.writing c.args.files.now) _ c.loop-done.invariant.files
+
+pub returns-clause-holds : goal.returns-clause-holds
+returns-clause-holds g c held holds =
+    holds_grown (g.F.Files.files c.args.files.now) (g.F.Files.files c.loop-done.files) (g.F.Files.writing c.args.files.now) c.args.bytes.now held
+    (c.loop-done.invariant.files ∙ ap (grown (g.F.Files.files c.args.files.now) (g.F.Files.writing c.args.files.now)) (take_all c.loop-done.done c.args.bytes.now c.loop-done-test.false)) holds

@@ -1,4 +1,4 @@
-use Rattle.std.proofs.Common.{◌≡◌, ℕ, ◌+◌, take, length, sym, subst, arith, length-take}
+use Rattle.std.proofs.Common.{take, sym, subst, arith, length-take}
 use Rattle.tl_device.specs.Contents.{IsTold}
 use Rattle.tl_device.proofs.Rest.{holds_more, is_rest}
 use Rattle.tl_device.proofs.whole.read_all.Goals as goal

@@ -1,9 +1,10 @@
 use Rattle.std.proofs.Common.{length, true, ◌+◌, ◌-◌, ◌++◌, ◌≡◌, ◌≤◌}
-use Rattle.tl_device.specs.Contents.{Holds}
+use Rattle.tl_device.specs.Contents.{Holds, IsAskedFor}
 use Rattle.tl_device.proofs.whole.read_all.Given as goal
 
 abbrev pub invariant-loop-all : goal.invariant-loop-all
 invariant-loop-all g l = record {
+  asked : IsAskedFor (g.F.Files.asked l.files) l.name;
   begun : g.F.Files.is_begun l.files ≡ true;
   within : length l.all.items ≤ l.limit;
   whole : Holds (g.F.Files.files l.fn.files) l.name (l.all.items ++ g.F.Files.rest l.files);

@@ -1,5 +1,5 @@
-use Rattle.std.proofs.Common.{◌≡◌, ◌∙◌, ◌<◌, List, ℕ, [], length, unwrap_or, sym, subst, ap, refl, IsSome}
-use Rattle.tl_device.specs.Entries.{file_at, room_at, name_at, IsEntryOf}
+use Rattle.std.proofs.Common.{◌≡◌, ◌<◌, [], length, unwrap_or, sym, subst, ap, refl, IsSome}
+use Rattle.tl_device.specs.memory.Entries.{file_at, room_at, name_at, IsEntryOf}
 use Rattle.tl_device.proofs.EntryLemmas.{some_held, file_is, room_is, entry_of, IsChange, own-change, places-change, contents-change_grow, rooms-change_same}
 use Rattle.tl_device.proofs.entries.Entries.append.Goals as goal
 

@@ -1,5 +1,5 @@
 use Rattle.std.proofs.Common.{◌≡◌, ◌∙◌, ◌<◌, length, refl, subst, IsSome}
-use Rattle.tl_device.specs.Entries.{file_at}
+use Rattle.tl_device.specs.memory.Entries.{file_at}
 use Rattle.tl_device.proofs.EntryLemmas.{file_is, entry_of}
 use Rattle.tl_device.proofs.entries.Entries.content.Goals as goal
 

@@ -1,5 +1,5 @@
-use Rattle.std.proofs.Common.{◌≡◌, ◌∙◌, ◌<◌, length, sym, subst, ap, refl, IsSome}
-use Rattle.tl_device.specs.Entries.{file_at}
+use Rattle.std.proofs.Common.{◌≡◌, ◌∙◌, ◌<◌, length, sym, subst, IsSome}
+use Rattle.tl_device.specs.memory.Entries.{file_at}
 use Rattle.tl_device.proofs.EntryLemmas.{file_is, none_held}
 use Rattle.tl_device.proofs.entries.Entries.file_position.Goals as goal
 

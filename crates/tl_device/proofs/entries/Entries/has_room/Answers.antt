@@ -1,4 +1,3 @@
-use Rattle.std.proofs.Common.{◌∙◌, sym, subst, IsSome}
 use Rattle.tl_device.proofs.EntryLemmas.{room_is}
 use Rattle.tl_device.proofs.entries.Entries.has_room.Goals as goal
 

@@ -1,6 +1,6 @@
-use Rattle.std.proofs.Common.{◌≡◌, ◌∙◌, ◌<◌, ℕ, length, sym, subst, ap, refl, inl, inr, arith}
+use Rattle.std.proofs.Common.{◌≡◌, ◌∙◌, ◌<◌, length, sym, ap, inl, inr, arith}
 use Rattle.std.proofs.lemmas.Bool.{cases_eq}
-use Rattle.tl_device.specs.Entries.{name_at}
+use Rattle.tl_device.specs.memory.Entries.{name_at}
 use Rattle.tl_device.proofs.EntryLemmas.{name_is, entry_of, unknown}
 use Rattle.tl_device.proofs.entries.Entries.position.Goals as goal
 

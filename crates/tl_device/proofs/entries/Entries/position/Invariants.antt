@@ -1,5 +1,5 @@
 use Rattle.std.proofs.Common.{◌≢◌, ◌<◌, ℕ}
-use Rattle.tl_device.specs.Entries.{name_at}
+use Rattle.tl_device.specs.memory.Entries.{name_at}
 use Rattle.tl_device.proofs.entries.Entries.position.Given as goal
 
 abbrev pub invariant-loop-i : goal.invariant-loop-i

@@ -1,5 +1,5 @@
-use Rattle.std.proofs.Common.{◌≡◌, ◌∙◌, List, sym, subst, ap, refl, IsSome}
-use Rattle.tl_device.specs.Entries.{NoneNamed}
+use Rattle.std.proofs.Common.{◌∙◌, sym, subst, ap, refl, IsSome}
+use Rattle.tl_device.specs.memory.Entries.{NoneNamed}
 use Rattle.tl_device.proofs.EntryLemmas.{name_is, IsChange, own-change, places-change, contents-change, rooms-change_none, IsAddition, own-addition, places-addition, contents-addition, rooms-addition_none}
 use Rattle.tl_device.proofs.entries.Entries.set_file.Goals as goal
 

@@ -1,5 +1,5 @@
-use Rattle.std.proofs.Common.{◌≡◌, ◌∙◌, List, sym, subst, ap, refl, IsSome}
-use Rattle.tl_device.specs.Entries.{NoneNamed}
+use Rattle.std.proofs.Common.{◌≡◌, ◌∙◌, sym, subst, ap, IsSome}
+use Rattle.tl_device.specs.memory.Entries.{NoneNamed}
 use Rattle.tl_device.proofs.EntryLemmas.{name_is, IsChange, own-change, places-change, contents-change_same, rooms-change, IsAddition, own-addition, places-addition, contents-addition_same, rooms-addition}
 use Rattle.tl_device.proofs.entries.Entries.set_room.Goals as goal
 

@@ -1,7 +1,7 @@
 use Rattle.std.proofs.Common.{◌≡◌, ◌∙◌, sym, ap, arith}
 use Rattle.std.specs.Option.{option_map}
-use Rattle.tl_device.specs.Entries.{open_file_at}
-use Rattle.tl_device.specs.FilesState.{position_of, position_in}
+use Rattle.tl_device.specs.memory.Entries.{open_file_at}
+use Rattle.tl_device.specs.memory.FilesState.{position_of, position_in}
 use Rattle.tl_device.proofs.mem_files.MemFilesFiles.read.Goals as goal
 
 pub returns-clause-taken : goal.returns-clause-taken

@@ -1,8 +1,8 @@
-use Rattle.std.proofs.Common.{◌≡◌, ◌∙◌, [], unwrap_or, sym, ap}
+use Rattle.std.proofs.Common.{◌≡◌, ◌∙◌, [], unwrap_or, sym, ap, subst, IfSome}
 use Rattle.std.specs.Option.{option_map}
-use Rattle.tl_device.specs.Entries.{name_at, contents}
-use Rattle.tl_device.specs.FilesState.{name_written}
-use Rattle.tl_device.proofs.FilesLemmas.{rest_of-other, reading_kept, others_grow}
+use Rattle.tl_device.specs.memory.Entries.{IsFileAt, name_at, contents}
+use Rattle.tl_device.specs.memory.FilesState.{name_written}
+use Rattle.tl_device.proofs.FilesLemmas.{written_held, appended_held, rest_of-other, reading_kept, others_grow}
 use Rattle.tl_device.proofs.mem_files.MemFilesFiles.write.Goals as goal
 
 pub returns-clause-rest : goal.returns-clause-rest
@@ -13,3 +13,12 @@ returns-clause-rest c differs =
     (reading_kept _ _ c.self.inside.reading c.append.ensures.places c.self.invariant.reads ∙ ap (λ s. s.reading) c.self.view_is)
     (others_grow c.args.self.now.files (contents c.self.inside.entries) (contents c.append.new.self) _ _ _ (ap (λ s. s.files) c.self.view_is) name c.append.ensures.contents)
     differs
+
+pub returns-then-not-is_empty-clause-held : goal.returns-then-not-is_empty-clause-held
+returns-then-not-is_empty-clause-held c = written_held c.self.inside.entries _ c.in-Some.entry c.in-Some.is c.free_room-free.ensures.held
+
+pub returns-clause-held : goal.returns-clause-held
+returns-clause-held c =
+    let at : IsFileAt c.self.inside.entries c.in-Some.entry = subst (λ w. IfSome w (IsFileAt c.self.inside.entries)) c.in-Some.is c.self.invariant.writes in
+    written_held c.append.new.self _ c.in-Some.entry c.in-Some.is
+    (appended_held c.self.inside.entries c.append.new.self c.in-Some.entry _ at.within c.append.ensures.contents c.append.ensures.places c.free_room-free.ensures.held)

@@ -1,14 +1,14 @@
 -- The entries of files in memory, and what they stand for.
 use Rattle.std.specs.Prelude.{◌≡◌, ◌≢◌, ℕ, zero, suc, ◌<◌, ◌≤◌, List, [], ◌∷◌, length, IfSome, IsSome}
 use Rattle.std.specs.declared.option.Option.{Option}
-use Rattle.std.specs.declared.option.Option.TheVariants.{Some, None}
+use Rattle.std.specs.declared.option.Option.TheVariants.{None}
 use Rattle.std.specs.Option.{option_map_or}
 use Rattle.std.specs.FinMap.{FinMap, empty, get, insert}
 use Rattle.std.specs.Ordering.{nat_cmp}
 use Rattle.std.specs.Cmp.Lexicographic.{slice_cmp}
 use Rattle.tl_device.specs.Contents.{Contents}
-use Rattle.tl_device.specs.EntryState.{EntryState}
-use Rattle.tl_device.specs.FilesState.{Rooms, OpenFile}
+use Rattle.tl_device.specs.memory.EntryState.{EntryState}
+use Rattle.tl_device.specs.memory.FilesState.{Rooms, OpenFile}
 use Rattle.tl_device.specs.declared.entries.Cursor.{Cursor}
 
 -- a map of the values that the entries have, by their names

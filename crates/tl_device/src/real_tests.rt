@@ -1,0 +1,171 @@
+ghost use Rattle.std.specs.Prelude.{◌<◌, ◌^◌, IsErr};
+
+use crate::{Files, ReadEnd, RealConsole, RealFiles, put_all, read_all, say_all};
+use std::alloc::{AllocError, Global};
+use std::cell::Cell;
+use std::fmt::Display;
+use std::{fs, io};
+
+// The files of a test lie where it runs, and it removes them.
+static WRITTEN: &str = "tl_device_written";
+
+static BESIDE: &str = "tl_device_beside";
+
+static ABSENT: &str = "tl_device_absent";
+
+/// Bytes that count up from the first one, and begin anew behind 250.
+fn counted(alloc: Global, first: u8, length: usize) -> Result<Vec<u8>, AllocError> {
+    let mut bytes = Vec::new(alloc);
+    let mut next = first;
+    for _ in 0..length {
+        bytes.push(next)?;
+        next = if next < 250 { next + 1 } else { 0 };
+    }
+    Ok(bytes)
+}
+
+fn is_put(rt: &HostRuntime, name: &str, bytes: &[u8]) -> bool {
+    let mut files = RealFiles::new(rt);
+    files.create_file(name).is_ok() && put_all(&mut files, bytes).is_ok()
+}
+
+fn is_begun(rt: &HostRuntime, name: &str) -> bool {
+    RealFiles::new(rt).open_file(name).is_ok()
+}
+
+fn found(rt: &HostRuntime, name: &str, limit: u64) -> Result<Vec<u8>, ReadEnd>
+    requires { limit < 2 ^ 32 }
+{
+    read_all(rt.alloc(), &mut RealFiles::new(rt), name, limit)
+}
+
+fn is_read(rt: &HostRuntime, name: &str, limit: u64, bytes: &[u8]) -> bool
+    requires { limit < 2 ^ 32 }
+{
+    matches!(found(rt, name, limit), Ok(read) if read.as_slice() == bytes)
+}
+
+fn is_unread(rt: &HostRuntime, name: &str, limit: u64, end: ReadEnd) -> bool
+    requires { limit < 2 ^ 32 }
+{
+    matches!(found(rt, name, limit), Err(found) if found == end)
+}
+
+/// Whether the system itself finds these bytes in the file.
+fn holds(rt: &HostRuntime, name: &str, bytes: &[u8]) -> bool {
+    matches!(fs::read(rt, name), Ok(held) if held.as_slice() == bytes)
+}
+
+fn is_replaced(rt: &HostRuntime, bytes: &[u8]) -> bool {
+    is_put(rt, WRITTEN, bytes)
+        && holds(rt, WRITTEN, bytes)
+        && holds(rt, BESIDE, b"beside")
+        && is_read(rt, WRITTEN, 300_000, bytes)
+        && is_read(rt, BESIDE, 6, b"beside")
+        && is_unread(rt, BESIDE, 5, ReadEnd::TooLong)
+}
+
+fn is_replaced_by(rt: &HostRuntime, first: u8, length: usize) -> bool {
+    matches!(counted(rt.alloc(), first, length), Ok(bytes) if is_replaced(rt, &bytes))
+}
+
+fn is_set(rt: &HostRuntime) -> bool {
+    fs::write(rt, BESIDE, b"beside").is_ok()
+}
+
+fn is_removed(rt: &HostRuntime, name: &str) -> bool {
+    fs::remove_file(rt, name).is_ok()
+}
+
+#[test]
+fn a_real_file_is_replaced_and_read_whole(rt: HostRuntime) {
+    assert!(rt; is_set(&rt));
+    for (first, length) in [(0, 200_000), (100, 70_000), (3, 0)] {
+        assert!(rt; is_replaced_by(&rt, first, length), "{length} bytes");
+    }
+    assert!(rt; is_removed(&rt, WRITTEN) && is_removed(&rt, BESIDE));
+}
+
+/// Whether nothing is read of a name that no file has, nor of a folder, which can be begun, and nothing written there.
+fn are_refused(rt: &HostRuntime) -> bool {
+    is_unread(rt, ABSENT, 10, ReadEnd::Failed)
+        && is_begun(rt, ".")
+        && is_unread(rt, ".", 10, ReadEnd::Failed)
+        && !is_put(rt, ".", b"x")
+}
+
+#[test]
+fn an_absent_file_and_a_folder_fail(rt: HostRuntime) {
+    assert!(rt; are_refused(&rt));
+}
+
+/// A printer that is to print a text. A call takes so many bytes at most, and fails where they aren't the next ones,
+/// or where so many were printed as there is room for.
+#[derive(Drop)]
+struct Paper<'a> {
+    text: &'a [u8],
+    printed: Cell<usize>,
+    most: usize,
+    room: usize,
+}
+
+fn refused<T>() -> io::Result<T>
+    ensures { IsErr result }
+{
+    Err(io::Error::from(io::ErrorKind::Unsupported))
+}
+
+impl<'a> Print for Paper<'a> {
+    fn print<D: Display + Drop>(&self, _: D) -> io::Result<()> {
+        refused()
+    }
+
+    fn println<D: Display + Drop>(&self, _: D) -> io::Result<()> {
+        refused()
+    }
+
+    fn write_all(&self, _: &[u8]) -> io::Result<()> {
+        refused()
+    }
+
+    fn write_some(&self, bytes: &[u8]) -> io::Result<usize> {
+        let printed = self.printed.get();
+        let piece = &bytes[..bytes.len().min(self.most)];
+        let rest = &self.text[printed.min(self.text.len())..];
+        if printed >= self.room || !rest.starts_with(piece) {
+            return refused();
+        }
+        self.printed.set(printed.saturating_add(piece.len()));
+        Ok(piece.len())
+    }
+}
+
+/// Whether printing a text ends so, when this front of it is printed.
+fn is_printed(text: &[u8], most: usize, room: usize, whole: bool, length: usize) -> bool {
+    let paper = Paper {
+        text,
+        printed: Cell::new(0),
+        most,
+        room,
+    };
+    let is_said = say_all(&mut RealConsole::new(&paper), text).is_ok();
+    is_said == whole && paper.printed.get() == length
+}
+
+#[test]
+fn the_real_console_prints_all_or_a_front(rt: HostRuntime) -> Result<(), AllocError> {
+    let text = counted(rt.alloc(), 0, 70_000)?;
+    for (most, room, whole, length) in [
+        (100_000, 100_000, true, 70_000),
+        (999, 100_000, true, 70_000),
+        (999, 1000, false, 1998),
+        (999, 0, false, 0),
+        (0, 100_000, false, 0),
+    ] {
+        assert!(rt;
+            is_printed(&text, most, room, whole, length),
+            "{most} bytes a call"
+        );
+    }
+    Ok(())
+}
