@@ -1,7 +1,7 @@
 -- The states that steps lead to, and the laws on successors and costs.
 use Rattle.std.proofs.Common.{◌≡◌, ℕ, suc, ◌+◌, ◌<◌, false, cond, List, [], ◌∷◌, length, map, sum, get_or, Option, Some, None, ◌⊎◌, refl, sym, ap, ◌∙◌, subst, inl, inr, arith}
 use Rattle.std.specs.Prelude.{IsNone, IsSomeAnd}
-use Rattle.std.specs.List.{All, Contains, slice_get, range_with_len}
+use Rattle.std.specs.List.{Contains, slice_get, range_with_len}
 use Rattle.std.proofs.lemmas.Option.{slice_get_past, slice_get_within, get_or_from_slice_get}
 use Rattle.std.proofs.lemmas.Bool.{cases_lt}
 use Rattle.std.proofs.lemmas.List.Elements.{All-contains}
