@@ -5,3 +5,5 @@ pub mod Completion
 pub mod KeepsLaws
 pub mod Checks
 pub mod Steps
+pub mod Tells
+pub mod TextsTellTasks
