@@ -125,7 +125,8 @@ fn are_conditions(pairs: &[Pair], variables: &[u64]) -> bool {
 
 fn are_effects(effects: &[Effect], wanted: &[(u64, u64)]) -> bool {
     let mut both = effects.iter().zip(wanted);
-    effects.len() == wanted.len() && both.all(|(effect, (var, after))| effect.var == *var && effect.after == *after)
+    effects.len() == wanted.len()
+        && both.all(|(effect, (var, after))| effect.var == *var && effect.after == *after)
 }
 
 fn is_operator(operator: &Operator, wanted: &Wanted<'_>) -> bool {
@@ -133,6 +134,10 @@ fn is_operator(operator: &Operator, wanted: &Wanted<'_>) -> bool {
     operator.name.as_slice() == name
         && are_conditions(operator.conditions.as_slice(), conditions)
         && are_effects(operator.effects.as_slice(), effects)
+}
+
+fn has_operator(task: &SasTask, i: u64, wanted: &Wanted<'_>) -> bool {
+    i < task.operators() && is_operator(task.operator(i), wanted)
 }
 
 /// Repeated atoms, names out of order, actions that change nothing, and an atom that is added and deleted.
@@ -153,11 +158,13 @@ static OPERATORS: [Wanted<'static>; 4] = [
 ];
 
 #[test]
-fn operators_stand_by_name_without_repeats_and_idle_ones(rt: HostRuntime) -> Result<(), AllocError> {
+fn operators_stand_by_name_without_repeats_and_idle_ones(
+    rt: HostRuntime,
+) -> Result<(), AllocError> {
     let task = encoded(&rt, rt.alloc(), &ACTIONS)?;
     assert_eq!(rt; task.operators(), 4);
     for (i, wanted) in (0..4).zip(&OPERATORS) {
-        assert!(rt; is_operator(task.operator(i), wanted), "{i}");
+        assert!(rt; has_operator(&task, i, wanted), "{i}");
     }
     Ok(())
 }
