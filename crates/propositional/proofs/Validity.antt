@@ -53,6 +53,7 @@ variable_is_valid name line =
     let holds = codes "Atom " ++ name ++ codes "()" in
     let fails = codes "NegatedAtom " ++ name ++ codes "()" in
     record {
+      layer = tt;
       has_value = omega arith;
       names =
           All-cons IsName holds (fails ∷ []) (fact_name (codes "Atom ") name (omega arith) (λ e. absurd (omega arith)) (no_feed (codes "Atom ") refl) line)

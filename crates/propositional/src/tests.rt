@@ -5,9 +5,8 @@ ghost use Rattle.propositional.specs.Lawful.{AreBelow, IsLawful, IsLawfulAction}
 
 use super::*;
 use lists::{List, Text};
-use sas_task::{Operator, Pair, SasTask, Variable};
+use sas_task::{Effect, Operator, Pair, SasTask};
 use std::alloc::{AllocError, Global};
-use std::fmt;
 use std::process::Abort;
 use std::test::*;
 
@@ -116,121 +115,56 @@ fn encoded(rt: &impl Abort, alloc: Global, rows: &[Row<'_>]) -> Result<SasTask, 
     encode(alloc, &planning)
 }
 
-fn show_text(shown: &mut String, text: &Text) -> fmt::Result {
-    for byte in text.as_slice() {
-        shown.push(char::from(*byte))?;
-    }
-    Ok(())
+/// An operator: its name, the variables whose first value it requires, and what it sets.
+type Wanted<'a> = (&'a [u8], &'a [u64], &'a [(u64, u64)]);
+
+fn are_conditions(pairs: &[Pair], variables: &[u64]) -> bool {
+    let mut both = pairs.iter().zip(variables);
+    pairs.len() == variables.len() && both.all(|(pair, var)| pair.var == *var && pair.val == 0)
 }
 
-fn show_pairs(shown: &mut String, pairs: &[Pair]) -> fmt::Result {
-    for pair in pairs {
-        write!(shown, " {}={}", pair.var, pair.val)?;
-    }
-    Ok(())
+fn are_effects(effects: &[Effect], wanted: &[(u64, u64)]) -> bool {
+    let mut both = effects.iter().zip(wanted);
+    effects.len() == wanted.len()
+        && both.all(|(effect, (var, after))| effect.var == *var && effect.after == *after)
 }
 
-/// The names of the values, with a `|` after each.
-fn show_variable(shown: &mut String, variable: &Variable) -> fmt::Result {
-    for fact in variable.facts.as_slice() {
-        show_text(shown, fact)?;
-        shown.push_str("|")?;
-    }
-    if variable.layer.is_some() {
-        shown.push_str("derived")?;
-    }
-    Ok(())
+fn is_operator(operator: &Operator, wanted: &Wanted<'_>) -> bool {
+    let (name, conditions, effects) = *wanted;
+    operator.name.as_slice() == name
+        && are_conditions(operator.conditions.as_slice(), conditions)
+        && are_effects(operator.effects.as_slice(), effects)
 }
 
-/// The variables, the state, the goal, and how many groups and rules there are.
-fn show_frame(shown: &mut String, task: &SasTask) -> fmt::Result {
-    for i in 0..task.variables() {
-        show_variable(shown, task.variable(i))?;
-        write!(shown, " at {}; ", task.state(i))?;
-    }
-    show_pairs(shown, task.goal())?;
-    write!(
-        shown,
-        "; {} {} {}",
-        task.groups(),
-        task.rules(),
-        task.metric()
-    )?;
-    Ok(())
+fn has_operator(task: &SasTask, i: u64, wanted: &Wanted<'_>) -> bool {
+    i < task.operators() && is_operator(task.operator(i), wanted)
 }
 
-/// The operator, as `name: conditions -> effects at cost; `.
-fn show_operator(shown: &mut String, operator: &Operator) -> fmt::Result {
-    show_text(shown, &operator.name)?;
-    shown.push_str(":")?;
-    show_pairs(shown, operator.conditions.as_slice())?;
-    shown.push_str(" ->")?;
-    for effect in operator.effects.as_slice() {
-        show_pairs(shown, effect.conditions.as_slice())?;
-        write!(shown, " {}:={}", effect.var, effect.after)?;
-    }
-    write!(shown, " at {}; ", operator.cost)?;
-    Ok(())
-}
-
-fn show_operators(shown: &mut String, task: &SasTask) -> fmt::Result {
-    for i in 0..task.operators() {
-        show_operator(shown, task.operator(i))?;
-    }
-    Ok(())
-}
-
-/// Asserts that the operators of the switch task with these actions are shown so.
-fn assert_operators(rt: &impl Abort, alloc: Global, rows: &[Row<'_>], wanted: &str) -> fmt::Result {
-    let task = encoded(rt, alloc, rows)?;
-    let mut shown = String::new(alloc);
-    show_operators(&mut shown, &task)?;
-    assert!(rt; shown.as_str() == wanted, "{shown}");
-    Ok(())
-}
-
-#[test]
-fn variables_state_and_goal(rt: HostRuntime) -> fmt::Result {
-    let task = encoded(&rt, rt.alloc(), &[])?;
-    let mut shown = String::new(rt.alloc());
-    show_frame(&mut shown, &task)?;
-    let wanted =
-        "Atom on()|NegatedAtom on()| at 1; Atom off()|NegatedAtom off()| at 0;  0=0; 0 0 false";
-    assert!(rt; shown.as_str() == wanted, "{shown}");
-    Ok(())
-}
-
-static REPEATED: [Row<'static>; 2] = [
-    (b"flip", &[1], &[0], &[1]),
+/// Repeated atoms, names out of order, actions that change nothing, and an atom that is added and deleted.
+static ACTIONS: [Row<'static>; 6] = [
     (b"flop", &[1, 1], &[0, 0], &[1, 1, 1]),
-];
-
-#[test]
-fn repeated_atoms_count_once(rt: HostRuntime) -> fmt::Result {
-    let wanted = "flip: 1=0 -> 0:=0 1:=1 at 1; flop: 1=0 -> 0:=0 1:=1 at 1; ";
-    assert_operators(&rt, rt.alloc(), &REPEATED, wanted)
-}
-
-static UNORDERED: [Row<'static>; 4] = [
-    (b"b", &[], &[1], &[]),
     (b"a b", &[], &[0], &[]),
-    (b"a", &[], &[0], &[]),
-    (b"B", &[], &[0], &[]),
-];
-
-#[test]
-fn operators_stand_by_name(rt: HostRuntime) -> fmt::Result {
-    let wanted = "B: -> 0:=0 at 1; a: -> 0:=0 at 1; a b: -> 0:=0 at 1; b: -> 1:=0 at 1; ";
-    assert_operators(&rt, rt.alloc(), &UNORDERED, wanted)
-}
-
-static IDLE: [Row<'static>; 3] = [
     (b"wait", &[0], &[], &[]),
     (b"keep", &[0, 1], &[0], &[0]),
     (b"both", &[0, 1], &[0], &[1, 0]),
+    (b"B", &[], &[1], &[1]),
+];
+
+static OPERATORS: [Wanted<'static>; 4] = [
+    (b"B", &[], &[(1, 0)]),
+    (b"a b", &[], &[(0, 0)]),
+    (b"both", &[0, 1], &[(1, 1)]),
+    (b"flop", &[1], &[(0, 0), (1, 1)]),
 ];
 
 #[test]
-fn what_changes_nothing_is_left_out(rt: HostRuntime) -> fmt::Result {
-    assert_operators(&rt, rt.alloc(), &IDLE, "both: 0=0 1=0 -> 1:=1 at 1; ")
+fn operators_stand_by_name_without_repeats_and_idle_ones(
+    rt: HostRuntime,
+) -> Result<(), AllocError> {
+    let task = encoded(&rt, rt.alloc(), &ACTIONS)?;
+    assert_eq!(rt; task.operators(), 4);
+    for (i, wanted) in (0..4).zip(&OPERATORS) {
+        assert!(rt; has_operator(&task, i, wanted), "{i}");
+    }
+    Ok(())
 }

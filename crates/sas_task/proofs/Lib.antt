@@ -1,7 +1,9 @@
 pub mod Members
-pub mod Successors
-pub mod States
 pub mod Completion
-pub mod KeepsLaws
-pub mod Checks
-pub mod Steps
+pub mod Successors
+mod States
+mod KeepsLaws
+mod Checks
+mod Steps
+mod Tells
+mod TextsTellTasks

@@ -2,7 +2,7 @@
 
 ghost use Rattle.std.specs.Prelude.{◌≡◌, ◌<◌, Some, length, slice_get, slice_index};
 ghost use Rattle.sas_task.specs.Task.{Task};
-ghost use Rattle.sas_task.specs.Valid.{IsValid};
+ghost use Rattle.sas_task.specs.Valid.{IsValid, IsValidOperator};
 
 use crate::parts::{Group, Operator, Pair, Rule, Variable};
 use lists::List;
@@ -153,7 +153,8 @@ impl SasTask {
     /// The operator at this place.
     pub fn operator(&self, i: u64) -> &Operator
         requires { i < length self.now.operators }
-        ensures { slice_get self.now.operators i ≡ Some result.now }
+        ensures value { slice_get self.now.operators i ≡ Some result.now }
+        ensures valid { IsValidOperator self.now result.now }
     {
         &self.operators.as_slice()[i as usize]
     }
@@ -163,6 +164,13 @@ impl SasTask {
         ensures { result ≡ length self.now.rules }
     {
         self.rules.as_slice().len() as u64
+    }
+
+    /// The rules, in order.
+    pub(crate) fn rule_slice(&self) -> &[Rule]
+        ensures { result.now ≡ self.now.rules }
+    {
+        self.rules.as_slice()
     }
 
     /// The rule at this place.

@@ -1,50 +1,15 @@
-//! Tasks that are made of parts, read back, and steps of them that are worked by hand.
+//! Steps of a task that are worked by hand.
 
 ghost use Rattle.std.specs.Prelude.{◌≡◌, ◌<◌, length};
 ghost use Rattle.sas_task.specs.Examples.{room};
 
-use sas_task::{Pair, SasTask, examples, plain_step};
+use sas_task::{SasTask, examples, plain_step};
 use std::alloc::{AllocError, Global};
 use std::test::*;
 
 /// The room, without what is known of it, so that the proof of a test doesn't carry it.
 fn room(alloc: Global) -> Result<SasTask, AllocError> {
     examples::room(alloc)
-}
-
-fn has_the_variables(task: &SasTask) -> bool {
-    task.metric()
-        && task.variables() == 4
-        && task.variable(3).layer == Some(1)
-        && task.state(0) == 0
-        && task.state(3) == 1
-        && task.goal() == [Pair { var: 3, val: 0 }].as_slice()
-}
-
-fn has_the_group(task: &SasTask) -> bool {
-    let facts = [Pair { var: 0, val: 0 }, Pair { var: 0, val: 1 }];
-    task.groups() == 1 && task.group(0).facts.as_slice() == facts.as_slice()
-}
-
-fn has_the_operators(task: &SasTask) -> bool {
-    task.operators() == 3
-        && task.operator(0).name.as_slice() == b"enter room".as_slice()
-        && task.operator(2).cost == 10
-}
-
-fn has_the_rules(task: &SasTask) -> bool {
-    let conditions = [Pair { var: 2, val: 0 }];
-    task.rules() == 2 && task.rule(1).conditions.as_slice() == conditions.as_slice()
-}
-
-#[test]
-fn parts_are_read_back(rt: HostRuntime) -> Result<(), Fail> {
-    let task = room(rt.alloc())?;
-    assert!(rt; has_the_variables(&task));
-    assert!(rt; has_the_group(&task));
-    assert!(rt; has_the_operators(&task));
-    assert!(rt; has_the_rules(&task));
-    Ok(())
 }
 
 /// Whether these are the values in the state.
@@ -75,7 +40,6 @@ fn successor(
     requires operator { i < length task.now.operators }
     requires state { length state.now ≡ length task.now.variables }
 {
-    let _valid = task.metric();
     plain_step::successor(alloc, task, state, task.operator(i))
 }
 

@@ -1,12 +1,19 @@
 -- Pieces of lines, appended one after another.
-use Rattle.std.proofs.Common.{◌≡◌, ℕ, ◌+◌, ◌<◌, List, [], ◌∷◌, ◌++◌, length, get_or, take, Some, sym, ap, ◌∙◌, subst, append_assoc, append-nil, arith}
+use Rattle.std.proofs.Common.{◌≡◌, ℕ, zero, suc, ◌+◌, ◌^◌, ◌<◌, List, [], ◌∷◌, ◌++◌, length, get_or, take, Some, sym, ap, ◌∙◌, subst, append_assoc, append-nil, arith}
 use Rattle.std.specs.List.{flat_map, slice_get, enumerate_from}
 use Rattle.std.proofs.lemmas.List.{take_more}
 use Rattle.std.proofs.lemmas.List.Concat.{flat_map-append}
 use Rattle.std.proofs.lemmas.List.FromFn.{length-enumerate_from, get_or-enumerate_from}
 use Rattle.std.proofs.lemmas.Option.{slice_get_within, slice_get-get_or, get_or_from_slice_get}
 use Rattle.sas_task.specs.declared.parts.Variable.{Variable}
-use Rattle.sas_task.specs.Output.{Line, bytes_of, spaced}
+use Rattle.std.proofs.lemmas.Fmt.{decimal-digits_of, decimal_digit}
+use Rattle.std.specs.Fmt.{decimal}
+use Rattle.sas_task.specs.Output.{Line, bytes_of, numeral, spaced}
+
+-- what a number below 2^64 is printed as
+pub printed : (n : ℕ) → n < 2 ^ 64 → decimal n ≡ numeral n
+printed zero small = decimal_digit 0 (omega arith)
+printed (suc n) small = decimal-digits_of (suc n) (omega arith) small
 
 -- lines after lines
 pub then_lines : (a b : List Line) (out out1 out2 : List ℕ) → out1 ≡ out ++ bytes_of a → out2 ≡ out1 ++ bytes_of b → out2 ≡ out ++ bytes_of (a ++ b)

@@ -1,8 +1,8 @@
 //! The lines that every section is made of. Each function appends what its clause says.
 
-ghost use Rattle.std.specs.Prelude.{◌≡◌, ◌++◌, [], ◌∷◌, Option, decimal, OnOk};
+ghost use Rattle.std.specs.Prelude.{◌≡◌, ◌++◌, [], ◌∷◌, Option, OnOk};
 ghost use Rattle.std.specs.List.{flat_map};
-ghost use Rattle.sas_task.specs.Output.{bytes_of, counted, pair_lines, pair_words, number_or_none};
+ghost use Rattle.sas_task.specs.Output.{bytes_of, counted, pair_lines, pair_words, number_or_none, numeral};
 
 use itoa::Buffer;
 use sas_task::Pair;
@@ -18,8 +18,9 @@ pub fn push_line(out: &mut Vec<u8>, line: &[u8]) -> Result<(), AllocError>
 }
 
 /// A number in decimal, with no line feed.
+#[tactic(auto, using(crate::proofs::Pieces::printed))]
 pub fn push_number(out: &mut Vec<u8>, number: u64) -> Result<(), AllocError>
-    ensures { OnOk result (out.new.items ≡ out.old.items ++ decimal number) }
+    ensures { OnOk result (out.new.items ≡ out.old.items ++ numeral number) }
 {
     let mut buffer = Buffer::new();
     out.extend_from_slice(buffer.format(number).as_bytes())
@@ -27,7 +28,7 @@ pub fn push_number(out: &mut Vec<u8>, number: u64) -> Result<(), AllocError>
 
 /// A line with a number.
 pub fn push_number_line(out: &mut Vec<u8>, number: u64) -> Result<(), AllocError>
-    ensures { OnOk result (out.new.items ≡ out.old.items ++ bytes_of (decimal number ∷ [])) }
+    ensures { OnOk result (out.new.items ≡ out.old.items ++ bytes_of (numeral number ∷ [])) }
 {
     push_number(out, number)?;
     out.push(b'\n')?;
@@ -63,7 +64,7 @@ pub fn push_next_number_or_none(out: &mut Vec<u8>, number: Option<u64>) -> Resul
 
 /// A space and a number.
 pub fn push_next_number(out: &mut Vec<u8>, number: u64) -> Result<(), AllocError>
-    ensures { OnOk result (out.new.items ≡ out.old.items ++ 32 ∷ decimal number) }
+    ensures { OnOk result (out.new.items ≡ out.old.items ++ 32 ∷ numeral number) }
 {
     out.push(b' ')?;
     push_number(out, number)

@@ -1,10 +1,9 @@
 //! The section of the operators.
 
-ghost use Rattle.std.specs.Prelude.{◌≡◌, ◌==◌, ◌++◌, [], ◌∷◌, ℕ, length, map, filter, not, find, All, IfOk, OnOk};
+ghost use Rattle.std.specs.Prelude.{◌≡◌, ◌==◌, ◌++◌, [], ◌∷◌, ℕ, length, map, filter, not, find, IfOk, OnOk};
 ghost use Rattle.std.specs.List.{list_any};
 ghost use Rattle.std.specs.List.Sorted.{IsNonDecreasing, IsStrictlyIncreasing};
 ghost use Rattle.std.specs.Option.{option_map};
-ghost use Rattle.sas_task.specs.Valid.{IsValidOperator};
 ghost use Rattle.sas_task.specs.Output.{bytes_of, counted, effect_line, operator_lines, prevail, required_value};
 
 use crate::lines::{
@@ -113,7 +112,6 @@ fn push_operator(alloc: Global, out: &mut Vec<u8>, operator: &Operator) -> Resul
 
 /// The number of operators, and then the lines of each.
 pub fn push_operators(alloc: Global, out: &mut Vec<u8>, task: &SasTask) -> Result<(), AllocError>
-    requires { All (IsValidOperator task.now) task.now.operators }
     ensures { OnOk result (out.new.items ≡ out.old.items ++ bytes_of (counted operator_lines task.now.operators)) }
 {
     let count = task.operators();

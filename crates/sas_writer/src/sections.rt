@@ -1,8 +1,8 @@
 //! The sections of the version, the metric, the variables, the mutex groups, the state, the goal and the rules.
 
-ghost use Rattle.std.specs.Prelude.{◌≡◌, ◌++◌, [], ◌∷◌, codes, decimal, length, OnOk};
+ghost use Rattle.std.specs.Prelude.{◌≡◌, ◌++◌, [], ◌∷◌, codes, length, OnOk};
 ghost use Rattle.std.specs.List.{enumerate_from};
-ghost use Rattle.sas_task.specs.Output.{bytes_of, counted, version_lines, metric_lines, variable_lines, group_lines, state_lines, goal_lines, rule_line, rule_lines};
+ghost use Rattle.sas_task.specs.Output.{bytes_of, counted, version_lines, metric_lines, variable_lines, group_lines, state_lines, goal_lines, rule_line, rule_lines, numeral};
 
 use crate::lines::{
     push_line, push_next_number, push_number, push_number_line, push_number_or_none_line,
@@ -40,7 +40,7 @@ fn push_facts(out: &mut Vec<u8>, facts: &[Text]) -> Result<(), AllocError>
 
 /// The line of a variable's name, which is made of its number.
 fn push_name_line(out: &mut Vec<u8>, number: u64) -> Result<(), AllocError>
-    ensures { OnOk result (out.new.items ≡ out.old.items ++ bytes_of ((codes "var" ++ decimal number) ∷ [])) }
+    ensures { OnOk result (out.new.items ≡ out.old.items ++ bytes_of ((codes "var" ++ numeral number) ∷ [])) }
 {
     out.extend_from_slice(b"var")?;
     push_number_line(out, number)

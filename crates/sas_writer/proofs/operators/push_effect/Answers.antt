@@ -1,9 +1,8 @@
 use Rattle.std.proofs.Common.{ℕ, ◌==◌, List, ◌++◌, ◌∷◌, Option, length, ap, ◌∙◌}
 use Rattle.std.specs.List.{flat_map, find}
 use Rattle.std.specs.Option.{option_map}
-use Rattle.std.specs.Fmt.{decimal}
 use Rattle.sas_task.specs.declared.parts.Pair.{Pair}
-use Rattle.sas_task.specs.Output.{number_or_none, pair_words, required_value}
+use Rattle.sas_task.specs.Output.{number_or_none, pair_words, required_value, numeral}
 use Rattle.sas_writer.proofs.Pieces.{effect_pieces, after_spaces}
 use Rattle.sas_writer.proofs.operators.push_effect.Goals as goal
 
@@ -17,9 +16,9 @@ returns c =
     let e = c.args.effect.now in
     let conditions = c.as_slice-conditions.ensures in
     let required = c.value_in.ensures ∙ ap (λ ps. required_in ps e.var) c.as_slice.ensures in
-    effect_pieces (decimal (length e.conditions)) (decimal e.var) (number_or_none (required_value c.args.operator.now e.var)) (decimal e.after) (flat_map pair_words e.conditions)
+    effect_pieces (numeral (length e.conditions)) (numeral e.var) (number_or_none (required_value c.args.operator.now e.var)) (numeral e.after) (flat_map pair_words e.conditions)
     c.args.out.now.items c.push_number.new.out.items c.push_next_pairs.new.out.items c.push_next_number.new.out.items c.push_next_number_or_none.new.out.items c.push_next_number-2.new.out.items c.push.new.self.items
-    (c.in_ok-push_number.ensures ∙ ap (λ ps. c.args.out.now.items ++ decimal (length ps)) conditions)
+    (c.in_ok-push_number.ensures ∙ ap (λ ps. c.args.out.now.items ++ numeral (length ps)) conditions)
     (c.in_ok-push_next_pairs.ensures ∙ ap (λ ps. c.push_number.new.out.items ++ after_spaces (flat_map pair_words ps)) conditions)
     c.in_ok-push_next_number.ensures
     (c.in_ok-push_next_number_or_none.ensures ∙ ap (λ n. c.push_next_number.new.out.items ++ 32 ∷ number_or_none n) required)

@@ -1,8 +1,7 @@
 use Rattle.std.proofs.Common.{[], ◌∷◌, ◌++◌, ap, ◌∙◌}
-use Rattle.std.specs.Fmt.{decimal}
 use Rattle.std.specs.Prelude.{codes}
 use Rattle.std.proofs.lemmas.Result.{on_ok_weaker}
-use Rattle.sas_task.specs.Output.{bytes_of, counted, effect_line, pair_lines, prevail}
+use Rattle.sas_task.specs.Output.{bytes_of, counted, effect_line, pair_lines, prevail, numeral}
 use Rattle.sas_writer.proofs.Pieces.{then_lines}
 use Rattle.sas_writer.proofs.operators.push_operator.Goals as goal
 
@@ -14,7 +13,7 @@ returns c =
     let name = o.name ∷ [] in
     let pairs = counted pair_lines (prevail o) in
     let effects = counted (λ e. effect_line o e ∷ []) o.effects in
-    let cost = decimal o.cost ∷ [] in
+    let cost = numeral o.cost ∷ [] in
     let named = then_lines begins name out c.push_line.new.out.items c.push_line-2.new.out.items c.in_ok-push_line.ensures
     (c.in_ok-push_line-2.ensures ∙ ap (λ n. c.push_line.new.out.items ++ bytes_of (n ∷ [])) c.as_slice.ensures) in
     let paired = then_lines (begins ++ name) pairs out c.push_line-2.new.out.items c.push_pairs.new.out.items named

@@ -1,9 +1,8 @@
-use Rattle.std.proofs.Common.{◌≡◌, ◌≤◌, [], ◌∷◌, ◌++◌, length, map, take, ap, ◌∙◌, arith}
-use Rattle.std.specs.Fmt.{decimal}
+use Rattle.std.proofs.Common.{◌≤◌, [], ◌∷◌, ◌++◌, length, map, ap, ◌∙◌, arith}
 use Rattle.std.specs.Prelude.{codes}
 use Rattle.std.proofs.lemmas.List.{take_all}
 use Rattle.std.proofs.lemmas.Result.{on_ok_weaker}
-use Rattle.sas_task.specs.Output.{bytes_of}
+use Rattle.sas_task.specs.Output.{bytes_of, numeral}
 use Rattle.sas_writer.proofs.Pieces.{then_lines}
 use Rattle.sas_writer.proofs.sections.push_state.Goals as goal
 
@@ -13,6 +12,6 @@ returns c =
     let out = c.args.out.now.items in
     let begins = codes "begin_state" ∷ [] in
     let done : length state ≤ c.loop-i.i = omega (arith, c.requires) in
-    let valued = then_lines begins (map decimal state) out c.push_line.new.out.items c.loop-i.out.items c.in_ok-push_line.ensures
-    (c.loop-i.invariant ∙ ap (λ s. c.push_line.new.out.items ++ bytes_of (map decimal s)) (take_all c.loop-i.i state done)) in
-    on_ok_weaker c.push_line-2.result (λ last. then_lines (begins ++ map decimal state) (codes "end_state" ∷ []) out c.loop-i.out.items c.push_line-2.new.out.items valued last) c.push_line-2.ensures
+    let valued = then_lines begins (map numeral state) out c.push_line.new.out.items c.loop-i.out.items c.in_ok-push_line.ensures
+    (c.loop-i.invariant ∙ ap (λ s. c.push_line.new.out.items ++ bytes_of (map numeral s)) (take_all c.loop-i.i state done)) in
+    on_ok_weaker c.push_line-2.result (λ last. then_lines (begins ++ map numeral state) (codes "end_state" ∷ []) out c.loop-i.out.items c.push_line-2.new.out.items valued last) c.push_line-2.ensures

@@ -1,8 +1,7 @@
 use Rattle.std.proofs.Common.{[], ◌∷◌, ◌++◌, ap, ◌∙◌}
-use Rattle.std.specs.Fmt.{decimal}
 use Rattle.std.specs.Prelude.{codes}
 use Rattle.std.proofs.lemmas.Result.{on_ok_weaker}
-use Rattle.sas_task.specs.Output.{bytes_of, counted, number_or_none}
+use Rattle.sas_task.specs.Output.{bytes_of, counted, number_or_none, numeral}
 use Rattle.sas_writer.proofs.Pieces.{then_lines}
 use Rattle.sas_writer.proofs.sections.push_variable.Goals as goal
 
@@ -10,7 +9,7 @@ pub returns : goal.returns
 returns c =
     let out = c.args.out.now.items in
     let begins = codes "begin_variable" ∷ [] in
-    let name = (codes "var" ++ decimal c.args.number) ∷ [] in
+    let name = (codes "var" ++ numeral c.args.number) ∷ [] in
     let layer = number_or_none c.args.variable.now.layer ∷ [] in
     let facts = counted (λ fact. fact ∷ []) c.args.variable.now.facts in
     let named = then_lines begins name out c.push_line.new.out.items c.push_name_line.new.out.items c.in_ok-push_line.ensures c.in_ok-push_name_line.ensures in
