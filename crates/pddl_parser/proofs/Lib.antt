@@ -9,8 +9,7 @@ pub mod NestedEffects
 pub mod Keys
 pub mod Heads
 pub mod Initials
-pub mod Domains
-pub mod Problems
+pub mod Sections
 pub mod ConditionCases
 pub mod EffectCases
 pub mod SameAtoms
