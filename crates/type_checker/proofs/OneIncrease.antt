@@ -14,8 +14,8 @@ use Rattle.pddl_parser.specs.Step as step
 use Rattle.pddl_parser.specs.Words.{is_same}
 use Rattle.pddl_parser.proofs.ConditionCases.{Each}
 use Rattle.planning.proofs.Items.{Among, all_passes, each_passes, among_left, among_right}
-use Rattle.type_checker.specs.declared.increases.Depth.{Depth}
-use Rattle.type_checker.specs.declared.increases.Depth.TheVariants.{Outermost, Inner}
+use Rattle.type_checker.specs.Increases.{Depth}
+use Rattle.type_checker.specs.Increases.{Outermost, Inner}
 use Rattle.type_checker.specs.Faultless.{has_function, is_known, has_objects, is_one_cost}
 use Rattle.type_checker.specs.Faults.{check_faults}
 use Rattle.type_checker.specs.Increases.{Increase, total_cost, joined_depth, may_stand, is_proper, is_total_cost_term, increases_step, increases, ill_formed}
