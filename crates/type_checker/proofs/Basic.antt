@@ -1,0 +1,22 @@
+-- In a pair without check faults no derived predicate is written, neither by an effect nor by `:init`.
+use Rattle.std.proofs.Common.{◌≡◌, true, not, List, [], inl, inr, refl}
+use Rattle.std.specs.List.{list_all, flat_map}
+use Rattle.pddl_parser.specs.declared.types.Domain.{Domain}
+use Rattle.pddl_parser.specs.declared.types.Problem.{Problem}
+use Rattle.pddl_parser.specs.Holds.{is_derived}
+use Rattle.type_checker.specs.Faultless.{mentions, is_basic}
+use Rattle.type_checker.specs.Faults.{check_faults}
+use Rattle.type_checker.specs.Mentions.{Mention, written_predicates, in_domain, in_problem}
+use Rattle.type_checker.specs.Names.{written_derived}
+use Rattle.type_checker.specs.Rows.{written_row}
+use Rattle.type_checker.proofs.NoFaults.{row_empty, none_pass, all_pieces, all_of_both}
+
+module _ (domain : Domain) (problem : Problem) where
+  basic : (list : List Mention) → written_derived domain list ≡ [] → list_all (is_basic domain) list ≡ true
+  basic list none =
+      all_pieces (λ name. not (is_derived domain name.name)) written_predicates list (none_pass (λ name. is_derived domain name.name) (λ name. name.line) (flat_map written_predicates list) none)
+
+  pub written_basic : check_faults domain problem ≡ [] → list_all (is_basic domain) (mentions domain problem) ≡ true
+  written_basic none =
+      let lines = row_empty domain problem none (written_row domain problem) (inr (inr (inr (inr (inr (inr (inr (inr (inl refl))))))))) in
+      all_of_both (is_basic domain) (in_domain domain) (in_problem problem) (basic (in_domain domain) lines.0) (basic (in_problem problem) lines.1)

@@ -1,0 +1,110 @@
+-- In a pair without check faults what is mentioned is declared, with as many arguments, and names objects.
+use Rattle.std.proofs.Common.{◌≡◌, ℕ, Bool, true, false, not, ◌&&◌, ◌||◌, List, [], ◌∷◌, ◌++◌, map, length, nat_eq, inl, inr, ◌⊎◌, refl, ap, ◌∙◌}
+use Rattle.std.specs.Prelude.{if◌then◌else◌}
+use Rattle.std.specs.List.{list_all, list_any, filter, flat_map}
+use Rattle.std.proofs.lemmas.Bool.{and_parts, and_from, or_cases, or_left, or_right}
+use Rattle.std.proofs.lemmas.Cmp.{nat_list_eq_equiv}
+use Rattle.pddl_parser.specs.declared.types.Domain.{Domain}
+use Rattle.pddl_parser.specs.declared.types.Head.{Head}
+use Rattle.pddl_parser.specs.declared.types.Problem.{Problem}
+use Rattle.pddl_parser.specs.declared.types.Term.{Term}
+use Rattle.pddl_parser.specs.declared.types.Term.TheVariants.{Variable, Object}
+use Rattle.pddl_parser.specs.declared.types.Typed.{Typed}
+use Rattle.pddl_parser.specs.Words.{Name, is_same}
+use Rattle.type_checker.specs.Faultless.{mentions, has_predicate, has_function, is_known, has_objects}
+use Rattle.type_checker.specs.Faults.{check_faults}
+use Rattle.type_checker.specs.Increases.{total_cost}
+use Rattle.type_checker.specs.Mentions.{Mention, Use, predicate_uses, function_uses, arguments, in_domain, in_problem}
+use Rattle.type_checker.specs.Names.{has_arity, is_declared, is_function, is_well_used, use_lines, total_cost_heads, wrong_uses, unknown_object, unknown_objects}
+use Rattle.type_checker.specs.Rows.{arities_row, unknown_objects_row}
+use Rattle.type_checker.proofs.NoFaults.{left_empty, right_empty, row_empty, all_pass, all_pieces, all_of_both}
+
+-- ---- predicates and functions
+
+uses_pass : (test : Use → Bool) (given : Mention → List Use) (list : List Mention) → use_lines (filter (λ usage. not (test usage)) (flat_map given list)) ≡ [] → list_all (λ mention. list_all test (given mention)) list ≡ true
+uses_pass test given list none = all_pieces test given list (all_pass test (λ usage. usage.name.line) (flat_map given list) none)
+
+module _ (domain : Domain) where
+  abbrev wrong_predicates : List Mention → List ℕ
+  wrong_predicates list = use_lines (filter (λ usage. not (has_arity domain.predicates usage)) (flat_map predicate_uses list))
+
+  abbrev wrong_functions : List Mention → List ℕ
+  wrong_functions list = use_lines (filter (λ usage. not (is_well_used domain usage)) (flat_map function_uses list))
+
+  predicates_pass : (list : List Mention) → wrong_uses domain list ≡ [] → list_all (has_predicate domain) list ≡ true
+  predicates_pass list none = uses_pass (has_arity domain.predicates) predicate_uses list (left_empty (wrong_predicates list) (wrong_functions list) none)
+
+  functions_pass : (list : List Mention) → wrong_uses domain list ≡ [] → list_all (has_function domain) list ≡ true
+  functions_pass list none = uses_pass (is_well_used domain) function_uses list (right_empty (wrong_predicates list) (wrong_functions list) none)
+
+-- ---- objects
+
+module _ (domain : Domain) (problem : Problem) where
+  terms_pass : (terms : List Term) → flat_map (unknown_object domain problem) terms ≡ [] → list_all (is_known domain problem) terms ≡ true
+  terms_pass [] none = refl
+  terms_pass (Variable variable ∷ terms) none = terms_pass terms none
+  terms_pass (Object object ∷ terms) none = by (is_known domain problem (Object object)) refl none (terms_pass terms)
+    where
+      by : (known : Bool) → is_known domain problem (Object object) ≡ known → (if known then [] else object.line ∷ []) ++ flat_map (unknown_object domain problem) terms ≡ [] →
+          (flat_map (unknown_object domain problem) terms ≡ [] → list_all (is_known domain problem) terms ≡ true) → (is_known domain problem (Object object) && list_all (is_known domain problem) terms) ≡ true
+      by true here none rest = and_from (is_known domain problem (Object object)) (list_all (is_known domain problem) terms) here (rest none)
+      by false here none rest = absurd cc
+
+  objects_pass : (list : List Mention) → unknown_objects domain problem list ≡ [] → list_all (has_objects domain problem) list ≡ true
+  objects_pass list none = all_pieces (is_known domain problem) arguments list (terms_pass (flat_map arguments list) none)
+
+  -- ---- of both files
+
+  module _ (none : check_faults domain problem ≡ []) where
+    arities : (wrong_uses domain (in_domain domain) ≡ []) × (wrong_uses domain (in_problem problem) ≡ [])
+    arities =
+        let lines = row_empty domain problem none (arities_row domain problem) (inr (inr (inr (inr (inr (inl refl)))))) in
+        (right_empty (total_cost_heads domain) (wrong_uses domain (in_domain domain)) lines.0, lines.1)
+
+    pub predicates_declared : list_all (has_predicate domain) (mentions domain problem) ≡ true
+    predicates_declared = all_of_both (has_predicate domain) (in_domain domain) (in_problem problem) (predicates_pass domain (in_domain domain) arities.0) (predicates_pass domain (in_problem problem) arities.1)
+
+    pub functions_declared : list_all (has_function domain) (mentions domain problem) ≡ true
+    functions_declared = all_of_both (has_function domain) (in_domain domain) (in_problem problem) (functions_pass domain (in_domain domain) arities.0) (functions_pass domain (in_problem problem) arities.1)
+
+    pub objects_known : list_all (has_objects domain problem) (mentions domain problem) ≡ true
+    objects_known =
+        let lines = row_empty domain problem none (unknown_objects_row domain problem) (inr (inr (inr (inr (inr (inr (inl refl))))))) in
+        all_of_both (has_objects domain problem) (in_domain domain) (in_problem problem) (objects_pass (in_domain domain) lines.0) (objects_pass (in_problem problem) lines.1)
+
+-- ---- the same in other words
+
+-- what is declared with so many arguments is declared
+pub declared_with_arity : (heads : List Head) (usage : Use) → has_arity heads usage ≡ true → is_declared heads usage.name.name ≡ true
+declared_with_arity [] usage some = some
+declared_with_arity (head ∷ heads) usage some =
+    by (or_cases (is_same head.name.name usage.name.name && nat_eq (length head.variables) usage.arity) (has_arity heads usage) some) (declared_with_arity heads usage)
+  where
+    by : ((is_same head.name.name usage.name.name && nat_eq (length head.variables) usage.arity) ≡ true) ⊎ (has_arity heads usage ≡ true) → (has_arity heads usage ≡ true → is_declared heads usage.name.name ≡ true) → (is_same head.name.name usage.name.name || is_declared heads usage.name.name) ≡ true
+    by (inl here) rest = or_left (is_same head.name.name usage.name.name) (is_declared heads usage.name.name) (and_parts (is_same head.name.name usage.name.name) (nat_eq (length head.variables) usage.arity) here).0
+    by (inr there) rest = or_right (is_same head.name.name usage.name.name) (is_declared heads usage.name.name) (rest there)
+
+-- a function that is well used is declared, or is the total cost
+pub function_with_arity : (domain : Domain) (usage : Use) → is_well_used domain usage ≡ true → is_function domain usage.name.name ≡ true
+function_with_arity domain usage used = by (or_cases (has_arity domain.functions usage) undeclared used)
+  where
+    undeclared : Bool
+    undeclared = is_same usage.name.name total_cost && not (is_declared domain.functions total_cost) && nat_eq usage.arity 0
+
+    by : (has_arity domain.functions usage ≡ true) ⊎ (undeclared ≡ true) → (is_declared domain.functions usage.name.name || is_same usage.name.name total_cost) ≡ true
+    by (inl declared) = or_left (is_declared domain.functions usage.name.name) (is_same usage.name.name total_cost) (declared_with_arity domain.functions usage declared)
+    by (inr total) =
+        or_right (is_declared domain.functions usage.name.name) (is_same usage.name.name total_cost)
+        (and_parts (is_same usage.name.name total_cost) (not (is_declared domain.functions total_cost)) (and_parts (is_same usage.name.name total_cost && not (is_declared domain.functions total_cost)) (nat_eq usage.arity 0) total).0).0
+
+-- one of the heads has the name
+pub declared_among : (heads : List Head) (name : Name) → is_declared heads name ≡ list_any (is_same name) (map (λ head. head.name.name) heads)
+declared_among [] name = refl
+declared_among (head ∷ heads) name =
+    ap (λ b. b || is_declared heads name) (nat_list_eq_equiv.symm head.name.name name) ∙ ap (λ b. is_same name head.name.name || b) (declared_among heads name)
+
+-- one of the objects has the name
+pub object_among : (list : List Typed) (name : Name) → list_any (λ known. is_same known.name.name name) list ≡ list_any (is_same name) (map (λ object. object.name.name) list)
+object_among [] name = refl
+object_among (object ∷ list) name =
+    ap (λ b. b || list_any (λ (known : Typed). is_same known.name.name name) list) (nat_list_eq_equiv.symm object.name.name name) ∙ ap (λ b. is_same name object.name.name || b) (object_among list name)

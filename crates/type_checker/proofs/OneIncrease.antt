@@ -1,0 +1,224 @@
+-- In a pair without check faults an action has at most one increase. It is outermost, and a term that it names is a declared function, other than the total cost, of objects and bound variables.
+use Rattle.std.proofs.Common.{◌≡◌, ℕ, ◌+◌, Bool, true, false, not, ◌&&◌, List, [], ◌∷◌, ◌++◌, map, length, nat_eq, inl, inr, ◌⊎◌, refl, sym, ap, ◌∙◌, subst, arith}
+use Rattle.std.specs.Prelude.{nat_le, if◌then◌else◌}
+use Rattle.std.specs.List.{list_all, flat_map}
+use Rattle.std.proofs.lemmas.Bool.{and_parts, and_from, or_cases}
+use Rattle.pddl_parser.specs.declared.types.Action.{Action}
+use Rattle.pddl_parser.specs.declared.types.Atom.{Atom}
+use Rattle.pddl_parser.specs.declared.types.Cost.{Cost}
+use Rattle.pddl_parser.specs.declared.types.Cost.TheVariants.{Number, Term}
+use Rattle.pddl_parser.specs.declared.types.Domain.{Domain}
+use Rattle.pddl_parser.specs.declared.types.Effect.{Effect, Effect-F}
+use Rattle.pddl_parser.specs.declared.types.Problem.{Problem}
+use Rattle.pddl_parser.specs.Step as step
+use Rattle.pddl_parser.specs.Words.{is_same}
+use Rattle.pddl_parser.proofs.ConditionCases.{Each}
+use Rattle.planning.proofs.Items.{Among, all_passes, each_passes, among_left, among_right}
+use Rattle.type_checker.specs.Increases.{Depth}
+use Rattle.type_checker.specs.Increases.{Outermost, Inner}
+use Rattle.type_checker.specs.Faultless.{has_function, is_known, has_objects, is_one_cost}
+use Rattle.type_checker.specs.Faults.{check_faults}
+use Rattle.type_checker.specs.Increases.{Increase, total_cost, joined_depth, may_stand, is_proper, is_total_cost_term, increases_step, increases, ill_formed}
+use Rattle.type_checker.specs.Mentions.{Mention, Variables, Function, use_of, in_condition, in_effect, in_action, effect_step}
+use Rattle.type_checker.specs.Names.{has_arity, is_declared, is_well_used}
+use Rattle.type_checker.specs.Rows.{increases_row}
+use Rattle.type_checker.specs.Scopes as scopes
+use Rattle.type_checker.specs.Scopes.{Scope, inside_of}
+use Rattle.type_checker.proofs.Bound.{action_bound}
+use Rattle.type_checker.proofs.Declared.{functions_declared, objects_known}
+use Rattle.type_checker.proofs.EachPart.{in_each_action}
+use Rattle.type_checker.proofs.EffectFolds.{by_folds}
+use Rattle.type_checker.proofs.NoFaults.{left_empty, right_empty, piece_empty, row_empty}
+
+nowhere : false ≡ true → ⊥
+nowhere e = cc
+
+-- ---- the form of an effect's increases
+
+one_cost : (list : List Increase) → ill_formed list ≡ [] → is_one_cost list ≡ true
+one_cost [] none = refl
+one_cost (increase ∷ []) none = by increase.is_formed none
+  where
+    by : (formed : Bool) → ((if formed then [] else increase.line ∷ []) ++ []) ≡ [] → formed ≡ true
+    by true none = refl
+    by false none = absurd cc
+one_cost (increase ∷ other ∷ more) none = absurd (some (if increase.is_formed then [] else increase.line ∷ []) none)
+  where
+    some : (xs : List ℕ) → xs ++ (other.line ∷ map (λ (other : Increase). other.line) more) ≡ [] → ⊥
+    some [] none = cc
+    some (x ∷ xs) none = cc
+
+all_formed : (list : List Increase) → is_one_cost list ≡ true → list_all (λ increase. increase.is_formed) list ≡ true
+all_formed [] one = refl
+all_formed (increase ∷ []) one = and_from increase.is_formed true one refl
+all_formed (increase ∷ other ∷ more) one = absurd (nowhere one)
+
+one_at_most : (list : List Increase) → is_one_cost list ≡ true → nat_le (length list) 1 ≡ true
+one_at_most [] one = refl
+one_at_most (increase ∷ []) one = refl
+one_at_most (increase ∷ other ∷ more) one = absurd (nowhere one)
+
+-- ---- the costs of an effect
+
+module _ (domain : Domain) (problem : Problem) where
+  -- the term of a cost is a declared function, other than the total cost, of known objects and of bound variables
+  abbrev pub CostSound : Scope → Cost → Type 0
+  CostSound scope (Number number) = Unit {0}
+  CostSound scope (Term term) =
+      (scopes.unbound_terms scope term.terms ≡ []) × (list_all (is_known domain problem) term.terms ≡ true) × (has_arity domain.functions (use_of term) ≡ true) × (is_same term.predicate.name total_cost ≡ false)
+
+  abbrev is_sound : Mention → Bool
+  is_sound mention = has_function domain mention && has_objects domain problem mention
+
+  abbrev AreFormed : List Increase → Type 0
+  AreFormed list = list_all (λ increase. increase.is_formed) list ≡ true
+
+  abbrev CostsSound : List Cost → (Depth → List Increase) → (Scope → List ℕ) → List Mention → Type 0
+  CostsSound costs list unbound mentions =
+      ((depth : Depth) → length (list depth) ≡ length costs)
+      × (AreFormed (list Inner) → costs ≡ [])
+      × ((depth : Depth) → AreFormed (list depth) → (scope : Scope) → unbound scope ≡ [] → list_all is_sound mentions ≡ true → Each (CostSound scope) costs)
+
+  abbrev Sound : Effect → Type 0
+  Sound effect = CostsSound (step.increases effect) (increases effect) (scopes.in_effect effect) (in_effect effect)
+
+  each_both : {X : Type 0} (P : X → Type 0) (xs ys : List X) → Each P xs → Each P ys → Each P (xs ++ ys)
+  each_both P [] ys one other = other
+  each_both P (x ∷ xs) ys one other = (one.0, each_both P xs ys one.1 other)
+
+  -- all items of a part
+  part_passes : {X : Type 0} (test : X → Bool) (part whole : List X) → ((x : X) → Among x part → Among x whole) → list_all test whole ≡ true → list_all test part ≡ true
+  part_passes test part whole within all = each_passes test part (λ x there. all_passes test x whole (within x there) all)
+
+  left_passes : {X : Type 0} (test : X → Bool) (xs ys : List X) → list_all test (xs ++ ys) ≡ true → list_all test xs ≡ true
+  left_passes test xs ys = part_passes test xs (xs ++ ys) (λ x there. among_left x xs ys there)
+
+  right_passes : {X : Type 0} (test : X → Bool) (xs ys : List X) → list_all test (xs ++ ys) ≡ true → list_all test ys ≡ true
+  right_passes test xs ys = part_passes test ys (xs ++ ys) (λ x there. among_right x xs ys there)
+
+  abbrev at_depth : Depth → List Effect → List Increase
+  at_depth depth members = flat_map (λ (member : Depth → List Increase). member depth) (map increases members)
+
+  abbrev all_costs : List Effect → List Cost
+  all_costs members = flat_map (λ (costs : List Cost). costs) (map step.increases members)
+
+  length_append : {X : Type 0} (xs ys : List X) → length (xs ++ ys) ≡ length xs + length ys
+  length_append [] ys = omega arith
+  length_append (x ∷ xs) ys = let rest = length_append xs ys in omega (arith, rest)
+
+  members_count : (members : List Effect) → Each Sound members → (depth : Depth) → length (at_depth depth members) ≡ length (all_costs members)
+  members_count [] each depth = refl
+  members_count (member ∷ members) each depth =
+      length_append (increases member depth) (at_depth depth members)
+      ∙ ap (λ n. n + length (at_depth depth members)) (each.0.0 depth)
+      ∙ ap (λ n. length (step.increases member) + n) (members_count members each.1 depth)
+      ∙ sym (length_append (step.increases member) (all_costs members))
+
+  none_inner : (members : List Effect) → Each Sound members → AreFormed (at_depth Inner members) → all_costs members ≡ []
+  none_inner [] each formed = refl
+  none_inner (member ∷ members) each formed =
+      let here = each.0.1 (left_passes (λ (increase : Increase). increase.is_formed) (increases member Inner) (at_depth Inner members) formed) in
+      let rest = none_inner members each.1 (right_passes (λ (increase : Increase). increase.is_formed) (increases member Inner) (at_depth Inner members) formed) in
+      ap (λ (costs : List Cost). costs ++ all_costs members) here ∙ rest
+
+  members_sound : (members : List Effect) → Each Sound members → (depth : Depth) → AreFormed (at_depth depth members) → (scope : Scope) →
+      flat_map (λ member. member scope) (map scopes.in_effect members) ≡ [] → list_all is_sound (flat_map (λ mentions. mentions) (map in_effect members)) ≡ true → Each (CostSound scope) (all_costs members)
+  members_sound [] each depth formed scope unbound mentioned = tt
+  members_sound (member ∷ members) each depth formed scope unbound mentioned =
+      let others = flat_map (λ member. member scope) (map scopes.in_effect members) in
+      let mentions = flat_map (λ mentions. mentions) (map in_effect members) in
+      each_both (CostSound scope) (step.increases member) (all_costs members)
+      (each.0.2 depth (left_passes (λ (increase : Increase). increase.is_formed) (increases member depth) (at_depth depth members) formed) scope
+      (left_empty (scopes.in_effect member scope) others unbound) (left_passes is_sound (in_effect member) mentions mentioned))
+      (members_sound members each.1 depth (right_passes (λ (increase : Increase). increase.is_formed) (increases member depth) (at_depth depth members) formed) scope
+      (right_empty (scopes.in_effect member scope) others unbound) (right_passes is_sound (in_effect member) mentions mentioned))
+
+  increase_sound : (term : Atom) (cost : Cost) (line : ℕ) →
+      CostsSound (step.increases_step (Effect-F.Increase term cost line)) (increases_step (Effect-F.Increase term cost line)) (scopes.effect_step (Effect-F.Increase term cost line)) (effect_step (Effect-F.Increase term cost line))
+  increase_sound term cost line = ((λ depth. refl), (λ formed. absurd (nowhere formed)), λ depth formed scope unbound mentioned. (by cost depth formed scope unbound mentioned, tt))
+    where
+      unsame : (b : Bool) → not b ≡ true → b ≡ false
+      unsame true e = absurd (nowhere e)
+      unsame false e = refl
+
+      other_cost : (cost : Cost) (depth : Depth) → AreFormed (increases_step (Effect-F.Increase term cost line) depth) → is_total_cost_term cost ≡ false
+      other_cost cost depth formed =
+          let one = (and_parts (may_stand depth && is_proper term cost) true formed).0 in
+          let proper = (and_parts (may_stand depth) (is_proper term cost) one).1 in
+          unsame (is_total_cost_term cost) (and_parts (is_same term.predicate.name total_cost) (not (is_total_cost_term cost)) proper).1
+
+      -- what is well used and isn't the total cost is declared
+      declared : (function : Atom) → is_well_used domain (use_of function) ≡ true → is_same function.predicate.name total_cost ≡ false → has_arity domain.functions (use_of function) ≡ true
+      declared function used other = by_case (or_cases (has_arity domain.functions (use_of function)) undeclared used)
+        where
+          first_two : Bool
+          first_two = is_same function.predicate.name total_cost && not (is_declared domain.functions total_cost)
+
+          undeclared : Bool
+          undeclared = is_same function.predicate.name total_cost && not (is_declared domain.functions total_cost) && nat_eq (length function.terms) 0
+
+          by_case : (has_arity domain.functions (use_of function) ≡ true) ⊎ (undeclared ≡ true) → has_arity domain.functions (use_of function) ≡ true
+          by_case (inl here) = here
+          by_case (inr total) =
+              absurd (nowhere (sym other ∙ (and_parts (is_same function.predicate.name total_cost) (not (is_declared domain.functions total_cost)) (and_parts first_two (nat_eq (length function.terms) 0) total).0).0))
+
+      by : (cost : Cost) (depth : Depth) → AreFormed (increases_step (Effect-F.Increase term cost line) depth) → (scope : Scope) → scopes.effect_step (Effect-F.Increase term cost line) scope ≡ [] →
+          list_all is_sound (effect_step (Effect-F.Increase term cost line)) ≡ true → CostSound scope cost
+      by (Number number) depth formed scope unbound mentioned = tt
+      by (Term function) depth formed scope unbound mentioned =
+          let second = (and_parts (is_sound (Function function)) true (and_parts (is_sound (Function term)) (is_sound (Function function) && true) mentioned).1).0 in
+          let sides = and_parts (has_function domain (Function function)) (has_objects domain problem (Function function)) second in
+          let other = other_cost (Term function) depth formed in (
+            right_empty (scopes.unbound_terms scope term.terms) (scopes.unbound_terms scope function.terms) unbound,
+            sides.1,
+            declared function (and_parts (is_well_used domain (use_of function)) true sides.0).0 other,
+            other,
+          )
+
+  sound : (effect : Effect) → Sound effect
+  sound = by_folds (List Cost) (Depth → List Increase) (Scope → List ℕ) (List Mention) step.increases_step increases_step scopes.effect_step effect_step CostsSound record {
+    at_nothing = λ line. ((λ depth. refl), (λ formed. refl), λ depth formed scope unbound mentioned. tt);
+    at_add = λ atom. ((λ depth. refl), (λ formed. refl), λ depth formed scope unbound mentioned. tt);
+    at_delete = λ atom. ((λ depth. refl), (λ formed. refl), λ depth formed scope unbound mentioned. tt);
+    at_and = λ members line held.
+        ((λ depth. members_count members held (joined_depth depth)), none_inner members held, λ depth formed scope unbound mentioned. members_sound members held (joined_depth depth) formed scope unbound mentioned);
+    at_when = λ condition inside line held.
+        ((λ depth. held.0 Inner), (λ formed. held.1 formed), λ depth formed scope unbound mentioned. subst (Each (CostSound scope)) (sym (held.1 formed)) tt);
+    at_forall = λ variables inside line held.
+        ((λ depth. held.0 Inner), (λ formed. held.1 formed), λ depth formed scope unbound mentioned. subst (Each (CostSound scope)) (sym (held.1 formed)) tt);
+    at_increase = increase_sound;
+  }
+
+  -- ---- the actions of a pair
+
+  module _ (none : check_faults domain problem ≡ []) where
+    pub one_increase : (action : Action) → Among action domain.actions → is_one_cost (increases action.effect Outermost) ≡ true
+    one_increase action among =
+        let lines = row_empty domain problem none (increases_row domain problem) (inr (inr (inr (inr (inr (inr (inr (inr (inr (inr (inr (inr (inl refl))))))))))))) in
+        one_cost (increases action.effect Outermost) (piece_empty (λ action. ill_formed (increases action.effect Outermost)) domain.actions lines.0 action among)
+
+    pub at_most_one : (action : Action) → Among action domain.actions → nat_le (length (step.increases action.effect)) 1 ≡ true
+    at_most_one action among = ap (λ n. nat_le n 1) (sym ((sound action.effect).0 Outermost)) ∙ one_at_most (increases action.effect Outermost) (one_increase action among)
+
+    pub costs_sound : (action : Action) → Among action domain.actions → Each (CostSound (inside_of action.parameters [])) (step.increases action.effect)
+    costs_sound action among =
+        let scope = inside_of action.parameters [] in
+        (sound action.effect).2 Outermost (all_formed (increases action.effect Outermost) (one_increase action among)) scope
+        (right_empty (scopes.in_condition action.precondition scope) (scopes.in_effect action.effect scope) (action_bound domain problem none action among)) in_its_effect
+      where
+        both_tests : (list : List Mention) → list_all (has_function domain) list ≡ true → list_all (has_objects domain problem) list ≡ true → list_all is_sound list ≡ true
+        both_tests list functions objects =
+            each_passes is_sound list
+            (λ mention there. and_from (has_function domain mention) (has_objects domain problem mention) (all_passes (has_function domain) mention list there functions) (all_passes (has_objects domain problem) mention list there objects))
+
+        in_its_effect : list_all is_sound (in_effect action.effect) ≡ true
+        in_its_effect =
+            let functions = in_each_action domain problem (has_function domain) (functions_declared domain problem none) action among in
+            let objects = in_each_action domain problem (has_objects domain problem) (objects_known domain problem none) action among in
+            right_passes is_sound (Variables action.parameters ∷ in_condition action.precondition) (in_effect action.effect) (both_tests (in_action action) functions objects)
+
+    pub increases_formed : list_all (λ action. is_one_cost (increases action.effect Outermost)) domain.actions ≡ true
+    increases_formed = each_passes (λ action. is_one_cost (increases action.effect Outermost)) domain.actions one_increase
+
+    pub increases_counted : list_all (λ action. nat_le (length (step.increases action.effect)) 1) domain.actions ≡ true
+    increases_counted = each_passes (λ action. nat_le (length (step.increases action.effect)) 1) domain.actions at_most_one
