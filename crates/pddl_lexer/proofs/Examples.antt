@@ -2,12 +2,13 @@
 use Rattle.std.proofs.Common.{refl}
 use Rattle.pddl_lexer.specs.Text.{mark}
 use Rattle.pddl_lexer.specs.Tokens.{spelled_from}
+use Rattle.pddl_lexer.specs.Nested.{tree}
 use Rattle.pddl_lexer.specs.Faults.{opened, closed, begun, kind_at, kind_at_end, faults_from}
 use Rattle.pddl_lexer.specs.Examples.{TokenExamples, FaultExamples}
 
 pub tokens : TokenExamples
-unfolding mark spelled_from
-tokens = record { as_written = refl; lowered = refl; tree = record { one_list = refl; spells = refl } }
+unfolding mark spelled_from tree
+tokens = record { as_written = refl; lowered = refl; as_nested = refl; tree_is = record { one_list = refl; spells = refl } }
 
 pub faults : FaultExamples
 unfolding mark opened closed begun kind_at kind_at_end faults_from

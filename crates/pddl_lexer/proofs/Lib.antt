@@ -1,8 +1,8 @@
 pub mod Places
-pub mod Building
-pub mod Lowered
-pub mod Reading
-pub mod Turns
-pub mod Unique
-pub mod Examples
-pub mod Spelled
+mod Building
+mod Lowered
+mod Reading
+mod Turns
+mod Unique
+mod Examples
+mod Spelled

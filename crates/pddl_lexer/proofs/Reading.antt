@@ -1,5 +1,5 @@
 -- What has been read of a text, place by place.
-use Rattle.std.proofs.Common.{◌≡◌, ℕ, suc, ◌<◌, ◌+◌, Bool, true, false, cond, not, ◌&&◌, ◌||◌, ltb, List, [], ◌∷◌, ◌++◌, length, map, Option, Some, None, refl, sym, ap, ◌∙◌, append_assoc, arith}
+use Rattle.std.proofs.Common.{◌≡◌, ℕ, suc, ◌<◌, ◌+◌, Bool, true, false, cond, not, ◌&&◌, ◌||◌, ltb, List, [], ◌∷◌, ◌++◌, length, map, Option, Some, None, refl, sym, ap, subst, ◌∙◌, append_assoc, arith}
 use Rattle.std.proofs.lemmas.List.{append-nil, length-append}
 use Rattle.std.proofs.lemmas.Bool.{lt-ltb, leb-false, leb-true}
 use Rattle.pddl_lexer.specs.declared.scanner.Mark.{Mark}
@@ -9,11 +9,13 @@ use Rattle.pddl_lexer.specs.declared.fault.Fault.{Fault}
 use Rattle.pddl_lexer.specs.Text.{Line, mark, line}
 use Rattle.pddl_lexer.specs.Members.{Members, NoMore, WordThen, ListThen, IsOneList, lowered_members}
 use Rattle.pddl_lexer.specs.Nodes.{list_entry, entries}
-use Rattle.pddl_lexer.specs.Tokens.{Token, Open, Close, Word, leading_word, token_at, listed, spelled_from, spelled, lowered_token, written, IsTreeOf, HasTree}
+use Rattle.pddl_lexer.specs.Tokens.{Token, Open, Close, Word, leading_word, token_at, listed, spelled_from, spelled, lowered_token, written, IsTreeOf}
 use Rattle.pddl_lexer.specs.Faults.{is_opening, is_closing, is_token, opened, closed, begun, at_top, after_end, kind_at, kind_at_end, faults_at, faults_from, tree_faults}
 use Rattle.pddl_lexer.specs.Builder.{Partial, Outside, Within, joined, depth, with_member, with_end, with_mark, written_so_far, entries_so_far}
 use Rattle.pddl_lexer.proofs.Building.{entries-with_member}
+use Rattle.pddl_lexer.specs.Nested.{tree}
 use Rattle.pddl_lexer.proofs.Lowered.{written-lowered}
+use Rattle.pddl_lexer.proofs.Spelled.{tree_of_spelled}
 
 -- in an open list: nothing else stands outside
 abbrev pub IsRooted : Partial → Type 0
@@ -269,15 +271,28 @@ no_faults : (o : Option Kind) (at : Line) (more : List Fault) → faults_at o at
 no_faults None at more e = (refl, e)
 no_faults (Some kind) at more e = absurd cc
 
-tree_from : (text behind after : List ℕ) (partial : Partial) → IsRead text behind after partial → faults_from behind after ≡ [] → HasTree text
-unfolding faults_from
-tree_from text behind [] partial r none =
-    let w = read_whole text behind partial r (no_faults (kind_at_end behind) (line behind) [] (append-nil _ ∙ none)).0 in
-    (lowered_members w.tree, tree_of text w.tree w.one_list w.spells)
-tree_from text behind (b ∷ after) partial r none =
-    let n = no_faults (kind_at (mark behind b) behind) (line behind) (faults_from (b ∷ behind) after) none in
-    tree_from text (b ∷ behind) after (with_mark (mark behind b) (line behind) (leading_word (b ∷ after)) partial) (read_more text behind b after partial r n.0) n.1
+-- what is read of a text without faults
+record IsReadAs (text : List ℕ) (tree : Members) : Type 0 where
+  one_list : IsOneList tree
+  spells : written tree ≡ spelled text
 
--- a text without tree faults has a tree
-pub tree_of_faultless : (text : List ℕ) → tree_faults text ≡ [] → HasTree text
-tree_of_faultless text none = tree_from text [] text (Outside NoMore) (read_none text) none
+read_from : (text behind after : List ℕ) (partial : Partial) → IsRead text behind after partial → faults_from behind after ≡ [] → (found : Members) × IsReadAs text found
+unfolding faults_from
+read_from text behind [] partial r none =
+    let w = read_whole text behind partial r (no_faults (kind_at_end behind) (line behind) [] (append-nil _ ∙ none)).0 in
+    (w.tree, record { one_list = w.one_list; spells = w.spells })
+read_from text behind (b ∷ after) partial r none =
+    let n = no_faults (kind_at (mark behind b) behind) (line behind) (faults_from (b ∷ behind) after) none in
+    read_from text (b ∷ behind) after (with_mark (mark behind b) (line behind) (leading_word (b ∷ after)) partial) (read_more text behind b after partial r n.0) n.1
+
+faultless : (text : List ℕ) → tree_faults text ≡ [] → IsReadAs text (tree text)
+faultless text none =
+    let r = read_from text [] text (Outside NoMore) (read_none text) none in
+    subst (λ (found : Members). IsReadAs text found) (sym (tree_of_spelled text r.0 r.1.spells)) r.1
+
+-- the nested list of a text without tree faults spells its tokens, and is lowered to its tree
+pub spells : (text : List ℕ) → tree_faults text ≡ [] → written (tree text) ≡ spelled text
+spells text none = (faultless text none).spells
+
+pub tree_of_faultless : (text : List ℕ) → tree_faults text ≡ [] → IsTreeOf text (lowered_members (tree text))
+tree_of_faultless text none = tree_of text (tree text) (faultless text none).one_list (spells text none)

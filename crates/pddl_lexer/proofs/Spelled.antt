@@ -2,7 +2,7 @@
 use Rattle.std.proofs.Common.{◌≡◌, ℕ, List, [], ◌∷◌, ◌++◌, refl, sym, ap, ◌∙◌, append_assoc}
 use Rattle.std.proofs.lemmas.List.{append-nil}
 use Rattle.pddl_lexer.specs.Members.{Members, NoMore, WordThen, ListThen}
-use Rattle.pddl_lexer.specs.Tokens.{Token, Open, Close, Word, spelled, written}
+use Rattle.pddl_lexer.specs.Tokens.{Token, Close, spelled, written}
 use Rattle.pddl_lexer.specs.Builder.{joined}
 use Rattle.pddl_lexer.specs.Nested.{word_before, list_before, nested, innermost, tree}
 

@@ -6,6 +6,7 @@ use Rattle.pddl_lexer.specs.declared.fault.Fault.{Fault}
 use Rattle.pddl_lexer.specs.Text.{Line, line_feed, opening_parenthesis}
 use Rattle.pddl_lexer.specs.Members.{Members, NoMore, WordThen, ListThen}
 use Rattle.pddl_lexer.specs.Tokens.{Open, Close, Word, tokens, spelled, IsTreeOf}
+use Rattle.pddl_lexer.specs.Nested.{tree}
 use Rattle.pddl_lexer.specs.Faults.{tree_faults}
 
 -- a line after a text
@@ -25,7 +26,8 @@ nested_tree = ListThen 1 (WordThen 1 (codes "ab") (WordThen 1 (codes "?c") (List
 pub record TokenExamples : Type 0 where
   pub as_written : spelled nested ≡ Open 1 ∷ Word 1 (codes "Ab") ∷ Word 1 (codes "?c") ∷ Open 2 ∷ Close ∷ Close ∷ []
   pub lowered : tokens nested ≡ Open 1 ∷ Word 1 (codes "ab") ∷ Word 1 (codes "?c") ∷ Open 2 ∷ Close ∷ Close ∷ []
-  pub tree : IsTreeOf nested nested_tree
+  pub as_nested : tree nested ≡ ListThen 1 (WordThen 1 (codes "Ab") (WordThen 1 (codes "?c") (ListThen 2 NoMore NoMore))) NoMore
+  pub tree_is : IsTreeOf nested nested_tree
 
 pub record FaultExamples : Type 0 where
   pub no_fault : tree_faults nested ≡ []

@@ -1,11 +1,13 @@
+-- what a reader of the contracts believes
 pub mod Text
-pub mod Members
 pub mod Tokens
+pub mod Members
+pub mod Nested
 pub mod Faults
 pub mod Kinds
-pub mod Nodes
-pub mod Kept
+pub mod Examples
+-- words of private contracts: how the code passes over a text, and how it keeps a tree
 pub mod Scanner
 pub mod Builder
-pub mod Examples
-pub mod Nested
+pub mod Nodes
+pub mod Kept

@@ -66,7 +66,3 @@ pub record IsTreeOf (text : List ℕ) (tree : Members) : Type 0 where
 -- a text has one tree at most
 abbrev pub HasOneTree : List ℕ → Type 0
 HasOneTree text = (a b : Members) → IsTreeOf text a → IsTreeOf text b → a ≡ b
-
--- a text has a tree
-abbrev pub HasTree : List ℕ → Type 0
-HasTree text = (tree : Members) × IsTreeOf text tree

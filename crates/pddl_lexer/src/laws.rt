@@ -3,7 +3,8 @@
 ghost use Rattle.std.specs.Prelude.{◌≡◌, ◌<◌, ℕ, List, [], false, length, map};
 ghost use Rattle.pddl_lexer.specs.Text.{lowered};
 ghost use Rattle.pddl_lexer.specs.Members.{Members, is_empty, nodes, from, lowered_members};
-ghost use Rattle.pddl_lexer.specs.Tokens.{written, lowered_token, HasTree, HasOneTree};
+ghost use Rattle.pddl_lexer.specs.Tokens.{spelled, written, lowered_token, IsTreeOf, HasOneTree};
+ghost use Rattle.pddl_lexer.specs.Nested.{tree};
 ghost use Rattle.pddl_lexer.specs.Faults.{tree_faults};
 ghost use Rattle.pddl_lexer.specs.Examples.{FaultExamples, TokenExamples};
 
@@ -12,9 +13,10 @@ pub fn one_tree()
     ensures { (text : List ℕ) → HasOneTree text }
 {}
 
-/// A text without tree faults has a tree.
+/// The nested list of a text without tree faults spells its tokens, and is its tree once its words are lowered.
 pub fn has_tree()
-    ensures { (text : List ℕ) → tree_faults text ≡ [] → HasTree text }
+    ensures spells { (text : List ℕ) → tree_faults text ≡ [] → written (tree text) ≡ spelled text }
+    ensures tree { (text : List ℕ) → tree_faults text ≡ [] → IsTreeOf text (lowered_members (tree text)) }
 {}
 
 /// Lowering the words of a tree lowers its tokens, and lowering once is enough.

@@ -8,37 +8,39 @@ fn fault_of(rt: HostRuntime, text: &[u8]) -> Option<Fault> {
     }
 }
 
+static FIRST_FAULTS: [(&[u8], Kind, u64); 22] = [
+    (b"(a\n\x7f)", Kind::BadByte, 2),
+    (b"(\t\r\n\x01)", Kind::BadByte, 2),
+    (b"(a\nb\xc3\xa9)", Kind::BadByte, 2),
+    (b"\x01)", Kind::BadByte, 1),
+    (b"(a) ; (\n\n \xc3", Kind::BadByte, 3),
+    (b")", Kind::StrayClose, 1),
+    (b"(a))", Kind::StrayClose, 1),
+    (b"(a)\n\n )(", Kind::StrayClose, 3),
+    (b"(a ;)\n))", Kind::StrayClose, 2),
+    (b"(a\n(b)\n", Kind::MissingClose, 3),
+    (
+        b"(define (problem p)\n(:domain s)\n(:init (of",
+        Kind::MissingClose,
+        3,
+    ),
+    (b"(a ;)", Kind::MissingClose, 1),
+    (b"(a\nb)\n\nx", Kind::TextAfterEnd, 4),
+    (b"(a) ; b\n(", Kind::TextAfterEnd, 2),
+    (b"()()", Kind::TextAfterEnd, 1),
+    (b"()?", Kind::TextAfterEnd, 1),
+    (b"", Kind::NoList, 1),
+    (b"\n", Kind::NoList, 2),
+    (b"; (a)\n", Kind::NoList, 2),
+    (b"x", Kind::NoList, 1),
+    (b"\n x\n(a)", Kind::NoList, 2),
+    (b"; a\n;\xff\n- (a)", Kind::NoList, 3),
+];
+
 #[test]
 fn first_faults_with_their_lines(rt: HostRuntime) {
-    let rows: [(&[u8], Kind, u64); 22] = [
-        (b"(a\n\x7f)", Kind::BadByte, 2),
-        (b"(\t\r\n\x01)", Kind::BadByte, 2),
-        (b"(a\nb\xc3\xa9)", Kind::BadByte, 2),
-        (b"\x01)", Kind::BadByte, 1),
-        (b"(a) ; (\n\n \xc3", Kind::BadByte, 3),
-        (b")", Kind::StrayClose, 1),
-        (b"(a))", Kind::StrayClose, 1),
-        (b"(a)\n\n )(", Kind::StrayClose, 3),
-        (b"(a ;)\n))", Kind::StrayClose, 2),
-        (b"(a\n(b)\n", Kind::MissingClose, 3),
-        (
-            b"(define (problem p)\n(:domain s)\n(:init (of",
-            Kind::MissingClose,
-            3,
-        ),
-        (b"(a ;)", Kind::MissingClose, 1),
-        (b"(a\nb)\n\nx", Kind::TextAfterEnd, 4),
-        (b"(a) ; b\n(", Kind::TextAfterEnd, 2),
-        (b"()()", Kind::TextAfterEnd, 1),
-        (b"()?", Kind::TextAfterEnd, 1),
-        (b"", Kind::NoList, 1),
-        (b"\n", Kind::NoList, 2),
-        (b"; (a)\n", Kind::NoList, 2),
-        (b"x", Kind::NoList, 1),
-        (b"\n x\n(a)", Kind::NoList, 2),
-        (b"; a\n;\xff\n- (a)", Kind::NoList, 3),
-    ];
-    for (text, kind, line) in rows {
+    for row in &FIRST_FAULTS {
+        let (text, kind, line) = *row;
         assert_eq!(rt; fault_of(rt, text), Some(Fault { kind, line }), "{text:?}");
     }
 }
@@ -59,6 +61,18 @@ fn a_hundred_lists_may_be_open(rt: HostRuntime) {
     assert_eq!(rt; fault_of(rt, &too_deep), want);
 }
 
+// Each node: whether it is a list, its line, its bytes, its first member, the next member.
+static NODES: [(bool, u64, &str, Option<u64>, Option<u64>); 8] = [
+    (true, 2, "", Some(1), None),
+    (false, 2, "define", None, Some(2)),
+    (true, 3, "", Some(3), Some(6)),
+    (false, 3, "Domain", None, Some(4)),
+    (false, 3, "a", None, Some(5)),
+    (false, 3, "?b", None, None),
+    (true, 3, "", None, Some(7)),
+    (false, 3, "SWITCH-2", None, None),
+];
+
 #[test]
 fn nodes_of_a_tree(rt: HostRuntime) -> Result<(), Fail> {
     let text = b"; \xc3\xa9 (\n(define ; (\n(Domain a?b) ()\tSWITCH-2;)\n)\n; end";
@@ -66,19 +80,8 @@ fn nodes_of_a_tree(rt: HostRuntime) -> Result<(), Fail> {
         .ok()
         .ok_or("no tree")?;
     assert_eq!(rt; tree.len(), 8);
-    // Each node: whether it is a list, its line, its bytes, its first member, the next member.
-    let rows: [(bool, u64, &str, Option<u64>, Option<u64>); 8] = [
-        (true, 2, "", Some(1), None),
-        (false, 2, "define", None, Some(2)),
-        (true, 3, "", Some(3), Some(6)),
-        (false, 3, "Domain", None, Some(4)),
-        (false, 3, "a", None, Some(5)),
-        (false, 3, "?b", None, None),
-        (true, 3, "", None, Some(7)),
-        (false, 3, "SWITCH-2", None, None),
-    ];
     for i in 0..8 {
-        let (list, line, word, first, next) = rows[i];
+        let (list, line, word, first, next) = NODES[i];
         let at = i as u64;
         assert!(rt; at < tree.len());
         assert_eq!(rt; tree.is_list(at), list, "{i}");
@@ -90,69 +93,67 @@ fn nodes_of_a_tree(rt: HostRuntime) -> Result<(), Fail> {
     Ok(())
 }
 
+static NUMBERS_AND_TEXTS: [(Kind, u8, &str); 41] = [
+    (Kind::TooLong, 1, "file too long"),
+    (Kind::BadByte, 2, "byte not allowed"),
+    (Kind::StrayClose, 3, "closing parenthesis without opening"),
+    (Kind::MissingClose, 4, "closing parenthesis missing"),
+    (Kind::TooDeep, 5, "nested too deeply"),
+    (Kind::TextAfterEnd, 6, "text after the end"),
+    (Kind::NoList, 7, "no list"),
+    (Kind::Shape(ShapePlace::File), 8, "malformed file"),
+    (Kind::Shape(ShapePlace::Section), 8, "malformed section"),
+    (Kind::Shape(ShapePlace::NameList), 8, "malformed name list"),
+    (
+        Kind::Shape(ShapePlace::VariableList),
+        8,
+        "malformed variable list",
+    ),
+    (Kind::Shape(ShapePlace::TypeName), 8, "malformed type"),
+    (Kind::Shape(ShapePlace::Head), 8, "malformed head"),
+    (Kind::Shape(ShapePlace::Action), 8, "malformed action"),
+    (Kind::Shape(ShapePlace::Condition), 8, "malformed condition"),
+    (Kind::Shape(ShapePlace::Term), 8, "malformed term"),
+    (Kind::Shape(ShapePlace::Effect), 8, "malformed effect"),
+    (Kind::Shape(ShapePlace::Cost), 8, "malformed cost"),
+    (
+        Kind::Shape(ShapePlace::InitEntry),
+        8,
+        "malformed init entry",
+    ),
+    (Kind::BadName, 9, "not a name"),
+    (Kind::ReservedWord, 10, "reserved word"),
+    (Kind::NotWhole, 11, "not a whole number"),
+    (Kind::NumberTooLarge, 12, "number too large"),
+    (
+        Kind::UnsupportedRequirement,
+        13,
+        "requirement not supported",
+    ),
+    (Kind::UnsupportedSection, 14, "not supported"),
+    (Kind::RepeatedSection, 15, "repeated section"),
+    (Kind::MissingSection, 16, "missing section"),
+    (Kind::UnknownType, 17, "unknown type"),
+    (Kind::TypeCycle, 18, "type cycle"),
+    (Kind::DuplicateName, 19, "duplicate name"),
+    (Kind::UnknownPredicate, 20, "unknown predicate"),
+    (Kind::UnknownFunction, 21, "unknown function"),
+    (Kind::WrongArity, 22, "wrong number of arguments"),
+    (Kind::UnknownObject, 23, "unknown object"),
+    (Kind::UnboundVariable, 24, "unbound variable"),
+    (Kind::DerivedWritten, 25, "derived predicate written"),
+    (Kind::RecursiveDerived, 26, "recursive derived predicate"),
+    (Kind::InitConflict, 27, "initial atom both true and false"),
+    (Kind::ValueConflict, 28, "two values for one term"),
+    (Kind::CostForm, 29, "cost form not supported"),
+    (Kind::TooManyParts, 30, "condition too large"),
+];
+
 #[test]
 fn numbers_and_texts_of_all_kinds(rt: HostRuntime) {
-    let rows: [(Kind, u8, &[u8]); 41] = [
-        (Kind::TooLong, 1, b"file too long"),
-        (Kind::BadByte, 2, b"byte not allowed"),
-        (Kind::StrayClose, 3, b"closing parenthesis without opening"),
-        (Kind::MissingClose, 4, b"closing parenthesis missing"),
-        (Kind::TooDeep, 5, b"nested too deeply"),
-        (Kind::TextAfterEnd, 6, b"text after the end"),
-        (Kind::NoList, 7, b"no list"),
-        (Kind::Shape(ShapePlace::File), 8, b"malformed file"),
-        (Kind::Shape(ShapePlace::Section), 8, b"malformed section"),
-        (Kind::Shape(ShapePlace::NameList), 8, b"malformed name list"),
-        (
-            Kind::Shape(ShapePlace::VariableList),
-            8,
-            b"malformed variable list",
-        ),
-        (Kind::Shape(ShapePlace::TypeName), 8, b"malformed type"),
-        (Kind::Shape(ShapePlace::Head), 8, b"malformed head"),
-        (Kind::Shape(ShapePlace::Action), 8, b"malformed action"),
-        (
-            Kind::Shape(ShapePlace::Condition),
-            8,
-            b"malformed condition",
-        ),
-        (Kind::Shape(ShapePlace::Term), 8, b"malformed term"),
-        (Kind::Shape(ShapePlace::Effect), 8, b"malformed effect"),
-        (Kind::Shape(ShapePlace::Cost), 8, b"malformed cost"),
-        (
-            Kind::Shape(ShapePlace::InitEntry),
-            8,
-            b"malformed init entry",
-        ),
-        (Kind::BadName, 9, b"not a name"),
-        (Kind::ReservedWord, 10, b"reserved word"),
-        (Kind::NotWhole, 11, b"not a whole number"),
-        (Kind::NumberTooLarge, 12, b"number too large"),
-        (
-            Kind::UnsupportedRequirement,
-            13,
-            b"requirement not supported",
-        ),
-        (Kind::UnsupportedSection, 14, b"not supported"),
-        (Kind::RepeatedSection, 15, b"repeated section"),
-        (Kind::MissingSection, 16, b"missing section"),
-        (Kind::UnknownType, 17, b"unknown type"),
-        (Kind::TypeCycle, 18, b"type cycle"),
-        (Kind::DuplicateName, 19, b"duplicate name"),
-        (Kind::UnknownPredicate, 20, b"unknown predicate"),
-        (Kind::UnknownFunction, 21, b"unknown function"),
-        (Kind::WrongArity, 22, b"wrong number of arguments"),
-        (Kind::UnknownObject, 23, b"unknown object"),
-        (Kind::UnboundVariable, 24, b"unbound variable"),
-        (Kind::DerivedWritten, 25, b"derived predicate written"),
-        (Kind::RecursiveDerived, 26, b"recursive derived predicate"),
-        (Kind::InitConflict, 27, b"initial atom both true and false"),
-        (Kind::ValueConflict, 28, b"two values for one term"),
-        (Kind::CostForm, 29, b"cost form not supported"),
-        (Kind::TooManyParts, 30, b"condition too large"),
-    ];
-    for (kind, number, text) in rows {
+    for row in &NUMBERS_AND_TEXTS {
+        let (kind, number, text) = *row;
         assert_eq!(rt; kind.number(), number, "{kind:?}");
-        assert_eq!(rt; kind.text().as_bytes(), text, "{kind:?}");
+        assert_eq!(rt; kind.text(), text, "{kind:?}");
     }
 }

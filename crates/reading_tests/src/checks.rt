@@ -5,45 +5,37 @@ ghost use Rattle.pddl_parser.specs.Spelled.{IsWellSpelled, IsWellSpelledProblem}
 use crate::reading::{domain_of, problem_of};
 use pddl_lexer::{Fault, Kind};
 use pddl_parser::{Domain, Problem};
-use std::alloc::{AllocError, Global};
+use std::alloc::Global;
 use std::test::*;
 use type_checker::{CheckEnd, Side, check};
 
-type Row = (Side, Kind, u64);
+/// A fault that is answered, or none where both files are accepted.
+type Answer = Option<(Side, Kind, u64)>;
 
-fn is_fault(side: Side, fault: Fault, expected: &Row) -> bool {
-    let (file, kind, line) = *expected;
-    side == file && fault.kind == kind && fault.line == line
+fn is_fault(side: Side, fault: Fault, expected: Answer) -> bool {
+    expected == Some((side, fault.kind, fault.line))
 }
 
-fn is_first(side: Side, fault: Fault, expected: &[Row]) -> bool {
-    match expected {
-        [first, ..] => is_fault(side, fault, first),
-        [] => false,
-    }
-}
-
-/// Whether the checker answers the first of these faults, or none where there is none.
-fn is_answered(alloc: Global, domain: Domain, problem: Problem, expected: &[Row]) -> bool
+fn is_answer(alloc: Global, domain: Domain, problem: Problem, expected: Answer) -> bool
     requires domain { IsWellSpelled domain }
     requires problem { IsWellSpelledProblem problem }
 {
     match check(alloc, domain, problem) {
-        Ok(_) => expected.is_empty(),
-        Err(CheckEnd::Fault(side, fault)) => is_first(side, fault, expected),
+        Ok(_) => expected.is_none(),
+        Err(CheckEnd::Fault(side, fault)) => is_fault(side, fault, expected),
         Err(CheckEnd::NoMemory) => false,
     }
 }
 
-/// Whether the faults of the two files are these, and the checker answers the first of them.
-fn are(alloc: Global, domain: &str, problem: &str, expected: &[Row]) -> bool {
+/// Whether the checker answers so of the two texts.
+fn is_checked(alloc: Global, domain: &str, problem: &str, expected: Answer) -> bool {
     let Ok(domain) = domain_of(alloc, domain) else {
         return false;
     };
     let Ok(problem) = problem_of(alloc, problem) else {
         return false;
     };
-    is_answered(alloc, domain, problem, expected)
+    is_answer(alloc, domain, problem, expected)
 }
 
 const SWITCH: &str = "(define (domain switch)
@@ -55,11 +47,6 @@ const LAMP: &str = "(define (problem lamp) (:domain switch)
 (:init (off))
 (:goal (on)))";
 
-#[test]
-fn the_switch_files_have_none(rt: HostRuntime) {
-    assert!(rt; are(rt.alloc(), SWITCH, LAMP, &[]));
-}
-
 const STRAY: &str = "(define (domain stray)
 (:predicates (at ?x - place
  ?y - thing) (at ?z))
@@ -70,28 +57,42 @@ const ASTRAY: &str = "(define (problem astray) (:domain stray)
 (:init)
 (:goal (at c)))";
 
-#[test]
-fn only_the_first_kind_is_listed_in_the_order_of_the_files(rt: HostRuntime) {
-    let faults = [
-        (Side::Domain, Kind::UnknownType, 2),
-        (Side::Domain, Kind::UnknownType, 3),
-        (Side::Domain, Kind::UnknownType, 4),
-        (Side::Problem, Kind::UnknownType, 2),
-    ];
-    assert!(rt; are(rt.alloc(), STRAY, ASTRAY, &faults));
-}
+// An earlier kind comes first, whichever file has it, and of one kind the domain's faults come first.
+static FILES: &[(&str, &str, Answer)] = &[
+    (SWITCH, LAMP, None),
+    (STRAY, ASTRAY, Some((Side::Domain, Kind::UnknownType, 2))),
+    (SWITCH, ASTRAY, Some((Side::Problem, Kind::UnknownType, 2))),
+    (
+        "(define (domain d) (:predicates (p) (p)))",
+        "(define (problem p) (:domain d) (:init)\n(:goal (exists (?x - t) ())))",
+        Some((Side::Problem, Kind::UnknownType, 2)),
+    ),
+    (
+        "(define (domain d) (:types a - object\nb - c\nc - b))",
+        LAMP,
+        Some((Side::Domain, Kind::TypeCycle, 2)),
+    ),
+    (
+        "(define (domain d) (:types object - a a - object) (:constants c - a))",
+        "(define (problem p) (:domain d) (:init) (:goal ()))",
+        None,
+    ),
+    (
+        "(define (domain d) (:constants a))",
+        "(define (problem p) (:domain d)\n(:objects b\na) (:init) (:goal ()))",
+        Some((Side::Problem, Kind::DuplicateName, 3)),
+    ),
+];
 
-const CHOICE: &str = "(define (problem choice) (:domain switch)
-(:init (off))
-(:goal (and
- (or (on) (off)) (or (on) (off)) (or (on) (off)) (or (on) (off)) (or (on) (off)) (or (on) (off))
- (or (on) (off)) (or (on) (off)) (or (on) (off)) (or (on) (off)) (or (on) (off)) (or (on) (off))
- (or (on) (on)))))";
-
 #[test]
-fn more_than_4096_parts_are_too_many(rt: HostRuntime) {
-    let faults = [(Side::Problem, Kind::TooManyParts, 3)];
-    assert!(rt; are(rt.alloc(), SWITCH, CHOICE, &faults));
+fn first_faults_of_two_files(rt: HostRuntime) {
+    for row in FILES {
+        let (domain, problem, expected) = *row;
+        assert!(rt;
+            is_checked(rt.alloc(), domain, problem, expected),
+            "{domain} {problem}"
+        );
+    }
 }
 
 /// Without its last parenthesis.
@@ -102,132 +103,211 @@ const DEVICE: &str = "(define (domain device)
 (:derived (lit) (off))
 (:action go :parameters (?x) :precondition (at ?x) :effect (and (on) (not (off))))";
 
-/// The domain with another text at the end, and the problem with these entries of `:init` and this goal.
-fn texts(
-    alloc: Global,
-    section: &str,
-    init: &str,
-    goal: &str,
-) -> Result<(String, String), AllocError> {
-    let domain = format!(in alloc; "{DEVICE}{section})")?;
-    let problem = format!(in alloc;
-        "(define (problem p) (:domain device)\n(:init {init})\n(:goal {goal}))"
-    )?;
-    Ok((domain, problem))
-}
-
-static EACH_KIND: [(&str, &str, &str, &[Row]); 13] = [
-    ("", "(off)", "(on)", &[]),
+/// A further section of the device, from line 7 on, and its fault.
+static SECTIONS: &[(&str, Kind, u64)] = &[
+    ("(:action b :parameters (?y - e))", Kind::UnknownType, 7),
+    ("(:action go)", Kind::DuplicateName, 7),
+    ("(:action b :parameters (?x\n?x))", Kind::DuplicateName, 8),
+    ("(:derived (dim) (on))", Kind::UnknownPredicate, 7),
     (
-        "\n(:action a :parameters (?y - e))",
-        "(off)",
-        "(exists (?z - f) (on))",
-        &[
-            (Side::Domain, Kind::UnknownType, 7),
-            (Side::Problem, Kind::UnknownType, 3),
-        ],
+        "(:action b :effect (increase (cost) 1))",
+        Kind::UnknownFunction,
+        7,
+    ),
+    ("(:action b :effect (at))", Kind::WrongArity, 7),
+    (
+        "(:action b :effect (increase (total-cost x) 1))",
+        Kind::WrongArity,
+        7,
+    ),
+    ("(:action b :precondition\n (at x))", Kind::UnknownObject, 8),
+    (
+        "(:action b :precondition\n (at ?y))",
+        Kind::UnboundVariable,
+        8,
     ),
     (
-        "\n(:action go) (:action a :parameters (?x ?x))",
-        "",
-        "(on)",
-        &[
-            (Side::Domain, Kind::DuplicateName, 7),
-            (Side::Domain, Kind::DuplicateName, 7),
-        ],
+        "(:action b :precondition (exists (?y) (at ?y)) :effect\n (at ?y))",
+        Kind::UnboundVariable,
+        8,
+    ),
+    ("(:action b :effect (lit))", Kind::DerivedWritten, 7),
+    ("(:action b :effect (not (lit)))", Kind::DerivedWritten, 7),
+    ("(:derived (on)\n(not (on)))", Kind::DerivedWritten, 6),
+    (
+        "(:derived (at ?x) (not (lit)))\n(:derived (lit) (exists (?x) (at ?x)))",
+        Kind::RecursiveDerived,
+        5,
+    ),
+    ("(:derived (at ?x) (at ?x))", Kind::RecursiveDerived, 7),
+    (
+        "(:action b :effect (and (increase (total-cost) 1)\n (increase (total-cost) 1)))",
+        Kind::CostForm,
+        8,
     ),
     (
-        "",
-        "(up)",
-        "(and (on)\n (down))",
-        &[
-            (Side::Problem, Kind::UnknownPredicate, 2),
-            (Side::Problem, Kind::UnknownPredicate, 4),
-        ],
+        "(:action b :effect (increase (price) 1))",
+        Kind::CostForm,
+        7,
     ),
     (
-        "",
-        "(= (cost) 1)",
-        "(on)",
-        &[(Side::Problem, Kind::UnknownFunction, 2)],
+        "(:action b :effect (when (on)\n(increase (total-cost) 1)))",
+        Kind::CostForm,
+        8,
     ),
     (
-        "\n(:action a :effect (at))",
-        "(= (price x) 1) (on x)",
-        "(on)",
-        &[
-            (Side::Domain, Kind::WrongArity, 7),
-            (Side::Problem, Kind::WrongArity, 2),
-            (Side::Problem, Kind::WrongArity, 2),
-        ],
-    ),
-    (
-        "",
-        "(at x)",
-        "(= y y)",
-        &[
-            (Side::Problem, Kind::UnknownObject, 2),
-            (Side::Problem, Kind::UnknownObject, 3),
-            (Side::Problem, Kind::UnknownObject, 3),
-        ],
-    ),
-    (
-        "\n(:action a :precondition\n (at ?y))",
-        "",
-        "(forall (?z) (at ?z))",
-        &[(Side::Domain, Kind::UnboundVariable, 8)],
-    ),
-    (
-        "\n(:action a :effect (lit))",
-        "(not (lit))",
-        "(on)",
-        &[
-            (Side::Domain, Kind::DerivedWritten, 7),
-            (Side::Problem, Kind::DerivedWritten, 2),
-        ],
-    ),
-    (
-        "\n(:derived (at ?x) (not (lit)))\n(:derived (lit) (exists (?x) (at ?x)))",
-        "",
-        "(on)",
-        &[
-            (Side::Domain, Kind::RecursiveDerived, 5),
-            (Side::Domain, Kind::RecursiveDerived, 7),
-            (Side::Domain, Kind::RecursiveDerived, 8),
-        ],
-    ),
-    (
-        "",
-        "(on)\n (not (on)) (not (off))",
-        "(on)",
-        &[(Side::Problem, Kind::InitConflict, 3)],
-    ),
-    (
-        "",
-        "(= (price) 1)\n (= (price) 1)\n (= (price) 2)",
-        "(on)",
-        &[(Side::Problem, Kind::ValueConflict, 4)],
-    ),
-    (
-        "\n(:action a :effect (and (increase (total-cost) 1)\n (increase (total-cost) 1)))\n(:action b :effect (increase (price) 1))",
-        "",
-        "(on)",
-        &[
-            (Side::Domain, Kind::CostForm, 8),
-            (Side::Domain, Kind::CostForm, 9),
-        ],
+        "(:action b :effect (increase (total-cost) (total-cost)))",
+        Kind::CostForm,
+        7,
     ),
 ];
 
 #[test]
-fn each_kind_is_listed_and_its_first_fault_is_answered(rt: HostRuntime) {
-    let alloc = rt.alloc();
-    for row in &EACH_KIND {
-        let (section, init, goal, faults) = *row;
-        let (domain, problem) = texts(alloc, section, init, goal).ok().expect(&rt, "memory");
+fn faults_of_a_domain(rt: HostRuntime) {
+    for row in SECTIONS {
+        let (section, kind, line) = *row;
+        let domain = format!(in rt.alloc(); "{DEVICE}\n{section})")
+            .ok()
+            .expect(&rt, "memory");
+        let expected = Some((Side::Domain, kind, line));
         assert!(rt;
-            are(alloc, &domain, &problem, faults),
-            "{section} {init} {goal}"
+            is_checked(rt.alloc(), &domain, LAMP, expected),
+            "{section}"
         );
     }
+}
+
+/// The entries of `:init` of a problem of the device, from line 2 on, its goal, and its fault.
+static PROBLEMS: &[(&str, &str, Option<(Kind, u64)>)] = &[
+    (
+        "(off)",
+        "(exists (?z - f) (on))",
+        Some((Kind::UnknownType, 3)),
+    ),
+    ("(off)", "(forall (?z) (at ?z))", None),
+    ("(up)", "(down)", Some((Kind::UnknownPredicate, 2))),
+    ("", "(and (on)\n (down))", Some((Kind::UnknownPredicate, 4))),
+    ("(= (cost) 1)", "(on)", Some((Kind::UnknownFunction, 2))),
+    ("(= (total-cost) 1)", "(on)", None),
+    ("(= (price x) 1)", "(on)", Some((Kind::WrongArity, 2))),
+    ("(on x)", "(on)", Some((Kind::WrongArity, 2))),
+    ("(at x)", "(= y y)", Some((Kind::UnknownObject, 2))),
+    ("", "(= y y)", Some((Kind::UnknownObject, 3))),
+    ("", "(at ?z)", Some((Kind::UnboundVariable, 3))),
+    ("(lit)", "(on)", Some((Kind::DerivedWritten, 2))),
+    ("(not (lit))", "(lit)", Some((Kind::DerivedWritten, 2))),
+    (
+        "(on)\n(not (on)) (not (off))",
+        "(on)",
+        Some((Kind::InitConflict, 3)),
+    ),
+    (
+        "(= (price) 1)\n(= (price) 1)\n(= (price) 2)",
+        "(on)",
+        Some((Kind::ValueConflict, 4)),
+    ),
+];
+
+#[test]
+fn faults_of_a_problem(rt: HostRuntime) {
+    let domain = format!(in rt.alloc(); "{DEVICE})")
+        .ok()
+        .expect(&rt, "memory");
+    for row in PROBLEMS {
+        let (init, goal, fault) = *row;
+        let problem = format!(in rt.alloc();
+            "(define (problem p) (:domain device)\n(:init {init})\n(:goal {goal}))"
+        ).ok()
+            .expect(&rt, "memory");
+        let expected = match fault {
+            Some((kind, line)) => Some((Side::Problem, kind, line)),
+            None => None,
+        };
+        assert!(rt;
+            is_checked(rt.alloc(), &domain, &problem, expected),
+            "{init} {goal}"
+        );
+    }
+}
+
+/// It falls into 8 parts, so that four of them joined have 4,096, which is as many as a condition may have.
+const EIGHT: &str = "(or (on) (on) (on) (on) (on) (on) (on) (on))";
+
+/// What stands in a section of the device before four times eight parts, and after them; and the line of the condition
+/// that has too many.
+static PARTS: &[(&str, &str, Option<u64>)] = &[
+    ("(:action b :precondition (and", "))", None),
+    (
+        "(:action b :precondition\n(and (or (on) (on))",
+        "))",
+        Some(8),
+    ),
+    (
+        "(:action b :precondition (and (not ()) (or (on) (on))",
+        "))",
+        None,
+    ),
+    (
+        "(:action b :precondition (and (on)\n(exists (?x) (and (or (on) (on))",
+        "))))",
+        Some(7),
+    ),
+    // A quantifier that is replaced is one part, and what replaces it is counted by itself.
+    (
+        "(:action b :precondition (and (or (on) (on)) (not (exists (?x) (and",
+        ")))))",
+        None,
+    ),
+    (
+        "(:action b :precondition (not\n(exists (?x) (and (or (on) (on))",
+        "))))",
+        Some(8),
+    ),
+    (
+        "(:action b :precondition\n(forall (?x) (not (and (or (on) (on))",
+        "))))",
+        Some(8),
+    ),
+    // The conditions of a `when` and of those around it are joined, and those of two beside each other aren't.
+    (
+        "(:action b :effect (when (and",
+        ")\n(when (or (on) (on)) (on))))",
+        Some(8),
+    ),
+    (
+        "(:action b :effect (and (when (or (on) (on)) (on)) (when (and",
+        ") (on))))",
+        None,
+    ),
+    ("(:derived (lit)\n(and (or (on) (on))", "))", Some(8)),
+    ("(:derived (lit) (and", "))", None),
+];
+
+#[test]
+fn more_than_4096_parts_are_too_many(rt: HostRuntime) {
+    for row in PARTS {
+        let (before, after, fault) = *row;
+        let domain = format!(in rt.alloc();
+            "{DEVICE}\n{before}{EIGHT}{EIGHT}{EIGHT}{EIGHT}{after})"
+        ).ok()
+            .expect(&rt, "memory");
+        let expected = match fault {
+            Some(line) => Some((Side::Domain, Kind::TooManyParts, line)),
+            None => None,
+        };
+        assert!(rt;
+            is_checked(rt.alloc(), &domain, LAMP, expected),
+            "{before} {after}"
+        );
+    }
+}
+
+#[test]
+fn a_goal_of_too_many_parts(rt: HostRuntime) {
+    let goal = format!(in rt.alloc();
+        "(define (problem p) (:domain d) (:init)\n(:goal (and (or (on) (on)) {EIGHT}{EIGHT}{EIGHT}{EIGHT})))"
+    ).ok()
+        .expect(&rt, "memory");
+    let expected = Some((Side::Problem, Kind::TooManyParts, 2));
+    assert!(rt; is_checked(rt.alloc(), SWITCH, &goal, expected));
 }

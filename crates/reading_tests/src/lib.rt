@@ -11,3 +11,5 @@ mod meaning;
 mod parser;
 #[cfg(test)]
 mod reading;
+#[cfg(test)]
+mod shapes;

@@ -3,7 +3,7 @@
 use crate::reading::{domain_of, problem_of};
 use lists::{List, Text};
 use pddl_parser::{Condition, Domain, Problem};
-use pddl_plain::{Bound, GroundAtom, Step, holds, initial, take_step};
+use pddl_plain::{Bound, GroundAtom, Step, action_cost, holds, initial, is_given, take_step};
 use std::alloc::{AllocError, Global};
 use std::test::*;
 
@@ -45,6 +45,17 @@ fn next(
     take_step(alloc, domain, problem, state, state, step)
 }
 
+/// Whether some axiom gives the atom.
+fn given(
+    alloc: Global,
+    domain: &Domain,
+    problem: &Problem,
+    full: &[GroundAtom],
+    atom: &GroundAtom,
+) -> Result<bool, AllocError> {
+    is_given(alloc, domain, problem, full, atom)
+}
+
 /// Whether the condition holds in the state, which has no derived atoms.
 fn is_true(
     alloc: Global,
@@ -68,20 +79,15 @@ fn after_step(
     next(alloc, domain, problem, &state, &step)
 }
 
-/// Where the step leads from the initial state. A text that isn't read counts as want of memory.
-fn first_step(
-    alloc: Global,
-    domain: &str,
-    problem: &str,
-    objects: &str,
-) -> Result<Option<Vec<GroundAtom>>, AllocError> {
+/// The two texts. One that isn't read counts as want of memory.
+fn read(alloc: Global, domain: &str, problem: &str) -> Result<(Domain, Problem), AllocError> {
     let Ok(domain) = domain_of(alloc, domain) else {
         return Err(AllocError);
     };
     let Ok(problem) = problem_of(alloc, problem) else {
         return Err(AllocError);
     };
-    after_step(alloc, &domain, &problem, objects)
+    Ok((domain, problem))
 }
 
 /// The initial state of a problem.
@@ -93,37 +99,34 @@ fn stated(alloc: Global, problem: &str) -> Result<Vec<GroundAtom>, AllocError> {
 }
 
 fn is_within(atom: &GroundAtom, others: &[GroundAtom]) -> bool {
-    for other in others {
-        if atom.predicate == other.predicate && atom.objects == other.objects {
-            return true;
-        }
-    }
-    false
+    others.iter().any(|other| atom.predicate == other.predicate && atom.objects == other.objects)
 }
 
 fn are_within(atoms: &[GroundAtom], others: &[GroundAtom]) -> bool {
-    for atom in atoms {
-        if !is_within(atom, others) {
-            return false;
-        }
-    }
-    true
+    atoms.iter().all(|atom| is_within(atom, others))
 }
 
 fn are_same(atoms: &[GroundAtom], others: &[GroundAtom]) -> bool {
     are_within(atoms, others) && are_within(others, atoms)
 }
 
-/// Whether the step leads to the initial state of the other problem, or nowhere where there is none.
+/// Whether the step leads from the state with these entries to the other one, or nowhere where there is none.
 fn leads(
     alloc: Global,
     domain: &str,
-    problem: &str,
+    (before, after): (&str, &str),
+    init: &str,
     objects: &str,
     wanted: Option<&str>,
 ) -> Result<bool, AllocError> {
-    match (first_step(alloc, domain, problem, objects)?, wanted) {
-        (Some(next), Some(wanted)) => Ok(are_same(&next, &stated(alloc, wanted)?)),
+    let problem = format!(in alloc; "{before}{init}{after}")?;
+    let (domain, problem) = read(alloc, domain, &problem)?;
+    let next = after_step(alloc, &domain, &problem, objects)?;
+    match (next, wanted) {
+        (Some(next), Some(wanted)) => {
+            let problem = format!(in alloc; "{before}{wanted}{after}")?;
+            Ok(are_same(&next, &stated(alloc, &problem)?))
+        }
         (next, wanted) => Ok(next.is_none() && wanted.is_none()),
     }
 }
@@ -149,78 +152,203 @@ const BELL: &str = "(define (domain bell) (:constants l1) (:predicates (at ?l) (
 const FIT: &str = "(define (domain fit) (:types t u) (:predicates (p ?x - t) (done))
  (:action go :parameters (?x - u) :precondition (p ?x) :effect (done)))";
 
-const TWO: &str = "(define (problem b) (:domain back) (:objects a b) (:init (q a)) (:goal ()))";
+/// The inner `?x` counts inside its list, for each of its objects, and the outer one elsewhere.
+const INNER: &str = "(define (domain inner) (:types t u) (:predicates (p ?x) (q ?x))
+ (:action act :parameters (?x - t) :precondition (exists (?x - u) (p ?x))
+ :effect (and (not (p ?x)) (forall (?x - u) (when (p ?x) (q ?x))))))";
 
-const PRICED: &str =
-    "(define (problem s) (:domain shop) (:objects a b) (:init (= (price a) 7)) (:goal ())
- (:metric minimize (total-cost)))";
+/// An outer variable counts inside a list without it.
+const KEPT: &str = "(define (domain kept) (:predicates (r ?x ?y) (q ?x))
+ (:action act :parameters (?x) :precondition (exists (?y) (r ?x ?y))
+ :effect (forall (?y) (when (r ?x ?y) (q ?y)))))";
 
-const COUNTED: &str =
-    "(define (problem s) (:domain shop) (:objects a b) (:init (= (price a) 7)) (:goal ()))";
+const NEST: &str = "(define (domain nest) (:predicates (p) (q) (r))
+ (:action act :effect (when (p) (when (q) (r)))))";
+
+/// Its second action is never taken.
+const REST: &str = "(define (domain rest) (:predicates (p)) (:action act :effect ())
+ (:action other :effect (not (p))))";
+
+const PRICED: &str = "(define (problem s) (:domain shop) (:objects a b c)
+ (:init (= (price c) 3) (= (price a) 7)) (:goal ()) (:metric minimize (total-cost)))";
+
+const COUNTED: &str = "(define (problem s) (:domain shop) (:objects a b c)
+ (:init (= (price c) 3) (= (price a) 7)) (:goal ()))";
+
+/// Of a problem without objects, or with those of the domain: before the entries of `:init`, and after them.
+const PLAIN: (&str, &str) = ("(define (problem p) (:domain d) (:init", ") (:goal ()))");
+
+const TWO: (&str, &str) = (
+    "(define (problem p) (:domain d) (:objects a b) (:init",
+    ") (:goal ()))",
+);
+
+const TYPED: (&str, &str) = (
+    "(define (problem p) (:domain d) (:objects a - t b c - u) (:init",
+    ") (:goal ()))",
+);
+
+const SOLD: (&str, &str) = (
+    "(define (problem p) (:domain d) (:objects a b) (:init (= (price a) 7)",
+    ") (:goal ()) (:metric minimize (total-cost)))",
+);
+
+/// A domain, a problem around its entries, those entries, the objects of a step, and the state to which it leads.
+type StepRow = (
+    &'static str,
+    (&'static str, &'static str),
+    &'static str,
+    &'static str,
+    Option<&'static str>,
+);
+
+static STEPS: &[StepRow] = &[
+    (BACK, TWO, "(q a)", "aa", Some("(p a) (q a)")),
+    (BACK, TWO, "(q a)", "ab", Some("(p a) (q b)")),
+    (BACK, TWO, "(q a)", "ba", None),
+    (BACK, TWO, "(q a)", "a", None),
+    (SHOP, SOLD, "", "a", Some("(done a)")),
+    (SHOP, SOLD, "", "b", None),
+    (SHOP, TWO, "(= (price a) 7)", "b", Some("(done b)")),
+    (TOUCH, PLAIN, "(p) (q)", "", Some("(q) (p)")),
+    (TOUCH, PLAIN, "(q)", "", Some("")),
+    (BELL, PLAIN, "(at l1)", "", None),
+    (BELL, PLAIN, "", "", Some("(rung)")),
+    (FIT, TYPED, "(p b)", "b", Some("(p b) (done)")),
+    (FIT, TYPED, "(p a)", "a", None),
+    (INNER, TYPED, "(p a) (p b)", "a", Some("(p b) (q b)")),
+    (
+        INNER,
+        TYPED,
+        "(p b) (p c)",
+        "a",
+        Some("(p b) (p c) (q b) (q c)"),
+    ),
+    (INNER, TYPED, "(p a)", "a", None),
+    (
+        KEPT,
+        TWO,
+        "(r a b) (r b a)",
+        "a",
+        Some("(r a b) (r b a) (q b)"),
+    ),
+    (KEPT, TWO, "(r b a)", "a", None),
+    (NEST, PLAIN, "(p) (q)", "", Some("(p) (q) (r)")),
+    (NEST, PLAIN, "(p)", "", Some("(p)")),
+    (NEST, PLAIN, "(q)", "", Some("(q)")),
+    (REST, PLAIN, "(p)", "", Some("(p)")),
+];
 
 #[test]
 fn steps_lead_as_worked_by_hand(rt: HostRuntime) {
-    let rows: [(&str, &str, &str, Option<&str>); 11] = [
-        (
-            BACK,
-            TWO,
-            "aa",
-            Some("(define (problem b) (:domain d) (:init (p a) (q a)) (:goal ()))"),
-        ),
-        (
-            BACK,
-            TWO,
-            "ab",
-            Some("(define (problem b) (:domain d) (:init (p a) (q b)) (:goal ()))"),
-        ),
-        (BACK, TWO, "ba", None),
-        (
-            SHOP,
-            PRICED,
-            "a",
-            Some("(define (problem s) (:domain d) (:init (done a)) (:goal ()))"),
-        ),
-        (SHOP, PRICED, "b", None),
-        (
-            SHOP,
-            COUNTED,
-            "b",
-            Some("(define (problem s) (:domain d) (:init (done b)) (:goal ()))"),
-        ),
-        (
-            TOUCH,
-            "(define (problem t) (:domain d) (:init (p) (q)) (:goal ()))",
-            "",
-            Some("(define (problem t) (:domain d) (:init (q) (p)) (:goal ()))"),
-        ),
-        (
-            TOUCH,
-            "(define (problem t) (:domain d) (:init (q)) (:goal ()))",
-            "",
-            Some("(define (problem t) (:domain d) (:init) (:goal ()))"),
-        ),
-        (
-            BELL,
-            "(define (problem b) (:domain d) (:init (at l1)) (:goal ()))",
-            "",
-            None,
-        ),
-        (
-            FIT,
-            "(define (problem f) (:domain d) (:objects a - t b - u) (:init (p b)) (:goal ()))",
-            "b",
-            Some("(define (problem f) (:domain d) (:init (p b) (done)) (:goal ()))"),
-        ),
-        (
-            FIT,
-            "(define (problem f) (:domain d) (:objects a - t b - u) (:init (p a)) (:goal ()))",
-            "a",
-            None,
-        ),
-    ];
-    for (domain, problem, objects, wanted) in rows {
-        let answer = leads(rt.alloc(), domain, problem, objects, wanted);
-        assert!(rt; matches!(answer, Ok(true)), "{domain} {problem} {objects}");
+    for row in STEPS {
+        let (domain, around, init, objects, wanted) = *row;
+        let answer = leads(rt.alloc(), domain, around, init, objects, wanted);
+        assert!(rt; matches!(answer, Ok(true)), "{domain} {init} {objects}");
+    }
+}
+
+/// What the first action costs where its `?x` stands for the object.
+fn cost_in(
+    alloc: Global,
+    domain: &Domain,
+    problem: &Problem,
+    object: &str,
+) -> Result<Option<u64>, AllocError> {
+    let binding = [Bound {
+        variable: text(alloc, b"?x")?,
+        object: text(alloc, object.as_bytes())?,
+    }];
+    match domain.actions.as_slice() {
+        [action, ..] => action_cost(alloc, problem, &binding, action),
+        [] => Ok(None),
+    }
+}
+
+fn cost(
+    alloc: Global,
+    domain: &str,
+    problem: &str,
+    object: &str,
+) -> Result<Option<u64>, AllocError> {
+    let (domain, problem) = read(alloc, domain, problem)?;
+    cost_in(alloc, &domain, &problem, object)
+}
+
+const FIVE: &str = "(define (domain five) (:predicates (p ?x))
+ (:action act :parameters (?x) :effect (increase (total-cost) 5)))";
+
+static COSTS: &[(&str, &str, &str, Option<u64>)] = &[
+    (SHOP, PRICED, "a", Some(7)),
+    (SHOP, PRICED, "b", None),
+    (SHOP, COUNTED, "b", Some(1)),
+    (FIVE, PRICED, "b", Some(5)),
+    (FIVE, COUNTED, "b", Some(1)),
+    (FIT, PRICED, "b", Some(0)),
+];
+
+#[test]
+fn costs_as_worked_by_hand(rt: HostRuntime) {
+    for row in COSTS {
+        let (domain, problem, object, wanted) = *row;
+        let answer = cost(rt.alloc(), domain, problem, object);
+        assert_eq!(rt; answer.ok(), Some(wanted), "{domain} {object}");
+    }
+}
+
+/// `seen` has two axioms, one for each type.
+const LIGHT: &str = "(define (domain light) (:types t u)
+ (:predicates (p ?x) (q ?x) (seen ?x) (dark))
+ (:derived (seen ?x - t) (p ?x)) (:derived (seen ?x - u) (q ?x))
+ (:derived (dark) (not (exists (?x) (seen ?x))))
+ (:action act :parameters (?x) :precondition (dark) :effect (p ?x)))";
+
+/// Whether each of these derived atoms is in the full state exactly where some axiom gives it.
+fn are_given(
+    alloc: Global,
+    domain: &Domain,
+    problem: &Problem,
+    full: &[GroundAtom],
+    derived: &[GroundAtom],
+) -> Result<bool, AllocError> {
+    for atom in derived {
+        if given(alloc, domain, problem, full, atom)? != is_within(atom, full) {
+            return Ok(false);
+        }
+    }
+    Ok(true)
+}
+
+/// Whether the entries, over the objects `a` of type `t` and `b` and `c` of type `u`, are those of a full state.
+fn is_full(alloc: Global, entries: &str) -> Result<bool, AllocError> {
+    let (before, after) = TYPED;
+    let full = format!(in alloc; "{before}{entries}{after}")?;
+    let derived = format!(in alloc; "{before}(seen a) (seen b) (dark){after}")?;
+    let (domain, full) = read(alloc, LIGHT, &full)?;
+    let atoms = state(alloc, &full)?;
+    let derived = stated(alloc, &derived)?;
+    are_given(alloc, &domain, &full, &atoms, &derived)
+}
+
+static FULL_STATES: &[(&str, bool)] = &[
+    ("(dark)", true),
+    ("", false),
+    ("(p a) (seen a)", true),
+    ("(p a) (seen a) (dark)", false),
+    ("(p a) (dark)", false),
+    ("(p b) (dark)", true),
+    ("(p b) (seen b)", false),
+    ("(q b) (seen b)", true),
+    ("(p a) (q b) (seen a) (seen b)", true),
+    ("(q a) (dark)", true),
+];
+
+#[test]
+fn full_states_as_worked_by_hand(rt: HostRuntime) {
+    for row in FULL_STATES {
+        let (entries, wanted) = *row;
+        let answer = is_full(rt.alloc(), entries);
+        assert!(rt; matches!(answer, Ok(full) if full == wanted), "{entries}");
     }
 }
 
@@ -228,20 +356,9 @@ fn steps_lead_as_worked_by_hand(rt: HostRuntime) {
 const PORT: &str = "(define (domain port) (:predicates (p) (q))
  (:types boat - vessel vessel - thing vessel - vehicle object - odd spare))";
 
-fn is_reached_in(alloc: Global, domain: &Domain, problem: &Problem) -> Result<bool, AllocError> {
+fn is_reached(alloc: Global, domain: &Domain, problem: &Problem) -> Result<bool, AllocError> {
     let state = state(alloc, problem)?;
     is_true(alloc, domain, problem, &state, &problem.goal, &[])
-}
-
-/// Whether the goal of the problem holds in its initial state.
-fn is_reached(alloc: Global, domain: &str, problem: &str) -> Result<bool, AllocError> {
-    let Ok(domain) = domain_of(alloc, domain) else {
-        return Err(AllocError);
-    };
-    let Ok(problem) = problem_of(alloc, problem) else {
-        return Err(AllocError);
-    };
-    is_reached_in(alloc, &domain, &problem)
 }
 
 /// Whether the goal holds in the initial state of a problem with the boat `ship`, (p) twice and (not (q)).
@@ -249,33 +366,36 @@ fn holds_at_first(alloc: Global, goal: &str) -> Result<bool, AllocError> {
     let problem = format!(in alloc;
         "(define (problem p) (:domain d) (:objects ship - boat) (:init (p) (p) (not (q))) (:goal {goal}))"
     )?;
-    is_reached(alloc, PORT, &problem)
+    let (domain, problem) = read(alloc, PORT, &problem)?;
+    is_reached(alloc, &domain, &problem)
 }
+
+static CONDITIONS: &[(&str, bool)] = &[
+    ("()", true),
+    ("(and)", true),
+    ("(or)", false),
+    ("(p)", true),
+    ("(q)", false),
+    ("(not (q))", true),
+    ("(and (p) (q))", false),
+    ("(or (q) (p))", true),
+    ("(imply (p) (q))", false),
+    ("(imply (q) (p))", true),
+    ("(forall (?x - spare) (q))", true),
+    ("(exists (?x - spare) (p))", false),
+    ("(exists (?x - boat) (= ?x ship))", true),
+    ("(exists (?x - thing) (= ?x ship))", true),
+    ("(exists (?x - vehicle) (= ?x ship))", true),
+    ("(exists (?x) (= ?x ship))", true),
+    ("(exists (?x - odd) (= ?x ship))", false),
+    ("(forall (?x ?y) (= ?x ?y))", true),
+    ("(exists (?x) (forall (?x - spare) (q)))", true),
+];
 
 #[test]
 fn conditions_hold_as_worked_by_hand(rt: HostRuntime) {
-    let rows: [(&str, bool); 19] = [
-        ("()", true),
-        ("(and)", true),
-        ("(or)", false),
-        ("(p)", true),
-        ("(q)", false),
-        ("(not (q))", true),
-        ("(and (p) (q))", false),
-        ("(or (q) (p))", true),
-        ("(imply (p) (q))", false),
-        ("(imply (q) (p))", true),
-        ("(forall (?x - spare) (q))", true),
-        ("(exists (?x - spare) (p))", false),
-        ("(exists (?x - boat) (= ?x ship))", true),
-        ("(exists (?x - thing) (= ?x ship))", true),
-        ("(exists (?x - vehicle) (= ?x ship))", true),
-        ("(exists (?x) (= ?x ship))", true),
-        ("(exists (?x - odd) (= ?x ship))", false),
-        ("(forall (?x ?y) (= ?x ?y))", true),
-        ("(exists (?x) (forall (?x - spare) (q)))", true),
-    ];
-    for (goal, truth) in rows {
+    for row in CONDITIONS {
+        let (goal, truth) = *row;
         let answer = holds_at_first(rt.alloc(), goal);
         assert!(rt; matches!(answer, Ok(held) if held == truth), "{goal}");
     }

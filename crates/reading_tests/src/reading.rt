@@ -3,7 +3,7 @@
 ghost use Rattle.std.specs.Prelude.{IfOk};
 ghost use Rattle.pddl_parser.specs.Spelled.{IsWellSpelled, IsWellSpelledProblem};
 
-use pddl_lexer::{Fault, Kind, read_tree};
+use pddl_lexer::{Fault, read_tree};
 use pddl_parser::{Domain, ParseEnd, Problem, parse_domain, parse_problem};
 use std::alloc::Global;
 
@@ -39,25 +39,4 @@ pub(crate) fn has_first_fault(alloc: Global, file: File, text: &str, expected: F
         File::Problem => problem_of(alloc, text).err(),
     };
     matches!(end, Some(ParseEnd::Fault(fault)) if fault == expected)
-}
-
-/// Whether the parser answers the first of these faults.
-pub(crate) fn has_first_of(
-    alloc: Global,
-    file: File,
-    text: &str,
-    expected: &[(Kind, u64)],
-) -> bool {
-    match expected {
-        [(kind, line), ..] => has_first_fault(
-            alloc,
-            file,
-            text,
-            Fault {
-                kind: *kind,
-                line: *line,
-            },
-        ),
-        [] => false,
-    }
 }
