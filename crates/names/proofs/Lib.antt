@@ -2,7 +2,6 @@
 pub mod SameNames
 pub mod Reachability
 pub mod Chains
-pub mod Items
 -- lemmas of this crate
 mod Tables
 mod Evidence

@@ -6,7 +6,7 @@ use Rattle.pddl_parser.specs.declared.types.Derived.{Derived}
 use Rattle.pddl_parser.specs.declared.types.Domain.{Domain}
 use Rattle.pddl_parser.specs.declared.types.Init.{Init}
 use Rattle.pddl_parser.specs.declared.types.Problem.{Problem}
-use Rattle.planning.proofs.Items.{Among}
+use Rattle.lists.proofs.Items.{Among}
 use Rattle.type_checker.specs.Faults.{check_faults}
 use Rattle.type_checker.specs.Rows.{unbound_row}
 use Rattle.type_checker.specs.Scopes.{in_condition, in_action, in_axiom, in_domain, in_init, in_problem}

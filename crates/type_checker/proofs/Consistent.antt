@@ -14,7 +14,7 @@ use Rattle.pddl_parser.specs.Words.{is_same}
 use Rattle.pddl_parser.specs.Holds.{GroundAtom, is_same_atom, ground}
 use Rattle.pddl_parser.specs.Plan.{is_stated}
 use Rattle.pddl_parser.specs.Step.{value_in}
-use Rattle.planning.proofs.Items.{each_passes}
+use Rattle.lists.proofs.Items.{each_passes}
 use Rattle.type_checker.specs.Faultless.{denies_none, is_value, gives_the_value}
 use Rattle.type_checker.specs.Faults.{check_faults}
 use Rattle.type_checker.specs.Initial.{denied_line, is_another, revalued_line, revalued_after}

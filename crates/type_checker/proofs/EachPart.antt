@@ -6,7 +6,7 @@ use Rattle.pddl_parser.specs.declared.types.Derived.{Derived}
 use Rattle.pddl_parser.specs.declared.types.Domain.{Domain}
 use Rattle.pddl_parser.specs.declared.types.Init.{Init}
 use Rattle.pddl_parser.specs.declared.types.Problem.{Problem}
-use Rattle.planning.proofs.Items.{Among, all_passes, each_passes, among_left, among_right, among_flat_map}
+use Rattle.lists.proofs.Items.{Among, all_passes, each_passes, among_left, among_right, among_flat_map}
 use Rattle.type_checker.specs.Faultless.{mentions}
 use Rattle.type_checker.specs.Mentions.{Mention, in_head, in_condition, in_action, in_axiom, in_domain, in_init, in_problem}
 

@@ -5,7 +5,7 @@ use Rattle.pddl_parser.specs.declared.types.Action.{Action}
 use Rattle.pddl_parser.specs.declared.types.Derived.{Derived}
 use Rattle.pddl_parser.specs.declared.types.Domain.{Domain}
 use Rattle.pddl_parser.specs.declared.types.Problem.{Problem}
-use Rattle.planning.proofs.Items.{Among, all_passes, each_passes, among_left, among_right, among_flat_map}
+use Rattle.lists.proofs.Items.{Among, all_passes, each_passes, among_left, among_right, among_flat_map}
 use Rattle.type_checker.specs.Faultless.{has_few_parts}
 use Rattle.type_checker.specs.Faults.{check_faults}
 use Rattle.type_checker.specs.Rows.{sizes_row}

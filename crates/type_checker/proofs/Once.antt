@@ -12,7 +12,7 @@ use Rattle.pddl_parser.specs.declared.types.Problem.{Problem}
 use Rattle.pddl_parser.specs.declared.types.Typed.{Typed}
 use Rattle.pddl_parser.specs.Words.{Name, is_same}
 use Rattle.pddl_parser.specs.Objects.{objects}
-use Rattle.planning.proofs.Items.{Among}
+use Rattle.lists.proofs.Items.{Among}
 use Rattle.type_checker.specs.Faults.{check_faults}
 use Rattle.type_checker.specs.Mentions.{in_domain, in_problem}
 use Rattle.type_checker.specs.Names.{repeats_after, repeats, names_of, head_names, repeated_variables, domain_repeats, problem_repeats}

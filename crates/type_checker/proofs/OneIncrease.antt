@@ -13,7 +13,7 @@ use Rattle.pddl_parser.specs.declared.types.Problem.{Problem}
 use Rattle.pddl_parser.specs.Step as step
 use Rattle.pddl_parser.specs.Words.{is_same}
 use Rattle.pddl_parser.proofs.ConditionCases.{Each}
-use Rattle.planning.proofs.Items.{Among, all_passes, each_passes, among_left, among_right}
+use Rattle.lists.proofs.Items.{Among, all_passes, each_passes, among_left, among_right}
 use Rattle.type_checker.specs.Increases.{Depth}
 use Rattle.type_checker.specs.Increases.{Outermost, Inner}
 use Rattle.type_checker.specs.Faultless.{has_function, is_known, has_objects, is_one_cost}
