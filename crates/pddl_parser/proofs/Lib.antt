@@ -15,7 +15,6 @@ pub mod EffectCases
 pub mod SameAtoms
 pub mod Written
 pub mod IdleSteps
-pub mod ListTests
 pub mod TypeChains
 pub mod Given
 pub mod Spelling
