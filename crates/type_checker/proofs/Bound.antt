@@ -8,13 +8,12 @@ use Rattle.pddl_parser.specs.declared.types.Init.{Init}
 use Rattle.pddl_parser.specs.declared.types.Problem.{Problem}
 use Rattle.lists.proofs.Items.{Among}
 use Rattle.type_checker.specs.Faults.{check_faults}
-use Rattle.type_checker.specs.Rows.{unbound_row}
 use Rattle.type_checker.specs.Scopes.{in_condition, in_action, in_axiom, in_domain, in_init, in_problem}
 use Rattle.type_checker.proofs.NoFaults.{left_empty, right_empty, piece_empty, row_empty}
 
 module _ (domain : Domain) (problem : Problem) (none : check_faults domain problem ≡ []) where
   pub all_bound : (in_domain domain ≡ []) × (in_problem problem ≡ [])
-  all_bound = row_empty domain problem none (unbound_row domain problem) (inr (inr (inr (inr (inr (inr (inr (inl refl))))))))
+  all_bound = row_empty domain problem none _ (inr (inr (inr (inr (inr (inr (inr (inl refl))))))))
 
   pub action_bound : (action : Action) → Among action domain.actions → in_action action ≡ []
   action_bound = piece_empty in_action domain.actions (left_empty (flat_map in_action domain.actions) (flat_map in_axiom domain.axioms) all_bound.0)

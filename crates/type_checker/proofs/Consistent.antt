@@ -18,7 +18,6 @@ use Rattle.lists.proofs.Items.{each_passes}
 use Rattle.type_checker.specs.Faultless.{denies_none, is_value, gives_the_value}
 use Rattle.type_checker.specs.Faults.{check_faults}
 use Rattle.type_checker.specs.Initial.{denied_line, is_another, revalued_line, revalued_after}
-use Rattle.type_checker.specs.Rows.{denied_row, revalued_row}
 use Rattle.type_checker.proofs.NoFaults.{left_empty, right_empty, piece_empty, row_empty}
 
 denies : (init : List Init) (entry : Init) → denied_line init entry ≡ [] → denies_none init entry ≡ true
@@ -73,10 +72,10 @@ all_give before (entry ∷ more) none =
 module _ (domain : Domain) (problem : Problem) (none : check_faults domain problem ≡ []) where
   pub no_conflict : list_all (denies_none problem.init) problem.init ≡ true
   no_conflict =
-      let lines = row_empty domain problem none (denied_row domain problem) (inr (inr (inr (inr (inr (inr (inr (inr (inr (inr (inl refl))))))))))) in
+      let lines = row_empty domain problem none _ (inr (inr (inr (inr (inr (inr (inr (inr (inr (inr (inl refl))))))))))) in
       each_passes (denies_none problem.init) problem.init (λ entry among. denies problem.init entry (piece_empty (denied_line problem.init) problem.init lines.1 entry among))
 
   pub one_value : list_all (gives_the_value problem.init) problem.init ≡ true
   one_value =
-      let lines = row_empty domain problem none (revalued_row domain problem) (inr (inr (inr (inr (inr (inr (inr (inr (inr (inr (inr (inl refl)))))))))))) in
+      let lines = row_empty domain problem none _ (inr (inr (inr (inr (inr (inr (inr (inr (inr (inr (inr (inl refl)))))))))))) in
       all_give [] problem.init lines.1

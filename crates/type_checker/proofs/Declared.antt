@@ -16,7 +16,6 @@ use Rattle.type_checker.specs.Faults.{check_faults}
 use Rattle.type_checker.specs.Increases.{total_cost}
 use Rattle.type_checker.specs.Mentions.{Mention, Use, predicate_uses, function_uses, arguments, in_domain, in_problem}
 use Rattle.type_checker.specs.Names.{has_arity, is_declared, is_function, is_well_used, use_lines, total_cost_heads, wrong_uses, unknown_object, unknown_objects}
-use Rattle.type_checker.specs.Rows.{arities_row, unknown_objects_row}
 use Rattle.type_checker.proofs.NoFaults.{left_empty, right_empty, row_empty, all_pass, all_pieces, all_of_both}
 
 -- ---- predicates and functions
@@ -58,7 +57,7 @@ module _ (domain : Domain) (problem : Problem) where
   module _ (none : check_faults domain problem ≡ []) where
     arities : (wrong_uses domain (in_domain domain) ≡ []) × (wrong_uses domain (in_problem problem) ≡ [])
     arities =
-        let lines = row_empty domain problem none (arities_row domain problem) (inr (inr (inr (inr (inr (inl refl)))))) in
+        let lines = row_empty domain problem none _ (inr (inr (inr (inr (inr (inl refl)))))) in
         (right_empty (total_cost_heads domain) (wrong_uses domain (in_domain domain)) lines.0, lines.1)
 
     pub predicates_declared : list_all (has_predicate domain) (mentions domain problem) ≡ true
@@ -69,7 +68,7 @@ module _ (domain : Domain) (problem : Problem) where
 
     pub objects_known : list_all (has_objects domain problem) (mentions domain problem) ≡ true
     objects_known =
-        let lines = row_empty domain problem none (unknown_objects_row domain problem) (inr (inr (inr (inr (inr (inr (inl refl))))))) in
+        let lines = row_empty domain problem none _ (inr (inr (inr (inr (inr (inr (inl refl))))))) in
         all_of_both (has_objects domain problem) (in_domain domain) (in_problem problem) (objects_pass (in_domain domain) lines.0) (objects_pass (in_problem problem) lines.1)
 
 -- ---- the same in other words

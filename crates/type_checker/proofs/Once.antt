@@ -16,7 +16,6 @@ use Rattle.lists.proofs.Items.{Among}
 use Rattle.type_checker.specs.Faults.{check_faults}
 use Rattle.type_checker.specs.Mentions.{in_domain, in_problem}
 use Rattle.type_checker.specs.Names.{repeats_after, repeats, names_of, head_names, repeated_variables, domain_repeats, problem_repeats}
-use Rattle.type_checker.specs.Rows.{repeats_row}
 use Rattle.type_checker.proofs.NoFaults.{left_empty, right_empty, row_empty}
 
 -- ---- lists of names
@@ -74,7 +73,7 @@ distinct_both (x ∷ xs) ys left right apart = (differ_both x xs ys left.0 (apar
 
 module _ (domain : Domain) (problem : Problem) (none : check_faults domain problem ≡ []) where
   lines : (domain_repeats domain ≡ []) × (problem_repeats domain problem ≡ [])
-  lines = row_empty domain problem none (repeats_row domain problem) (inr (inr (inl refl)))
+  lines = row_empty domain problem none _ (inr (inr (inl refl)))
 
   abbrev action_names : List Named
   action_names = map (λ action. action.name) domain.actions

@@ -21,7 +21,6 @@ use Rattle.type_checker.specs.Faults.{check_faults}
 use Rattle.type_checker.specs.Increases.{Increase, total_cost, joined_depth, may_stand, is_proper, is_total_cost_term, increases_step, increases, ill_formed}
 use Rattle.type_checker.specs.Mentions.{Mention, Variables, Function, use_of, in_condition, in_effect, in_action, effect_step}
 use Rattle.type_checker.specs.Names.{has_arity, is_declared, is_well_used}
-use Rattle.type_checker.specs.Rows.{increases_row}
 use Rattle.type_checker.specs.Scopes as scopes
 use Rattle.type_checker.specs.Scopes.{Scope, inside_of}
 use Rattle.type_checker.proofs.Bound.{action_bound}
@@ -194,7 +193,7 @@ module _ (domain : Domain) (problem : Problem) where
   module _ (none : check_faults domain problem ≡ []) where
     pub one_increase : (action : Action) → Among action domain.actions → is_one_cost (increases action.effect Outermost) ≡ true
     one_increase action among =
-        let lines = row_empty domain problem none (increases_row domain problem) (inr (inr (inr (inr (inr (inr (inr (inr (inr (inr (inr (inr (inl refl))))))))))))) in
+        let lines = row_empty domain problem none _ (inr (inr (inr (inr (inr (inr (inr (inr (inr (inr (inr (inr (inl refl))))))))))))) in
         one_cost (increases action.effect Outermost) (piece_empty (λ action. ill_formed (increases action.effect Outermost)) domain.actions lines.0 action among)
 
     pub at_most_one : (action : Action) → Among action domain.actions → nat_le (length (step.increases action.effect)) 1 ≡ true
