@@ -1,0 +1,6 @@
+pub mod Meaning
+pub mod Numbers
+pub mod Parts
+pub mod Normalised
+pub mod Lawful
+pub mod Same
