@@ -1,0 +1,51 @@
+//! The top call on the real files and the standard output.
+
+use super::{DOMAIN, PROBLEM, TEXT};
+use crate::{Status, translate};
+use std::alloc::AllocError;
+use std::fs;
+use std::test::*;
+use tl_device::{RealConsole, RealFiles};
+
+fn words(rt: &HostRuntime, names: [&str; 3]) -> Result<Vec<String>, AllocError> {
+    let mut words = Vec::new(rt.alloc());
+    for name in names {
+        words.push(String::from_str(rt.alloc(), name)?)?;
+    }
+    Ok(words)
+}
+
+fn answers(rt: &HostRuntime, names: [&str; 3], status: Status) -> Result<bool, AllocError> {
+    let mut files = RealFiles::new(rt);
+    let mut console = RealConsole::new(rt);
+    Ok(translate(rt.alloc(), words(rt, names)?, &mut files, &mut console) == status)
+}
+
+fn holds(rt: &HostRuntime, name: &str, bytes: &[u8]) -> bool {
+    matches!(fs::read(rt, name), Ok(held) if held.as_slice() == bytes)
+}
+
+// The files of the test lie where it runs, and it removes them.
+static DOMAIN_NAME: &str = "translate_real_domain";
+
+static PROBLEM_NAME: &str = "translate_real_problem";
+
+#[test]
+fn the_switch_task_is_written_to_the_real_output_file(rt: HostRuntime) -> Result<(), Fail> {
+    fs::write(&rt, DOMAIN_NAME, DOMAIN)?;
+    fs::write(&rt, PROBLEM_NAME, PROBLEM)?;
+    fs::write(&rt, "output.sas", TEXT.repeat(rt.alloc(), 2)?.as_slice())?;
+    assert!(rt;
+        answers(
+            &rt,
+            ["translate", DOMAIN_NAME, "translate_no_file"],
+            Status::Device
+        )?
+    );
+    assert!(rt; answers(&rt, ["translate", DOMAIN_NAME, PROBLEM_NAME], Status::Done)?);
+    assert!(rt; holds(&rt, "output.sas", TEXT));
+    for name in [DOMAIN_NAME, PROBLEM_NAME, "output.sas"] {
+        fs::remove_file(&rt, name)?;
+    }
+    Ok(())
+}
