@@ -1,25 +1,21 @@
 -- What the parts of a condition and of its new predicates ask for: predicates that the condition asks for, and new ones of the condition's own that are numbered behind.
-use Rattle.std.proofs.Common.{◌≡◌, ℕ, suc, ◌+◌, ◌<◌, ◌≤◌, Bool, true, false, not, List, [], ◌∷◌, ◌++◌, map, length, refl, sym, ap, ◌∙◌, subst, arith, inl, inr, ◌⊎◌}
+use Rattle.std.proofs.Common.{◌≡◌, ℕ, suc, ◌+◌, ◌<◌, ◌≤◌, Bool, true, false, not, List, [], ◌∷◌, ◌++◌, map, length, refl, sym, subst, arith, inl, inr, ◌⊎◌}
 use Rattle.std.specs.Prelude.{if◌then◌else◌}
 use Rattle.std.specs.List.{flat_map}
-use Rattle.pddl_parser.specs.declared.types.Atom.{Atom}
 use Rattle.pddl_parser.specs.declared.types.Condition.{Condition}
 use Rattle.pddl_parser.specs.declared.types.Domain.{Domain}
 use Rattle.pddl_parser.specs.declared.types.Effect.{Effect}
 use Rattle.pddl_parser.specs.declared.types.Named.{Named}
 use Rattle.pddl_parser.specs.declared.types.Problem.{Problem}
-use Rattle.pddl_parser.specs.declared.types.Term.{Term}
 use Rattle.pddl_parser.specs.declared.types.Typed.{Typed}
 use Rattle.pddl_parser.proofs.ConditionCases.{Each}
 use Rattle.type_checker.specs.Mentions.{Mention, Asked, asked_predicates, in_condition, condition_step, in_effect, effect_step}
 use Rattle.lists.proofs.Items.{Among, among_left, among_right, among_which, map_source, flat_map_piece}
-use Rattle.normaliser.specs.declared.task.EffectRow.{EffectRow}
 use Rattle.normaliser.specs.declared.task.Literal.{Literal}
 use Rattle.normaliser.specs.declared.task.Literal.TheVariants.{Holds, Equal}
-use Rattle.normaliser.specs.declared.task.Place.{Place}
 use Rattle.normaliser.specs.Numbers.{predicate_number, ranges_of}
 use Rattle.normaliser.specs.Parts.{Slot, Scope, renumbered, Part, Fresh, Made, in_turn, all_of, moved, joined, paired, with_variables, Known, place_of, fresh_number, free_slots, exists_inside, none_inside, known_step, known, parts}
-use Rattle.normaliser.specs.Normalised.{Rows, written, row_step, rows_of}
+use Rattle.normaliser.specs.Normalised.{Rows, row_step, rows_of}
 use Rattle.normaliser.proofs.Scopes.{length-append}
 use Rattle.normaliser.proofs.ThreeFolds.{by_folds}
 use Rattle.normaliser.proofs.FourFolds as four

@@ -3,7 +3,7 @@ use Rattle.std.proofs.Common.{◌≡◌, ℕ, ◌+◌, Bool, true, false, not, �
 use Rattle.std.specs.List.{list_all}
 use Rattle.std.proofs.lemmas.Bool.{and_parts}
 use Rattle.runs.proofs.Systems.{state_follows}
-use Rattle.planning.specs.Task.{Takes, IsIdle, changed, successor}
+use Rattle.planning.specs.Task.{IsIdle, changed, successor}
 use Rattle.planning.specs.Plan.{system}
 use Rattle.planning.specs.Same.{SameRuns, IdleWhereFollowed}
 use Rattle.planning.proofs.SameRuns.{same_plans}

@@ -25,7 +25,6 @@ use Rattle.normaliser.specs.declared.task.GroundAtom.{GroundAtom}
 use Rattle.normaliser.specs.Numbers.{object_names, head_names, predicate_number, ranges_of}
 use Rattle.normaliser.specs.Meaning as task
 use Rattle.normaliser.specs.Meaning.{atom_of, State, Binding, objects_at, choices, answers, is_met, are_met}
-use Rattle.normaliser.proofs.Chosen.{is_choice}
 use Rattle.normaliser.specs.Parts.{Scope, scope_inside, Part, Made, in_turn, all_of, place_of, known, parts}
 use Rattle.normaliser.specs.Normalised.{Rows, effect_row, written, row_with_variables, row_step, rows_of, numbered_atom}
 use Rattle.normaliser.specs.Same.{is_known_atom}

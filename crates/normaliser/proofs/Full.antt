@@ -26,7 +26,6 @@ use Rattle.normaliser.specs.declared.task.AxiomRow.{AxiomRow}
 use Rattle.normaliser.specs.declared.task.GroundAtom.{GroundAtom}
 use Rattle.normaliser.specs.declared.task.Normal.{Normal}
 use Rattle.normaliser.specs.declared.task.PredicateRow.{PredicateRow}
-use Rattle.normaliser.specs.declared.task.Schema.{Schema}
 use Rattle.normaliser.specs.Numbers.{number_in, object_names, head_names, predicate_number, ranges_of}
 use Rattle.normaliser.specs.Meaning as task
 use Rattle.normaliser.specs.Meaning.{atom_of, State, Binding, objects_at, choices, answers, is_met, are_met}

@@ -35,7 +35,7 @@ use Rattle.normaliser.specs.Numbers.{object_number, predicate_number, function_n
 use Rattle.normaliser.proofs.Faultless.{all_flat_map}
 use Rattle.normaliser.proofs.OnceEach.{once-passes}
 use Rattle.normaliser.proofs.PredicateTable.{declared-basic}
-use Rattle.normaliser.proofs.Ranges.{object-is}
+use Rattle.normaliser.proofs.RisingRanges.{object-is}
 use Rattle.normaliser.proofs.Scopes.{length-map}
 
 module _ (domain : Domain) (problem : Problem) where

@@ -17,7 +17,6 @@ use Rattle.normaliser.specs.declared.task.GroundAtom.{GroundAtom}
 use Rattle.normaliser.specs.declared.task.Literal.{Literal}
 use Rattle.normaliser.specs.Meaning as task
 use Rattle.normaliser.specs.Meaning.{normal_task, atom_of, State, are_met}
-use Rattle.normaliser.proofs.Chosen.{is_choice}
 use Rattle.normaliser.specs.Parts.{Part, Fresh}
 use Rattle.normaliser.specs.Normalised.{numbered_atom, stated, once_after, made_schemas, made_axioms, after_axioms, goal_parts, goal_atom, goal_of}
 use Rattle.normaliser.specs.Same.{is_known_atom, Shows}

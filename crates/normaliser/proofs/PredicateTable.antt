@@ -29,7 +29,7 @@ use Rattle.normaliser.proofs.Alls.{all-both, all-images}
 use Rattle.normaliser.proofs.Chosen.{eq-itself}
 use Rattle.normaliser.proofs.Full.{within-left, heads-length, number-below}
 use Rattle.normaliser.proofs.NameWords.{spelled-word, fresh-word, all-tested}
-use Rattle.normaliser.proofs.Ranges.{number-first, number-behind}
+use Rattle.normaliser.proofs.RisingRanges.{number-first, number-behind}
 use Rattle.normaliser.proofs.Scopes.{length-append}
 
 at-seam : {X : Type 0} (before : List X) (item : X) (behind : List X) → slice_get (before ++ item ∷ behind) (length before) ≡ Some item

@@ -1,21 +1,21 @@
 -- No derived predicate of the normal task of a checked pair depends on itself: predicates have ranks that fall along axioms.
-use Rattle.std.proofs.Common.{◌≡◌, ℕ, zero, suc, ◌+◌, ◌<◌, ◌≤◌, Bool, true, false, not, ◌&&◌, List, [], ◌∷◌, ◌++◌, map, length, refl, sym, ap, ◌∙◌, subst, arith, inl, inr, ◌⊎◌, nat_eq}
+use Rattle.std.proofs.Common.{◌≡◌, ℕ, zero, suc, ◌+◌, ◌<◌, ◌≤◌, Bool, true, false, ◌&&◌, List, [], ◌∷◌, ◌++◌, map, length, refl, sym, ap, ◌∙◌, subst, arith, inl, inr, ◌⊎◌, nat_eq}
 use Rattle.std.specs.Prelude.{nat_lt, ◌==◌, if◌then◌else◌}
-use Rattle.std.specs.List.{flat_map, list_all}
+use Rattle.std.specs.List.{flat_map}
 use Rattle.std.proofs.lemmas.Bool.{and_parts, ltb-true, ltb-false, eqb-true, eq-eqb}
 use Rattle.pddl_parser.specs.declared.types.Action.{Action}
 use Rattle.pddl_parser.specs.declared.types.Derived.{Derived}
 use Rattle.pddl_parser.specs.declared.types.Domain.{Domain}
 use Rattle.pddl_parser.specs.declared.types.Named.{Named}
 use Rattle.pddl_parser.specs.declared.types.Problem.{Problem}
-use Rattle.pddl_parser.specs.Words.{Name, is_same}
+use Rattle.pddl_parser.specs.Words.{Name}
 use Rattle.pddl_parser.proofs.ConditionCases.{Each}
 use Rattle.pddl_parser.proofs.SameAtoms.{same_name}
 use Rattle.names.specs.Links.{Link, link}
 use Rattle.names.proofs.Chains.{Ends, chains_end}
 use Rattle.type_checker.specs.Faults.{check_faults}
 use Rattle.type_checker.specs.Links.{dependence_links, axiom_links}
-use Rattle.type_checker.specs.Mentions.{Mention, Variables, Derives, Asked, Written, Function, Compared, asked_predicates, in_condition, in_effect, in_action, in_problem, in_init}
+use Rattle.type_checker.specs.Mentions.{Mention, Variables, Derives, Asked, Written, Function, Compared, asked_predicates, in_condition, in_effect, in_action, in_init}
 use Rattle.type_checker.proofs.NoFaults.{no_cycles}
 use Rattle.lists.proofs.Items.{Among, among_left, among_right, among_which, among_map, Source, map_source, all_passes, among_flat_map}
 use Rattle.normaliser.specs.declared.task.AxiomRow.{AxiomRow}
@@ -25,8 +25,8 @@ use Rattle.normaliser.specs.declared.task.Normal.{Normal}
 use Rattle.normaliser.specs.declared.task.Place.{Place}
 use Rattle.normaliser.specs.Numbers.{head_names, predicate_number, ranges_of}
 use Rattle.normaliser.specs.Parts.{Part, Fresh, Made, in_turn, fresh_number}
-use Rattle.normaliser.specs.Normalised.{parameter_scope, precondition_parts, effect_rows, schemas, axiom_row, body_parts, axiom_rows, fresh_rows, goal_parts, goal_of, made_schemas, made_axioms, made_goal, after_schemas, after_axioms, all_fresh, normal}
-use Rattle.normaliser.proofs.Alls.{all-left, all-right}
+use Rattle.normaliser.specs.Normalised.{parameter_scope, precondition_parts, effect_rows, schemas, axiom_row, body_parts, axiom_rows, fresh_rows, goal_parts, made_schemas, made_axioms, made_goal, after_schemas, after_axioms, all_fresh, normal}
+use Rattle.normaliser.proofs.Alls.{all-right}
 use Rattle.normaliser.proofs.Asks.{IsAsked, PartsAsk, FreshAsks, MadeAsks, condition-asks, effect-asks}
 use Rattle.normaliser.proofs.ConditionsMean.{same-number}
 use Rattle.normaliser.proofs.Faultless.{rules_sound, action_mentioned, known_in_problem}

@@ -66,7 +66,7 @@ wider scope around more name fewer is = record { slot = is.slot; found = is.foun
 in_scope-behind : (slot : Slot) (outer : Scope) (around : ℕ) (name : Name) → is_same slot.variable name ≡ false → InScope outer around name → InScope (slot ∷ outer) around name
 in_scope-behind slot outer around name other is = record { slot = is.slot; found = slot-behind slot outer name other ∙ is.found; within = is.within }
 
-renumbered-more : (slots : List Slot) (slot : Slot) (place : ℕ) (outer : Scope) →
+pub renumbered-more : (slots : List Slot) (slot : Slot) (place : ℕ) (outer : Scope) →
     renumbered (slots ++ slot ∷ []) place outer ≡ with_slot (place + length slots) slot.variable slot.range (renumbered slots place outer)
 renumbered-more [] slot place outer = let same : place ≡ place + length {A = Slot} [] = omega arith in ap (λ (p : ℕ). with_slot p slot.variable slot.range outer) same
 renumbered-more (first ∷ slots) slot place outer =

@@ -1,5 +1,5 @@
 -- Where things made one after another stand.
-use Rattle.std.proofs.Common.{◌≡◌, ℕ, zero, suc, ◌+◌, List, [], ◌∷◌, ◌++◌, map, length, Option, Some, None, refl, ap, subst, inl, inr, ◌⊎◌}
+use Rattle.std.proofs.Common.{ℕ, ◌+◌, List, [], ◌∷◌, ◌++◌, map, length, refl, subst, inl, inr, ◌⊎◌}
 use Rattle.lists.proofs.Items.{Among, among_left, among_right}
 use Rattle.normaliser.specs.Meaning.{State}
 use Rattle.normaliser.specs.Parts.{Made, in_turn}

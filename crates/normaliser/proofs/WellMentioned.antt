@@ -25,7 +25,7 @@ use Rattle.normaliser.proofs.EffectsFit.{AllInScope}
 use Rattle.normaliser.proofs.KnownEffects.{is_change, AreChanges}
 use Rattle.normaliser.proofs.KnownParts.{all-by_both, HasTables, well_mentioned, AreWell}
 use Rattle.normaliser.proofs.PredicateTable.{declared-arity, declared-changed}
-use Rattle.normaliser.proofs.Ranges.{object-is, range-is}
+use Rattle.normaliser.proofs.RisingRanges.{object-is, range-is}
 use Rattle.normaliser.proofs.Scopes.{InScope, inside-in_scope, same-itself}
 
 module _ (domain : Domain) (problem : Problem) where

@@ -3,4 +3,8 @@ pub mod Numbers
 pub mod Parts
 pub mod Normalised
 pub mod Lawful
+pub mod Code
+pub mod Within
 pub mod Same
+pub mod IsWritten
+pub mod MadeThings

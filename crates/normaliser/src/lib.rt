@@ -1,14 +1,28 @@
-//! Normal tasks: what a domain and a problem come to as schemas, axioms and a goal that are lists of literals over
-//! numbered objects and predicates.
-//!
-//! The crate has the types, the definition of the normal task and its laws. It doesn't make the normal task yet.
+//! Normal tasks.
 #![tactic(auto)]
 
+mod axioms;
+mod cut;
+mod effects;
+mod free;
+mod goal;
+mod increases;
+mod initial;
+mod keys;
 pub mod laws;
+mod made;
+mod moved;
+mod normal;
+mod numbering;
 mod parts;
+mod predicates;
+mod rows;
+mod schemas;
+mod scope;
+mod slots;
 mod task;
 
-pub use parts::{Fresh, Part, Slot};
+pub use normal::normalise;
 pub use task::{
     AxiomRow, CostRow, EffectRow, GroundAtom, Literal, Normal, Place, PredicateRow, Schema,
     ValueRow,

@@ -1,0 +1,6 @@
+use Rattle.std.proofs.Common.{◌≡◌, take}
+use Rattle.normaliser.specs.Numbers as spec
+use Rattle.normaliser.proofs.numbering.Numbering.ranges.Given as goal
+
+abbrev pub invariant-loop-variable : goal.invariant-loop-variable
+invariant-loop-variable l = l.ranges.items ≡ spec.ranges_of l.self.domain l.self.problem (take l.variable-index l.variables)

@@ -1,0 +1,13 @@
+use Rattle.std.proofs.Common.{◌≡◌, ◌≤◌, length, take, drop}
+use Rattle.normaliser.specs.Code.{is_asked}
+use Rattle.normaliser.specs.Parts.{slots_for}
+use Rattle.normaliser.proofs.slots.free_slots.Given as goal
+
+abbrev pub decreases-loop-left : goal.decreases-loop-left
+decreases-loop-left l = l.left
+
+abbrev pub invariant-loop-left : goal.invariant-loop-left
+invariant-loop-left l = record {
+  within : l.left ≤ length l.scope;
+  so_far : l.slots.items ≡ slots_for (is_asked l.numbering.domain l.numbering.problem l.variables l.inside (take l.left l.scope)) (drop l.left l.scope);
+}

@@ -1,0 +1,276 @@
+// The effects of an action.
+ghost use Rattle.std.specs.Prelude.{◌≡◌, ◌++◌, ◌∷◌, [], map, IfOk, OnOk};
+ghost use Rattle.normaliser.specs.Code.{IsMade};
+ghost use Rattle.normaliser.specs.MadeThings.{IsMadeOf, changed_row, cuts_of};
+ghost use Rattle.normaliser.specs.Normalised as spec;
+ghost use Rattle.normaliser.specs.Parts as parts;
+
+use crate::cut::{MadeParts, cut, paired, truth};
+use crate::made::Made;
+use crate::moved::sum;
+use crate::numbering::Numbering;
+use crate::parts::{Part, Slot, copied_places};
+use crate::rows::{copied_literals, copied_ranges, joined_ranges};
+use crate::scope::{places_of, scope_inside};
+use crate::task::{EffectRow, Place};
+use lists::List;
+use pddl_parser::{Atom, Condition, Effect};
+use std::alloc::{AllocError, Global};
+
+/// A condition that is required around an effect, and the variables around it.
+#[derive(Clone, Copy)]
+pub(crate) struct Required<'a> {
+    pub(crate) condition: &'a Condition,
+    pub(crate) scope: &'a [Slot],
+}
+
+/// What stands around an effect: the conditions that are required, the outermost first, and the variables.
+#[derive(Clone, Copy)]
+pub(crate) struct Around<'a> {
+    pub(crate) required: &'a [Required<'a>],
+    pub(crate) scope: &'a [Slot],
+    /// How many variables there are.
+    pub(crate) count: u64,
+}
+
+// ---- one atom
+
+/// Every pairing of the parts of what is required.
+fn cut_required(
+    alloc: Global,
+    numbering: &Numbering<'_>,
+    required: &[Required<'_>],
+    around: u64,
+    next: u64,
+) -> Result<MadeParts, AllocError>
+    ensures { IfOk result (IsMade (parts.all_of around (map (λ cut. cut around) (cuts_of numbering.now.domain numbering.now.problem required.now)) next)) }
+{
+    let mut all = truth(alloc)?.items;
+    let mut fresh = Vec::new(alloc);
+    for one in required {
+        let start = sum(next, fresh.len() as u64)?;
+        let made = cut(
+            alloc,
+            numbering,
+            one.condition,
+            true,
+            one.scope,
+            around,
+            start,
+        )?;
+        all = paired(alloc, around, all.as_slice(), made.items.as_slice())?;
+        fresh.append(&mut made.fresh.into_vec())?;
+    }
+    Ok(MadeParts {
+        items: all,
+        fresh: List::from_vec(fresh),
+    })
+}
+
+/// An atom that is added or deleted, by its number, and the places of its arguments.
+#[derive(Clone, Copy)]
+struct Change<'a> {
+    adds: bool,
+    predicate: u64,
+    places: &'a [Place],
+}
+
+fn effect_row(alloc: Global, change: &Change<'_>, part: &Part) -> Result<EffectRow, AllocError>
+    ensures { IfOk result (λ row. row ≡ changed_row change.now part.now) }
+{
+    Ok(EffectRow {
+        variables: copied_ranges(alloc, part.variables.as_slice())?,
+        condition: copied_literals(alloc, part.literals.as_slice())?,
+        adds: change.adds,
+        predicate: change.predicate,
+        places: copied_places(alloc, change.places)?,
+    })
+}
+
+/// An effect for each part.
+fn effect_rows(
+    alloc: Global,
+    change: &Change<'_>,
+    parts: &[Part],
+) -> Result<List<EffectRow>, AllocError>
+    ensures { IfOk result (λ rows. rows ≡ map (changed_row change.now) parts.now) }
+{
+    let mut rows = Vec::new(alloc);
+    for part in parts {
+        rows.push(effect_row(alloc, change, part)?)?;
+    }
+    Ok(List::from_vec(rows))
+}
+
+/// The atom is written for each part of what is required.
+fn written(
+    alloc: Global,
+    numbering: &Numbering<'_>,
+    adds: bool,
+    atom: &Atom,
+    around: &Around<'_>,
+    next: u64,
+) -> Result<Made<EffectRow>, AllocError>
+    ensures { IfOk result (IsMadeOf (spec.written numbering.now.domain numbering.now.problem adds atom.now (cuts_of numbering.now.domain numbering.now.problem around.now.required.now) around.now.scope.now around.now.count next)) }
+{
+    let parts = cut_required(alloc, numbering, around.required, around.count, next)?;
+    let places = places_of(alloc, numbering, around.scope, atom.terms.as_slice())?;
+    let change = Change {
+        adds,
+        predicate: numbering.predicate(atom.predicate.name.as_slice()),
+        places: places.as_slice(),
+    };
+    let items = effect_rows(alloc, &change, parts.items.as_slice())?;
+    Ok(Made {
+        items,
+        fresh: parts.fresh,
+    })
+}
+
+// ---- effects
+
+/// The list with one condition more.
+fn with_required<'a>(
+    alloc: Global,
+    required: &[Required<'a>],
+    last: Required<'a>,
+) -> Result<Vec<Required<'a>>, AllocError>
+    ensures { IfOk result (λ longer. longer.items ≡ required.now ++ last.entry ∷ []) }
+{
+    let mut longer = Vec::from_slice(alloc, required)?;
+    longer.push(last)?;
+    Ok(longer)
+}
+
+/// The effect with more variables before its own.
+fn row_with_variables(
+    alloc: Global,
+    variables: &[List<u64>],
+    row: &EffectRow,
+) -> Result<EffectRow, AllocError>
+    ensures { IfOk result (λ longer. longer ≡ record {
+      variables = variables.now ++ row.now.variables;
+      condition = row.now.condition;
+      adds = row.now.adds;
+      predicate = row.now.predicate;
+      places = row.now.places;
+    }) }
+{
+    Ok(EffectRow {
+        variables: joined_ranges(alloc, variables, row.variables.as_slice())?,
+        condition: copied_literals(alloc, row.condition.as_slice())?,
+        adds: row.adds,
+        predicate: row.predicate,
+        places: copied_places(alloc, row.places.as_slice())?,
+    })
+}
+
+/// The effects with more variables before their own.
+fn rows_with_variables(
+    alloc: Global,
+    variables: &[List<u64>],
+    rows: &[EffectRow],
+) -> Result<List<EffectRow>, AllocError>
+    ensures { IfOk result (λ longer. longer ≡ map (λ row. record {
+      variables = variables.now ++ row.variables;
+      condition = row.condition;
+      adds = row.adds;
+      predicate = row.predicate;
+      places = row.places;
+    }) rows.now) }
+{
+    let mut longer = Vec::new(alloc);
+    for row in rows {
+        longer.push(row_with_variables(alloc, variables, row)?)?;
+    }
+    Ok(List::from_vec(longer))
+}
+
+fn no_rows(alloc: Global) -> Made<EffectRow>
+    ensures { IsMadeOf (parts.in_turn [] 0) result }
+{
+    Made {
+        items: List::from_vec(Vec::new(alloc)),
+        fresh: List::from_vec(Vec::new(alloc)),
+    }
+}
+
+/// The effects that stand in the effect. Each condition is cut anew for each atom that is written under it, once all
+/// variables around the atom are known.
+#[cycle(rows_of)]
+pub(crate) fn rows_of(
+    alloc: Global,
+    numbering: &Numbering<'_>,
+    effect: &Effect,
+    around: &Around<'_>,
+    next: u64,
+) -> Result<Made<EffectRow>, AllocError>
+    ensures { IfOk result (IsMadeOf (spec.rows_of numbering.now.domain numbering.now.problem effect.now (cuts_of numbering.now.domain numbering.now.problem around.now.required.now) around.now.scope.now around.now.count next)) }
+{
+    match effect {
+        Effect::Nothing(_) | Effect::Increase(_, _, _) => Ok(no_rows(alloc)),
+        Effect::Add(atom) => written(alloc, numbering, true, atom, around, next),
+        Effect::Delete(atom) => written(alloc, numbering, false, atom, around, next),
+        Effect::And(members, _) => {
+            rows_of_all(alloc, numbering, members.as_slice(), around, next)
+        }
+        Effect::When(condition, inside, _) => {
+            let last = Required {
+                condition,
+                scope: around.scope,
+            };
+            let required = with_required(alloc, around.required, last)?;
+            let inner = Around {
+                required: required.as_slice(),
+                scope: around.scope,
+                count: around.count,
+            };
+            rows_of(alloc, numbering, inside.get(), &inner, next)
+        }
+        Effect::Forall(variables, inside, _) => {
+            let scope = scope_inside(
+                alloc,
+                numbering,
+                variables.as_slice(),
+                around.count,
+                around.scope,
+            )?;
+            let inner = Around {
+                required: around.required,
+                scope: scope.as_slice(),
+                count: sum(around.count, variables.as_slice().len() as u64)?,
+            };
+            let made = rows_of(alloc, numbering, inside.get(), &inner, next)?;
+            let ranges = numbering.ranges(alloc, variables.as_slice())?;
+            Ok(Made {
+                items: rows_with_variables(alloc, ranges.as_slice(), made.items.as_slice())?,
+                fresh: made.fresh,
+            })
+        }
+    }
+}
+
+/// The effects of the members, one after another.
+#[cycle(rows_of)]
+fn rows_of_all(
+    alloc: Global,
+    numbering: &Numbering<'_>,
+    members: &[Effect],
+    around: &Around<'_>,
+    next: u64,
+) -> Result<Made<EffectRow>, AllocError>
+    ensures { IfOk result (IsMadeOf (parts.in_turn (map (λ member. member (cuts_of numbering.now.domain numbering.now.problem around.now.required.now) around.now.scope.now around.now.count) (map (spec.rows_of numbering.now.domain numbering.now.problem) members.now)) next)) }
+{
+    let mut items = Vec::new(alloc);
+    let mut fresh = Vec::new(alloc);
+    for member in members {
+        let start = sum(next, fresh.len() as u64)?;
+        let made = rows_of(alloc, numbering, member, around, start)?;
+        items.append(&mut made.items.into_vec())?;
+        fresh.append(&mut made.fresh.into_vec())?;
+    }
+    Ok(Made {
+        items: List::from_vec(items),
+        fresh: List::from_vec(fresh),
+    })
+}

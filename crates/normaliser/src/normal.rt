@@ -1,0 +1,118 @@
+// The normal task of a checked pair.
+ghost use Rattle.std.specs.Prelude.{◌≡◌, ◌++◌, ◌∷◌, [], map, length, true, IfOk, OnOk};
+ghost use Rattle.pddl_parser.specs.Objects.{objects};
+ghost use Rattle.normaliser.specs.MadeThings.{IsMadeAll};
+ghost use Rattle.normaliser.specs.Normalised as spec;
+ghost use Rattle.normaliser.specs.Numbers as numbers;
+
+use crate::axioms::{axioms_of, push_fresh_axioms};
+use crate::cut::cut;
+use crate::goal::goal_of;
+use crate::initial::{stated_atoms, stated_values};
+use crate::moved::sum;
+use crate::numbering::Numbering;
+use crate::parts::Fresh;
+use crate::predicates::predicate_rows;
+use crate::schemas::{joined_fresh, schemas_of};
+use crate::task::{AxiomRow, Literal, Normal, Schema};
+use lists::{List, Text};
+use pddl_parser::Typed;
+use std::alloc::{AllocError, Global};
+use type_checker::Checked;
+
+/// Adds the names of the objects.
+fn push_names(names: &mut Vec<Text>, objects: &[Typed]) -> Result<(), AllocError>
+    ensures { OnOk result (names.new.items ≡ names.old.items ++ map (λ object. object.name.name) objects.now) }
+{
+    for object in objects {
+        let alloc = *names.allocator();
+        names.push(Text::from_vec(Vec::from_slice(alloc, object.name.name.as_slice())?))?;
+    }
+    Ok(())
+}
+
+/// The names of all objects.
+fn object_names(alloc: Global, numbering: &Numbering<'_>) -> Result<List<Text>, AllocError>
+    ensures { IfOk result (λ names. names ≡ numbers.object_names numbering.now.domain numbering.now.problem) }
+{
+    let mut names = Vec::new(alloc);
+    push_names(&mut names, numbering.domain().constants.as_slice())?;
+    push_names(&mut names, numbering.problem().objects.as_slice())?;
+    Ok(List::from_vec(names))
+}
+
+/// What comes of the actions, the axioms and the goal, and all new predicates.
+#[derive(Drop)]
+struct MadeAll {
+    schemas: List<Schema>,
+    axioms: List<AxiomRow>,
+    goal: List<Literal>,
+    fresh: List<Fresh>,
+}
+
+fn make_all(alloc: Global, numbering: &Numbering<'_>) -> Result<MadeAll, AllocError>
+    ensures { IfOk result (IsMadeAll numbering.now.domain numbering.now.problem) }
+{
+    let domain = numbering.domain();
+    let schemas = schemas_of(alloc, numbering, domain.actions.as_slice(), 0)?;
+    let after_schemas = schemas.fresh.as_slice().len() as u64;
+    let axioms = axioms_of(alloc, numbering, domain.axioms.as_slice(), after_schemas)?;
+    let after_axioms = sum(after_schemas, axioms.fresh.as_slice().len() as u64)?;
+    let condition = &numbering.problem().goal;
+    let parts = cut(alloc, numbering, condition, true, &[], 0, after_axioms)?;
+    let goal = goal_of(alloc, numbering, parts, after_axioms)?;
+    let later = joined_fresh(axioms.fresh, goal.fresh)?;
+    Ok(MadeAll {
+        schemas: schemas.items,
+        axioms: axioms.items,
+        goal: goal.items,
+        fresh: joined_fresh(schemas.fresh, later)?,
+    })
+}
+
+/// The axioms of the files, and then those of the new predicates.
+fn all_axioms(
+    numbering: &Numbering<'_>,
+    axioms: List<AxiomRow>,
+    fresh: &[Fresh],
+) -> Result<List<AxiomRow>, AllocError>
+    ensures { IfOk result (λ all. all ≡ axioms ++ spec.fresh_rows numbering.now.domain numbering.now.problem 0 fresh.now) }
+{
+    let mut all = axioms.into_vec();
+    push_fresh_axioms(&mut all, numbering, fresh)?;
+    Ok(List::from_vec(all))
+}
+
+fn normal_of(alloc: Global, numbering: &Numbering<'_>, made: MadeAll) -> Result<Normal, AllocError>
+    requires { IsMadeAll numbering.now.domain numbering.now.problem made }
+    ensures { IfOk result (λ normal. normal ≡ spec.normal numbering.now.domain numbering.now.problem) }
+{
+    let MadeAll {
+        schemas,
+        axioms,
+        goal,
+        fresh,
+    } = made;
+    let entries = numbering.problem().init.as_slice();
+    Ok(Normal {
+        objects: object_names(alloc, numbering)?,
+        predicates: predicate_rows(alloc, numbering.domain(), fresh.as_slice())?,
+        schemas,
+        axioms: all_axioms(numbering, axioms, fresh.as_slice())?,
+        init: stated_atoms(alloc, numbering, entries)?,
+        values: stated_values(alloc, numbering, entries)?,
+        goal,
+        metric: numbering.problem().metric,
+    })
+}
+
+/// The normal task of the two files (Helmert 2009, section 4): objects and predicates become numbers, and conditions,
+/// effects and axioms become lists of literals, with a new derived predicate for each `forall`. The only error is want
+/// of memory, also where numbers would exceed a `u64`.
+pub fn normalise(alloc: Global, task: &Checked) -> Result<Normal, AllocError>
+    ensures { IfOk result (λ normal. normal ≡ spec.normal task.now.domain task.now.problem) }
+{
+    let numbering = Numbering::of(alloc, task.domain(), task.problem())?;
+    let made = make_all(alloc, &numbering)?;
+    normal_of(alloc, &numbering, made)
+}
