@@ -7,3 +7,4 @@ mod Checks
 mod Steps
 mod Tells
 mod TextsTellTasks
+pub mod Orders
