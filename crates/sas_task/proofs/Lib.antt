@@ -1,7 +1,7 @@
 pub mod Members
 pub mod Completion
 pub mod Successors
-mod States
+pub mod States
 mod KeepsLaws
 mod Checks
 mod Steps
