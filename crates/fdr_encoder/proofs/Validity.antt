@@ -42,7 +42,7 @@ use Rattle.fdr_encoder.proofs.OneStep.{effect_from}
 use Rattle.fdr_encoder.proofs.Parts.{RuleFrom, in_one, count, count_state, variable_at, layer_at, start_at, last_variable, variable_last, layer_last, start_last, goal_whole, goal_parted, rule_from, operator_from, is_whole, is_parted, part}
 use Rattle.fdr_encoder.proofs.Standing.{derived_below, value_single, stands, literals_stand, OverBasic, kind, layer_of_basic, starts_plain}
 use Rattle.fdr_encoder.proofs.Rising.{rising_filter, range_rises, range_increases, pairs_flat_map, pairs_map, two_members}
-use Rattle.fdr_encoder.proofs.Texts.{line_is_name, variable_valid, goal_variable_valid}
+use Rattle.fdr_encoder.proofs.Texts.{named, variable_valid, goal_variable_valid}
 
 -- the variables of a combination are those that were asked for
 combination_vars : (values : ℕ → List ℕ) (vars : List ℕ) (m : List Pair) → Contains (combinations values vars) m → map (λ p. p.var) m ≡ vars
@@ -140,7 +140,7 @@ module _ (reached : Reached) (lawful : IsLawful reached) (cover : Cover) (ok : I
       let law = All-contains (IsLawfulAction reached) reached.actions a lawful.actions from.of_task in
       let raw = simplified cover from.member (effects_of cover a.effects) in
       record {
-        name = subst IsName (sym from.same.name) (line_is_name a.name law.is_name);
+        name = subst IsName (sym from.same.name) (named a.name law.name);
         conditions = subst (AreConditions task) (sym from.same.conditions) (split_conditions a.condition from.member from.in_split);
         effects = all_from_members (IsValidEffect task) o.effects (λ q q-in. simple_effect a law from.member q (Contains-permutation o.effects raw q (IsPermutation-sym raw o.effects from.same.effects) q-in));
         cost = subst (λ c. c ≤ 2147483647) (sym from.same.cost) law.small_cost;

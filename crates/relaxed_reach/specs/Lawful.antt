@@ -1,10 +1,11 @@
 -- When a reached task is lawful: its facts stand in order, its numbers are positions, its names and costs can be written, and no derived fact depends on itself.
-use Rattle.std.specs.Prelude.{◌≡◌, ◌≢◌, ℕ, ◌-◌, ◌<◌, ◌≤◌, true, false, List, length, All as Each, ⊤, nat_eq, slice_index}
+use Rattle.std.specs.Prelude.{◌≡◌, ℕ, ◌<◌, ◌≤◌, true, false, length, All as Each, ⊤, nat_eq}
 use Rattle.std.specs.List.Sorted.{IsStrictlySortedBy}
 use Rattle.normaliser.specs.Lawful.{most, differ}
 use Rattle.static_matcher.specs.declared.types.Cond.{Cond}
 use Rattle.static_matcher.specs.declared.types.GoalRow.{GoalRow}
 use Rattle.static_matcher.specs.declared.types.GoalRow.TheVariants.{Never, All}
+use Rattle.static_matcher.specs.Lawful.{is_name}
 use Rattle.static_matcher.specs.Ranked.{IsRanked}
 use Rattle.relaxed_reach.specs.declared.types.Reached.{Reached}
 use Rattle.relaxed_reach.specs.declared.types.ReachedEffect.{ReachedEffect}
@@ -13,13 +14,6 @@ use Rattle.relaxed_reach.specs.declared.types.ReachedAxiom.{ReachedAxiom}
 use Rattle.relaxed_reach.specs.ReachedTask.{is_derived, reached_task}
 use Rattle.relaxed_reach.specs.Reachable.{fact_cmp}
 use Rattle.relaxed_reach.specs.Law.{atoms_of}
-
--- at least one byte, no line feed, and no space at either end
-pub record IsLine (bytes : List ℕ) : Type 0 where
-  pub written : 0 < length bytes
-  pub one_line : Each (λ b. b ≢ 10) bytes
-  pub first : slice_index bytes 0 ≢ 32
-  pub last : slice_index bytes (length bytes - 1) ≢ 32
 
 -- each literal names a fact
 pub record NamesFacts (reached : Reached) (literals : Cond ℕ) : Type 0 where
@@ -38,7 +32,7 @@ pub record IsLawfulAction (reached : Reached) (action : ReachedAction) : Type 0 
   pub each_effect : Each (IsLawfulEffect reached) action.effects
   pub small_cost : action.cost ≤ most
   pub unit_cost : reached.metric ≡ false → action.cost ≡ 1
-  pub is_name : IsLine action.name
+  pub name : is_name action.name ≡ true
 
 -- an axiom is for a derived fact
 pub record IsLawfulAxiom (reached : Reached) (axiom' : ReachedAxiom) : Type 0 where
@@ -53,7 +47,7 @@ IsLawfulGoal reached (All literals) = NamesFacts reached literals
 -- facts stand by predicate and then objects, without repeats; the initial facts are basic, and none stands twice
 pub record IsLawful (reached : Reached) : Type 0 where
   pub in_order : IsStrictlySortedBy fact_cmp (atoms_of reached)
-  pub shown : Each (λ f. IsLine f.shown) reached.facts
+  pub shown : Each (λ f. is_name f.shown ≡ true) reached.facts
   pub init : Each (λ f. (f < length reached.facts) × (is_derived reached.facts f ≡ false)) reached.init
   pub init_once : differ nat_eq reached.init ≡ true
   pub actions : Each (IsLawfulAction reached) reached.actions
