@@ -8,8 +8,8 @@ ghost use Rattle.fdr_encoder.specs.Places.{values_in};
 ghost use Rattle.fdr_encoder.specs.Covers.{singles};
 ghost use Rattle.fdr_encoder.specs.Effects.{operators_at};
 ghost use Rattle.fdr_encoder.specs.Encoding as parts;
-ghost use Rattle.fdr_encoder.specs.Lawful.{IsLawful};
-ghost use Rattle.fdr_encoder.specs.Layers.{AreLayers};
+ghost use Rattle.relaxed_reach.specs.Lawful.{IsLawful};
+ghost use Rattle.relaxed_reach.specs.Layers.{AreLayers};
 ghost use Rattle.fdr_encoder.specs.Ordered.{AreByName, IsEncodingInOrder};
 ghost use Rattle.fdr_encoder.specs.Simulates.{IsCover, Simulates};
 

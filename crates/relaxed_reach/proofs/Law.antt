@@ -143,7 +143,7 @@ module _ (task : Ground) (reached : Reached) (ranked : IsRanked (ground_task tas
   same : SameRuns (meaning (ground_task task)) (meaning (reached_task reached)) (Shows (numbering atoms))
   same = settling.same_runs (numbering atoms) (ground_task task) (reached_task reached) settled names has_stays
 
-  atoms_are : atoms_of reached ≡ atoms
+  pub atoms_are : atoms_of reached ≡ atoms
   atoms_are = ap (map (λ (fact : Fact). fact.atom)) is.is.facts ∙ map_back (fact_of task) (λ fact. fact.atom) (λ a. refl) atoms
 
   among_atoms : (a : GroundAtom) → is_among atoms a ≡ true → Contains (atoms_of reached) a

@@ -6,7 +6,7 @@ use Rattle.fdr_encoder.specs.Effects.{operators_at}
 use Rattle.fdr_encoder.specs.Encoding.{layer_above, goal_part}
 use Rattle.fdr_encoder.specs.Ordered.{AreByName, IsEncodingInOrder}
 use Rattle.fdr_encoder.proofs.Assembled.{no_mutex, assembled}
-use Rattle.fdr_encoder.proofs.Uniqueness.{in_order_is}
+use Rattle.fdr_encoder.proofs.OrderedEncoding.{in_order_is}
 use Rattle.fdr_encoder.proofs.Validity.{encoding_is_valid}
 use Rattle.fdr_encoder.proofs.Plans.{simulates}
 use Rattle.fdr_encoder.proofs.encoding.encode_over.Goals as goal
