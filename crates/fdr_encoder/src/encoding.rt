@@ -17,7 +17,7 @@ use crate::goal::{goal_pairs, goal_split, push_goal_rules, push_goal_value, push
 use crate::index::Index;
 use crate::operators::{operators, rules};
 use crate::order::by_name;
-use crate::variables::{layer_above, start, variables};
+use crate::variables::{layer_above, start, truths, variables};
 use lists::List;
 use relaxed_reach::Reached;
 use sas_task::{Operator, Pair, Rule, SasTask, Variable};
@@ -70,9 +70,11 @@ fn all_variables(alloc: Global, reached: &Reached, layers: &[u64], index: &Index
 
 /// The values at the start.
 fn state(alloc: Global, reached: &Reached, index: &Index, members: &[List<Pair>]) -> Result<List<u64>, AllocError>
+    requires { IsLawful reached.now }
     ensures { (var layer : ℕ) → IfOk result (λ all. all ≡ values_in index.now (initial (reached_task reached.now)) ++ (parts.goal_part var layer members.now).values) }
 {
-    let mut all = start(alloc, reached.init.as_slice(), index.sets())?;
+    let truths = truths(alloc, reached.init.as_slice(), reached.facts.as_slice().len())?;
+    let mut all = start(alloc, truths.as_slice(), index.sets())?;
     push_goal_value(&mut all, members)?;
     Ok(List::from_vec(all))
 }
