@@ -1,0 +1,168 @@
+-- One more turn of the loops.
+use Rattle.std.proofs.Common.{◌≡◌, ℕ, suc, ◌+◌, ◌<◌, Bool, true, false, cond, ◌&&◌, List, [], ◌∷◌, ◌++◌, map, take, length, get_or, append-nil, append_assoc, refl, sym, ap, ◌∙◌, arith, ◌≤◌, inl, inr, subst}
+use Rattle.std.specs.Prelude.{fold}
+use Rattle.std.proofs.lemmas.List.{get_or-map, length-map}
+use Rattle.std.proofs.lemmas.List.FromFn.{length-map-range_with_len, get_or-map-range_with_len}
+use Rattle.std.proofs.lemmas.List.Sums.{fold-append}
+use Rattle.std.specs.List.{filter, flat_map, range_with_len, position_or_len}
+use Rattle.std.proofs.lemmas.Bool.{cases_lt}
+use Rattle.std.proofs.lemmas.List.Sums.{position_or_len_is}
+use Rattle.std.proofs.lemmas.List.{take_more}
+use Rattle.std.proofs.lemmas.List.Elements.{filter-append}
+use Rattle.std.proofs.lemmas.List.Concat.{flat_map-append}
+use Rattle.std.proofs.lemmas.List.FromFn.{filter_of_map_range_with_len_more}
+use Rattle.sas_task.specs.declared.parts.Pair.{Pair}
+use Rattle.fdr_encoder.proofs.Lists.{range_more}
+use Rattle.static_matcher.specs.declared.types.Cond.{Cond}
+use Rattle.relaxed_reach.specs.declared.types.ReachedEffect.{ReachedEffect}
+use Rattle.fdr_encoder.specs.Places.{Cover, pair, stands_in}
+use Rattle.fdr_encoder.specs.Split.{combinations}
+use Rattle.fdr_encoder.specs.Effects.{no_literals, both, negations, choices, rivals}
+
+pub filter_range_more : (p : ℕ → Bool) (n : ℕ) → filter p (range_with_len 0 (n + 1)) ≡ filter p (range_with_len 0 n) ++ cond (p n) (n ∷ []) []
+filter_range_more p n =
+    let e : 0 + n ≡ n = omega arith in
+    ap (filter p) (range_more 0 n ∙ ap (λ m. range_with_len 0 n ++ m ∷ []) e) ∙ filter-append p (range_with_len 0 n) (n ∷ [])
+
+-- one more piece
+pub flat_map_take_more : {X Y : Type 0} (f : X → List Y) (xs : List X) (i : ℕ) (d : X) → i < length xs → flat_map f (take (i + 1) xs) ≡ flat_map f (take i xs) ++ f (get_or xs i d)
+flat_map_take_more f xs i d within =
+    ap (flat_map f) (take_more xs i d within) ∙ flat_map-append f (take i xs) (get_or xs i d ∷ []) ∙ ap (λ l. flat_map f (take i xs) ++ l) (append-nil (f (get_or xs i d)))
+
+-- one more variable at the end
+pub combinations_more : (values : ℕ → List ℕ) (vars : List ℕ) (var : ℕ) → combinations values (vars ++ var ∷ []) ≡ flat_map (λ m. map (λ val. m ++ pair var val ∷ []) (values var)) (combinations values vars)
+combinations_more values [] var = append-nil' (values var)
+  where
+    append-nil' : (vs : List ℕ) → flat_map (λ val. map (λ rest. pair var val ∷ rest) ([] ∷ [])) vs ≡ flat_map (λ m. map (λ val. m ++ pair var val ∷ []) vs) ([] ∷ [])
+    append-nil' vs = singles vs ∙ sym (append-nil (map (λ val. pair var val ∷ []) vs))
+      where
+        singles : (vs : List ℕ) → flat_map (λ val. map (λ rest. pair var val ∷ rest) ([] ∷ [])) vs ≡ map (λ val. pair var val ∷ []) vs
+        singles [] = refl
+        singles (v ∷ vs) = ap (λ l. (pair var v ∷ []) ∷ l) (singles vs)
+combinations_more values (v ∷ vars) var =
+    ap (λ ms. flat_map (λ val. map (λ rest. pair v val ∷ rest) ms) (values v)) (combinations_more values vars var) ∙ each (values v)
+  where
+    inner : (val : ℕ) (ms : List (List Pair)) → map (λ rest. pair v val ∷ rest) (flat_map (λ m. map (λ w. m ++ pair var w ∷ []) (values var)) ms) ≡ flat_map (λ m. map (λ w. m ++ pair var w ∷ []) (values var)) (map (λ rest. pair v val ∷ rest) ms)
+    inner val [] = refl
+    inner val (m ∷ ms) = map_append (map (λ w. m ++ pair var w ∷ []) (values var)) (flat_map (λ m. map (λ w. m ++ pair var w ∷ []) (values var)) ms) ∙ both (one (values var)) (inner val ms)
+      where
+        map_append : (xs ys : List (List Pair)) → map (λ rest. pair v val ∷ rest) (xs ++ ys) ≡ map (λ rest. pair v val ∷ rest) xs ++ map (λ rest. pair v val ∷ rest) ys
+        map_append [] ys = refl
+        map_append (x ∷ xs) ys = ap (λ l. (pair v val ∷ x) ∷ l) (map_append xs ys)
+
+        one : (ws : List ℕ) → map (λ rest. pair v val ∷ rest) (map (λ w. m ++ pair var w ∷ []) ws) ≡ map (λ w. (pair v val ∷ m) ++ pair var w ∷ []) ws
+        one [] = refl
+        one (w ∷ ws) = ap (λ l. (pair v val ∷ (m ++ pair var w ∷ [])) ∷ l) (one ws)
+
+        both : {a b c d : List (List Pair)} → a ≡ b → c ≡ d → (a ++ c) ≡ (b ++ d)
+        both {a} {b} {c} {d} e f = ap (λ l. l ++ c) e ∙ ap (λ l. b ++ l) f
+
+    each : (vals : List ℕ) → flat_map (λ val. map (λ rest. pair v val ∷ rest) (flat_map (λ m. map (λ w. m ++ pair var w ∷ []) (values var)) (combinations values vars))) vals ≡ flat_map (λ m. map (λ w. m ++ pair var w ∷ []) (values var)) (flat_map (λ val. map (λ rest. pair v val ∷ rest) (combinations values vars)) vals)
+    each [] = refl
+    each (val ∷ vals) =
+        ap (λ l. l ++ flat_map (λ val. map (λ rest. pair v val ∷ rest) (flat_map (λ m. map (λ w. m ++ pair var w ∷ []) (values var)) (combinations values vars))) vals) (inner val (combinations values vars))
+        ∙ ap (λ l. flat_map (λ m. map (λ w. m ++ pair var w ∷ []) (values var)) (map (λ rest. pair v val ∷ rest) (combinations values vars)) ++ l) (each vals)
+        ∙ sym (flat_map-append (λ m. map (λ w. m ++ pair var w ∷ []) (values var)) (map (λ rest. pair v val ∷ rest) (combinations values vars)) (flat_map (λ val. map (λ rest. pair v val ∷ rest) (combinations values vars)) vals))
+
+-- the literals of three lists, in either grouping
+both_assoc : (a b c : Cond ℕ) → both a (both b c) ≡ both (both a b) c
+both_assoc a b c =
+    let pos = sym (append_assoc a.positive b.positive c.positive) in
+    let neg = sym (append_assoc a.negative b.negative c.negative) in
+    λ i. record { positive = pos i; negative = neg i }
+
+both_none : (a : Cond ℕ) → both a no_literals ≡ both no_literals a
+both_none a =
+    let pos = append-nil a.positive in
+    let neg = append-nil a.negative in
+    λ i. record { positive = pos i; negative = neg i }
+
+map_same : {X Y : Type 0} (f g : X → Y) (xs : List X) → ((x : X) → f x ≡ g x) → map f xs ≡ map g xs
+map_same f g [] same = refl
+map_same f g (x ∷ xs) same = ap (λ y. y ∷ map f xs) (same x) ∙ ap (λ l. g x ∷ l) (map_same f g xs same)
+
+map_map : {X Y Z : Type 0} (f : Y → Z) (g : X → Y) (xs : List X) → map f (map g xs) ≡ map (λ x. f (g x)) xs
+map_map f g [] = refl
+map_map f g (x ∷ xs) = ap (λ l. f (g x) ∷ l) (map_map f g xs)
+
+map_append : {X Y : Type 0} (f : X → Y) (xs ys : List X) → map f (xs ++ ys) ≡ map f xs ++ map f ys
+map_append f [] ys = refl
+map_append f (x ∷ xs) ys = ap (λ l. f x ∷ l) (map_append f xs ys)
+
+-- one more list to choose from, at the end
+module _ (ones : List (Cond ℕ)) where
+  abbrev with_each : Cond ℕ → List (Cond ℕ)
+  with_each choice = map (λ one. both choice one) ones
+
+  front_in : (one : Cond ℕ) (cs : List (Cond ℕ)) → map (both one) (flat_map with_each cs) ≡ flat_map with_each (map (both one) cs)
+  front_in one [] = refl
+  front_in one (c ∷ cs) =
+      map_append (both one) (with_each c) (flat_map with_each cs)
+      ∙ ap (λ l. l ++ map (both one) (flat_map with_each cs)) (map_map (both one) (both c) ones ∙ map_same (λ m. both one (both c m)) (both (both one c)) ones (λ m. both_assoc one c m))
+      ∙ ap (λ l. with_each (both one c) ++ l) (front_in one cs)
+
+  fronts_in : (cs fronts : List (Cond ℕ)) → flat_map (λ one. map (both one) (flat_map with_each cs)) fronts ≡ flat_map with_each (flat_map (λ one. map (both one) cs) fronts)
+  fronts_in cs [] = refl
+  fronts_in cs (one ∷ fronts) =
+      ap (λ l. l ++ flat_map (λ one. map (both one) (flat_map with_each cs)) fronts) (front_in one cs)
+      ∙ ap (λ l. flat_map with_each (map (both one) cs) ++ l) (fronts_in cs fronts)
+      ∙ sym (flat_map-append with_each (map (both one) cs) (flat_map (λ one. map (both one) cs) fronts))
+
+  alone_with : (fronts : List (Cond ℕ)) → flat_map (λ one. map (both one) (no_literals ∷ [])) fronts ≡ map (both no_literals) fronts
+  alone_with [] = refl
+  alone_with (one ∷ fronts) = ap (λ c. c ∷ flat_map (λ one. map (both one) (no_literals ∷ [])) fronts) (both_none one) ∙ ap (λ l. both no_literals one ∷ l) (alone_with fronts)
+
+pub choices_more : (lists : List (Cond ℕ)) (last : Cond ℕ) → choices (lists ++ last ∷ []) ≡ flat_map (λ choice. map (λ one. both choice one) (negations last)) (choices lists)
+choices_more [] last = alone_with (negations last) (negations last) ∙ sym (append-nil (map (both no_literals) (negations last)))
+choices_more (l ∷ lists) last =
+    ap (λ cs. flat_map (λ one. map (both one) cs) (negations l)) (choices_more lists last)
+    ∙ fronts_in (negations last) (choices lists) (negations l)
+
+-- one more effect
+pub choices_after : (cover : Cover) (effects : List ReachedEffect) (i : ℕ) (e : ReachedEffect) (var : ℕ) → i < length effects → e ≡ get_or effects i e → choices (rivals cover (take (i + 1) effects) var) ≡ cond (e.adds && stands_in cover e.fact var) (flat_map (λ choice. map (λ one. both choice one) (negations e.condition)) (choices (rivals cover (take i effects) var))) (choices (rivals cover (take i effects) var))
+choices_after cover effects i e var within is =
+    ap (λ es. choices (rivals cover es var)) (take_more effects i e within ∙ ap (λ x. take i effects ++ x ∷ []) (sym is))
+    ∙ ap (λ es. choices (map (λ (q : ReachedEffect). q.condition) es)) (filter-append (λ (q : ReachedEffect). q.adds && stands_in cover q.fact var) (take i effects) (e ∷ []))
+    ∙ ap choices (map_append (λ (q : ReachedEffect). q.condition) (filter (λ (q : ReachedEffect). q.adds && stands_in cover q.fact var) (take i effects)) (filter (λ (q : ReachedEffect). q.adds && stands_in cover q.fact var) (e ∷ [])))
+    ∙ by_case (e.adds && stands_in cover e.fact var)
+  where
+    before : List (Cond ℕ)
+    before = rivals cover (take i effects) var
+
+    by_case : (b : Bool) → choices (before ++ map (λ (q : ReachedEffect). q.condition) (cond b (e ∷ []) [])) ≡ cond b (flat_map (λ choice. map (λ one. both choice one) (negations e.condition)) (choices before)) (choices before)
+    by_case true = choices_more before e.condition
+    by_case false = ap choices (append-nil before)
+
+-- a search for the first number that passes
+module _ (p : ℕ → Bool) (xs : List ℕ) (i : ℕ) (before : (k : ℕ) → k < i → p (get_or xs k 0) ≡ false) where
+  pub first_here : i < length xs → p (get_or xs i 0) ≡ true → position_or_len p xs ≡ i
+  first_here within passes = position_or_len_is p xs i 0 (omega arith) before (λ h. passes)
+
+  pub first_nowhere : length xs ≤ i → position_or_len p xs ≡ length xs
+  first_nowhere past = position_or_len_is p xs (length xs) 0 (omega arith) (λ k below. before k (omega arith)) (λ h. absurd (omega arith))
+
+  pub not_yet : p (get_or xs i 0) ≡ false → (k : ℕ) → k < i + 1 → p (get_or xs k 0) ≡ false
+  not_yet fails k below =
+      elim (cases_lt k i) [
+        | inl low ↦ before k low
+        | inr high ↦ let same : k ≡ i = omega arith in ap (λ j. p (get_or xs j 0)) same ∙ fails
+      ]
+
+-- one more number of a fold
+pub fold_range_more : (f : ℕ → ℕ → ℕ) (n : ℕ) → fold f 0 (range_with_len 0 (n + 1)) ≡ f (fold f 0 (range_with_len 0 n)) n
+fold_range_more f n =
+    let e : 0 + n ≡ n = omega arith in
+    ap (fold f 0) (range_more 0 n ∙ ap (λ m. range_with_len 0 n ++ m ∷ []) e) ∙ fold-append f 0 (range_with_len 0 n) (n ∷ [])
+
+-- a map over places is a map over elements
+pub map_places : {X Y : Type 0} (f : X → Y) (xs : List X) (d : X) → map f xs ≡ map (λ k. f (get_or xs k d)) (range_with_len 0 (length xs))
+map_places f xs d =
+    same_lists (map f xs) (map (λ k. f (get_or xs k d)) (range_with_len 0 (length xs))) (f d) (length-map xs f ∙ sym (length-map-range_with_len (λ k. f (get_or xs k d)) 0 (length xs))) (λ k within.
+    let low : k < length xs = subst (λ m. k < m) (length-map xs f) within in
+    get_or-map f xs k d (f d) low ∙ sym (get_or-map-range_with_len (λ k. f (get_or xs k d)) 0 (length xs) k k (f d) low (omega arith)))
+  where
+    same_lists : {Z : Type 0} (as' bs : List Z) (d : Z) → length as' ≡ length bs → ((k : ℕ) → k < length as' → get_or as' k d ≡ get_or bs k d) → as' ≡ bs
+    same_lists [] [] d size at = refl
+    same_lists [] (b ∷ bs) d size at = absurd (omega arith)
+    same_lists (a ∷ as') [] d size at = absurd (omega arith)
+    same_lists (a ∷ as') (b ∷ bs) d size at = ap (λ x. x ∷ as') (at 0 (omega arith)) ∙ ap (λ l. b ∷ l) (same_lists as' bs d (omega arith) (λ k within. at (suc k) (omega arith)))
