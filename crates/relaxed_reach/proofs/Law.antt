@@ -27,7 +27,7 @@ use Rattle.relaxed_reach.specs.ReachedTask.{reached_task}
 use Rattle.relaxed_reach.specs.Reachable.{IsClosed, is_among, number_of, numbering, fact_of, IsReachedTask}
 use Rattle.relaxed_reach.specs.Law.{atoms_of, MeansTheSame}
 use Rattle.static_matcher.proofs.Atoms.{same_atom, atom_same}
-use Rattle.relaxed_reach.proofs.Atoms.{facts_apart, map_back}
+use Rattle.relaxed_reach.proofs.OrderedFacts.{facts_apart, map_back}
 use Rattle.relaxed_reach.proofs.Numbers as numbers
 
 -- ---- what a closed set holds
