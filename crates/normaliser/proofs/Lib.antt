@@ -48,3 +48,7 @@ pub mod LawfulSchemas
 pub mod LawfulAxioms
 pub mod LawfulTask
 pub mod RisingRanges
+pub mod NewNames
+pub mod FoundTypes
+pub mod InnerScopes
+pub mod TypeRanges

@@ -4,6 +4,7 @@ pub mod Parts
 pub mod Normalised
 pub mod Lawful
 pub mod Code
+pub mod Below
 pub mod Within
 pub mod Same
 pub mod IsWritten

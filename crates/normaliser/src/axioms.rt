@@ -24,10 +24,10 @@ pub(crate) fn fresh_number(numbering: &Numbering<'_>, next: u64) -> Result<u64, 
 }
 
 /// An axiom for each part of the body.
-fn axiom_rows(
+fn axiom_rows<'n, 'a>(
     alloc: Global,
-    numbering: &Numbering<'_>,
-    rule: &Derived,
+    numbering: &'n Numbering<'a>,
+    rule: &'a Derived,
     next: u64,
 ) -> Result<Made<AxiomRow>, AllocError>
     ensures { IfOk result (IsMadeOf (spec.axiom_rows numbering.now.domain numbering.now.problem rule.now next)) }
@@ -59,10 +59,10 @@ fn axiom_rows(
 }
 
 /// The axioms of the files, one after another.
-pub(crate) fn axioms_of(
+pub(crate) fn axioms_of<'n, 'a>(
     alloc: Global,
-    numbering: &Numbering<'_>,
-    rules: &[Derived],
+    numbering: &'n Numbering<'a>,
+    rules: &'a [Derived],
     next: u64,
 ) -> Result<Made<AxiomRow>, AllocError>
     ensures { IfOk result (IsMadeOf (parts.in_turn (map (spec.axiom_rows numbering.now.domain numbering.now.problem) rules.now) next)) }

@@ -7,10 +7,11 @@ ghost use Rattle.normaliser.specs.Code.{IsMade};
 
 use crate::moved::sum;
 use crate::numbering::Numbering;
-use crate::parts::{Fresh, Part, Slot, joined, with_variables};
+use crate::parts::{Fresh, Part, extended, joined, with_variables};
 use crate::scope::{place_of, places_of, scope_inside};
 use crate::slots::{free_slots, ranges_of, renumbered, variables_of};
 use crate::task::Literal;
+use crate::variable::Variable;
 use lists::List;
 use pddl_parser::{Atom, Condition, Term, Typed};
 use std::alloc::{AllocError, Global};
@@ -24,12 +25,12 @@ pub struct MadeParts {
 
 /// How a condition is cut, or its negation where it isn't `positive`.
 #[cycle(cut)]
-pub(crate) fn cut(
+pub(crate) fn cut<'n, 'a>(
     alloc: Global,
-    numbering: &Numbering<'_>,
-    condition: &Condition,
+    numbering: &'n Numbering<'a>,
+    condition: &'a Condition,
     positive: bool,
-    scope: &[Slot],
+    scope: &[Variable<'n, 'a>],
     around: u64,
     next: u64,
 ) -> Result<MadeParts, AllocError>
@@ -138,33 +139,33 @@ pub(crate) fn cut(
 
 /// No objects of the variables make the inside true, or its negation where it isn't `positive`.
 #[cycle(cut)]
-fn cut_none(
+fn cut_none<'n, 'a>(
     alloc: Global,
-    numbering: &Numbering<'_>,
-    variables: &[Typed],
-    inside: &Condition,
+    numbering: &'n Numbering<'a>,
+    variables: &'a [Typed],
+    inside: &'a Condition,
     positive: bool,
-    scope: &[Slot],
+    scope: &[Variable<'n, 'a>],
     next: u64,
 ) -> Result<MadeParts, AllocError>
     ensures { IfOk result (IsMade (spec.none_inside numbering.now.domain numbering.now.problem variables.now (spec.known numbering.now.domain numbering.now.problem inside.now) positive scope.now 0 next)) }
 {
     let arguments = free_slots(alloc, numbering, variables, inside, scope)?;
-    let count = arguments.as_slice().len() as u64;
-    let outer = renumbered(alloc, arguments.as_slice())?;
-    let inner = scope_inside(alloc, numbering, variables, count, outer.as_slice())?;
+    let count = arguments.len() as u64;
+    let outer = renumbered(alloc, &arguments)?;
+    let inner = scope_inside(alloc, numbering, variables, count, &outer)?;
     let within = sum(count, variables.len() as u64)?;
     let start = sum(next, 1)?;
     let made = cut(alloc, numbering, inside, positive, &inner, within, start)?;
     let body = behind(alloc, numbering, variables, made)?;
-    denied(alloc, numbering, arguments.as_slice(), next, body)
+    denied(alloc, numbering, &arguments, next, body)
 }
 
 /// The negation of a new derived predicate with these arguments, whose axioms have these parts.
 fn denied(
     alloc: Global,
     numbering: &Numbering<'_>,
-    arguments: &[Slot],
+    arguments: &[Variable<'_, '_>],
     next: u64,
     body: MadeParts,
 ) -> Result<MadeParts, AllocError>
@@ -195,16 +196,20 @@ fn behind(
 {
     let ranges = numbering.ranges(alloc, variables)?;
     Ok(MadeParts {
-        items: all_behind(alloc, ranges.as_slice(), made.items.as_slice())?,
+        items: all_behind(alloc, ranges.as_slice(), made.items)?,
         fresh: made.fresh,
     })
 }
 
-fn all_behind(alloc: Global, ranges: &[List<u64>], parts: &[Part]) -> Result<List<Part>, AllocError>
-    ensures { IfOk result (λ all. all ≡ map (spec.with_variables ranges.now) parts.now) }
+fn all_behind(
+    alloc: Global,
+    ranges: &[List<u64>],
+    parts: List<Part>,
+) -> Result<List<Part>, AllocError>
+    ensures { IfOk result (λ all. all ≡ map (spec.with_variables ranges.now) parts) }
 {
     let mut all = Vec::new(alloc);
-    for part in parts {
+    for part in parts.into_vec() {
         all.push(with_variables(alloc, ranges, part)?)?;
     }
     Ok(List::from_vec(all))
@@ -232,7 +237,7 @@ fn atom_part(
     numbering: &Numbering<'_>,
     atom: &Atom,
     positive: bool,
-    scope: &[Slot],
+    scope: &[Variable<'_, '_>],
 ) -> Result<MadeParts, AllocError>
     ensures { IfOk result (IsMade (spec.only (Holds positive (predicate_number numbering.now.domain atom.now.predicate.name) (spec.places_of numbering.now.domain numbering.now.problem scope.now atom.now.terms)))) }
 {
@@ -247,7 +252,7 @@ fn equal_part(
     left: &Term,
     right: &Term,
     positive: bool,
-    scope: &[Slot],
+    scope: &[Variable<'_, '_>],
 ) -> Result<MadeParts, AllocError>
     ensures { IfOk result (IsMade (spec.only (Equal positive (spec.place_of numbering.now.domain numbering.now.problem scope.now left.now) (spec.place_of numbering.now.domain numbering.now.problem scope.now right.now)))) }
 {
@@ -279,12 +284,7 @@ fn both(
 ) -> Result<MadeParts, AllocError>
     ensures { IfOk result (λ made. (made.items ≡ spec.paired around first.items (spec.paired around second.items (record { variables = []; literals = [] } ∷ []))) × (made.fresh ≡ first.fresh ++ (second.fresh ++ []))) }
 {
-    let items = paired(
-        alloc,
-        around,
-        first.items.as_slice(),
-        second.items.as_slice(),
-    )?;
+    let items = paired(alloc, around, first.items, second.items.as_slice())?;
     let mut fresh = first.fresh.into_vec();
     fresh.append(&mut second.fresh.into_vec())?;
     Ok(MadeParts {
@@ -318,12 +318,12 @@ pub(crate) fn falsity(alloc: Global) -> MadeParts
 
 /// The members' parts one after another.
 #[cycle(cut)]
-fn cut_listed(
+fn cut_listed<'n, 'a>(
     alloc: Global,
-    numbering: &Numbering<'_>,
-    members: &[Condition],
+    numbering: &'n Numbering<'a>,
+    members: &'a [Condition],
     positive: bool,
-    scope: &[Slot],
+    scope: &[Variable<'n, 'a>],
     around: u64,
     next: u64,
 ) -> Result<MadeParts, AllocError>
@@ -345,12 +345,12 @@ fn cut_listed(
 
 /// Every pairing of the members' parts.
 #[cycle(cut)]
-fn cut_paired(
+fn cut_paired<'n, 'a>(
     alloc: Global,
-    numbering: &Numbering<'_>,
-    members: &[Condition],
+    numbering: &'n Numbering<'a>,
+    members: &'a [Condition],
     positive: bool,
-    scope: &[Slot],
+    scope: &[Variable<'n, 'a>],
     around: u64,
     next: u64,
 ) -> Result<MadeParts, AllocError>
@@ -361,7 +361,7 @@ fn cut_paired(
     for member in members {
         let start = sum(next, fresh.len() as u64)?;
         let made = cut(alloc, numbering, member, positive, scope, around, start)?;
-        all = paired(alloc, around, all.as_slice(), made.items.as_slice())?;
+        all = paired(alloc, around, all, made.items.as_slice())?;
         fresh.append(&mut made.fresh.into_vec())?;
     }
     Ok(MadeParts {
@@ -370,8 +370,39 @@ fn cut_paired(
     })
 }
 
-/// Every pairing, the second varying fastest.
+/// Every pairing, the second varying fastest. Where there is only one second part, the first ones grow in place, so that
+/// the time is linear in what they grow by.
 pub(crate) fn paired(
+    alloc: Global,
+    around: u64,
+    firsts: List<Part>,
+    seconds: &[Part],
+) -> Result<List<Part>, AllocError>
+    ensures { IfOk result (λ all. all ≡ spec.paired around firsts seconds.now) }
+{
+    match seconds {
+        [second] => all_extended(alloc, around, firsts, second),
+        _ => all_joined(alloc, around, firsts.as_slice(), seconds),
+    }
+}
+
+/// Each of the first parts with the second one joined to it.
+fn all_extended(
+    alloc: Global,
+    around: u64,
+    firsts: List<Part>,
+    second: &Part,
+) -> Result<List<Part>, AllocError>
+    ensures { IfOk result (λ all. all ≡ map (λ first. spec.joined around first second.now) firsts) }
+{
+    let mut all = Vec::new(alloc);
+    for first in firsts.into_vec() {
+        all.push(extended(around, first, second)?)?;
+    }
+    Ok(List::from_vec(all))
+}
+
+fn all_joined(
     alloc: Global,
     around: u64,
     firsts: &[Part],

@@ -9,26 +9,27 @@ use crate::cut::{MadeParts, cut, paired, truth};
 use crate::made::Made;
 use crate::moved::sum;
 use crate::numbering::Numbering;
-use crate::parts::{Part, Slot, copied_places};
-use crate::rows::{copied_literals, copied_ranges, joined_ranges};
+use crate::parts::{Part, copied_places};
+use crate::rows::joined_ranges;
 use crate::scope::{places_of, scope_inside};
 use crate::task::{EffectRow, Place};
+use crate::variable::Variable;
 use lists::List;
 use pddl_parser::{Atom, Condition, Effect};
 use std::alloc::{AllocError, Global};
 
 /// A condition that is required around an effect, and the variables around it.
 #[derive(Clone, Copy)]
-pub(crate) struct Required<'a> {
+pub(crate) struct Required<'s, 'n, 'a> {
     pub(crate) condition: &'a Condition,
-    pub(crate) scope: &'a [Slot],
+    pub(crate) scope: &'s [Variable<'n, 'a>],
 }
 
 /// What stands around an effect: the conditions that are required, the outermost first, and the variables.
 #[derive(Clone, Copy)]
-pub(crate) struct Around<'a> {
-    pub(crate) required: &'a [Required<'a>],
-    pub(crate) scope: &'a [Slot],
+pub(crate) struct Around<'s, 'n, 'a> {
+    pub(crate) required: &'s [Required<'s, 'n, 'a>],
+    pub(crate) scope: &'s [Variable<'n, 'a>],
     /// How many variables there are.
     pub(crate) count: u64,
 }
@@ -36,10 +37,10 @@ pub(crate) struct Around<'a> {
 // ---- one atom
 
 /// Every pairing of the parts of what is required.
-fn cut_required(
+fn cut_required<'n, 'a>(
     alloc: Global,
-    numbering: &Numbering<'_>,
-    required: &[Required<'_>],
+    numbering: &'n Numbering<'a>,
+    required: &[Required<'_, 'n, 'a>],
     around: u64,
     next: u64,
 ) -> Result<MadeParts, AllocError>
@@ -58,7 +59,7 @@ fn cut_required(
             around,
             start,
         )?;
-        all = paired(alloc, around, all.as_slice(), made.items.as_slice())?;
+        all = paired(alloc, around, all, made.items.as_slice())?;
         fresh.append(&mut made.fresh.into_vec())?;
     }
     Ok(MadeParts {
@@ -75,12 +76,12 @@ struct Change<'a> {
     places: &'a [Place],
 }
 
-fn effect_row(alloc: Global, change: &Change<'_>, part: &Part) -> Result<EffectRow, AllocError>
-    ensures { IfOk result (λ row. row ≡ changed_row change.now part.now) }
+fn effect_row(alloc: Global, change: &Change<'_>, part: Part) -> Result<EffectRow, AllocError>
+    ensures { IfOk result (λ row. row ≡ changed_row change.now part) }
 {
     Ok(EffectRow {
-        variables: copied_ranges(alloc, part.variables.as_slice())?,
-        condition: copied_literals(alloc, part.literals.as_slice())?,
+        variables: part.variables,
+        condition: part.literals,
         adds: change.adds,
         predicate: change.predicate,
         places: copied_places(alloc, change.places)?,
@@ -91,24 +92,24 @@ fn effect_row(alloc: Global, change: &Change<'_>, part: &Part) -> Result<EffectR
 fn effect_rows(
     alloc: Global,
     change: &Change<'_>,
-    parts: &[Part],
+    parts: List<Part>,
 ) -> Result<List<EffectRow>, AllocError>
-    ensures { IfOk result (λ rows. rows ≡ map (changed_row change.now) parts.now) }
+    ensures { IfOk result (λ rows. rows ≡ map (changed_row change.now) parts) }
 {
     let mut rows = Vec::new(alloc);
-    for part in parts {
+    for part in parts.into_vec() {
         rows.push(effect_row(alloc, change, part)?)?;
     }
     Ok(List::from_vec(rows))
 }
 
 /// The atom is written for each part of what is required.
-fn written(
+fn written<'n, 'a>(
     alloc: Global,
-    numbering: &Numbering<'_>,
+    numbering: &'n Numbering<'a>,
     adds: bool,
     atom: &Atom,
-    around: &Around<'_>,
+    around: &Around<'_, 'n, 'a>,
     next: u64,
 ) -> Result<Made<EffectRow>, AllocError>
     ensures { IfOk result (IsMadeOf (spec.written numbering.now.domain numbering.now.problem adds atom.now (cuts_of numbering.now.domain numbering.now.problem around.now.required.now) around.now.scope.now around.now.count next)) }
@@ -120,7 +121,7 @@ fn written(
         predicate: numbering.predicate(atom.predicate.name.as_slice()),
         places: places.as_slice(),
     };
-    let items = effect_rows(alloc, &change, parts.items.as_slice())?;
+    let items = effect_rows(alloc, &change, parts.items)?;
     Ok(Made {
         items,
         fresh: parts.fresh,
@@ -130,11 +131,11 @@ fn written(
 // ---- effects
 
 /// The list with one condition more.
-fn with_required<'a>(
+fn with_required<'s, 'n, 'a>(
     alloc: Global,
-    required: &[Required<'a>],
-    last: Required<'a>,
-) -> Result<Vec<Required<'a>>, AllocError>
+    required: &[Required<'s, 'n, 'a>],
+    last: Required<'s, 'n, 'a>,
+) -> Result<Vec<Required<'s, 'n, 'a>>, AllocError>
     ensures { IfOk result (λ longer. longer.items ≡ required.now ++ last.entry ∷ []) }
 {
     let mut longer = Vec::from_slice(alloc, required)?;
@@ -146,22 +147,22 @@ fn with_required<'a>(
 fn row_with_variables(
     alloc: Global,
     variables: &[List<u64>],
-    row: &EffectRow,
+    row: EffectRow,
 ) -> Result<EffectRow, AllocError>
     ensures { IfOk result (λ longer. longer ≡ record {
-      variables = variables.now ++ row.now.variables;
-      condition = row.now.condition;
-      adds = row.now.adds;
-      predicate = row.now.predicate;
-      places = row.now.places;
+      variables = variables.now ++ row.variables;
+      condition = row.condition;
+      adds = row.adds;
+      predicate = row.predicate;
+      places = row.places;
     }) }
 {
     Ok(EffectRow {
-        variables: joined_ranges(alloc, variables, row.variables.as_slice())?,
-        condition: copied_literals(alloc, row.condition.as_slice())?,
+        variables: joined_ranges(alloc, variables, row.variables)?,
+        condition: row.condition,
         adds: row.adds,
         predicate: row.predicate,
-        places: copied_places(alloc, row.places.as_slice())?,
+        places: row.places,
     })
 }
 
@@ -169,7 +170,7 @@ fn row_with_variables(
 fn rows_with_variables(
     alloc: Global,
     variables: &[List<u64>],
-    rows: &[EffectRow],
+    rows: List<EffectRow>,
 ) -> Result<List<EffectRow>, AllocError>
     ensures { IfOk result (λ longer. longer ≡ map (λ row. record {
       variables = variables.now ++ row.variables;
@@ -177,10 +178,10 @@ fn rows_with_variables(
       adds = row.adds;
       predicate = row.predicate;
       places = row.places;
-    }) rows.now) }
+    }) rows) }
 {
     let mut longer = Vec::new(alloc);
-    for row in rows {
+    for row in rows.into_vec() {
         longer.push(row_with_variables(alloc, variables, row)?)?;
     }
     Ok(List::from_vec(longer))
@@ -198,11 +199,11 @@ fn no_rows(alloc: Global) -> Made<EffectRow>
 /// The effects that stand in the effect. Each condition is cut anew for each atom that is written under it, once all
 /// variables around the atom are known.
 #[cycle(rows_of)]
-pub(crate) fn rows_of(
+pub(crate) fn rows_of<'n, 'a>(
     alloc: Global,
-    numbering: &Numbering<'_>,
-    effect: &Effect,
-    around: &Around<'_>,
+    numbering: &'n Numbering<'a>,
+    effect: &'a Effect,
+    around: &Around<'_, 'n, 'a>,
     next: u64,
 ) -> Result<Made<EffectRow>, AllocError>
     ensures { IfOk result (IsMadeOf (spec.rows_of numbering.now.domain numbering.now.problem effect.now (cuts_of numbering.now.domain numbering.now.problem around.now.required.now) around.now.scope.now around.now.count next)) }
@@ -243,7 +244,7 @@ pub(crate) fn rows_of(
             let made = rows_of(alloc, numbering, inside.get(), &inner, next)?;
             let ranges = numbering.ranges(alloc, variables.as_slice())?;
             Ok(Made {
-                items: rows_with_variables(alloc, ranges.as_slice(), made.items.as_slice())?,
+                items: rows_with_variables(alloc, ranges.as_slice(), made.items)?,
                 fresh: made.fresh,
             })
         }
@@ -252,11 +253,11 @@ pub(crate) fn rows_of(
 
 /// The effects of the members, one after another.
 #[cycle(rows_of)]
-fn rows_of_all(
+fn rows_of_all<'n, 'a>(
     alloc: Global,
-    numbering: &Numbering<'_>,
-    members: &[Effect],
-    around: &Around<'_>,
+    numbering: &'n Numbering<'a>,
+    members: &'a [Effect],
+    around: &Around<'_, 'n, 'a>,
     next: u64,
 ) -> Result<Made<EffectRow>, AllocError>
     ensures { IfOk result (IsMadeOf (parts.in_turn (map (λ member. member (cuts_of numbering.now.domain numbering.now.problem around.now.required.now) around.now.scope.now around.now.count) (map (spec.rows_of numbering.now.domain numbering.now.problem) members.now)) next)) }

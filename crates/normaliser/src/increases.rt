@@ -8,9 +8,9 @@ ghost use Rattle.normaliser.specs.MadeThings.{cost_of};
 ghost use Rattle.normaliser.specs.Normalised as spec;
 
 use crate::numbering::Numbering;
-use crate::parts::Slot;
 use crate::scope::places_of;
 use crate::task::CostRow;
+use crate::variable::Variable;
 use pddl_parser::{Action, Cost, Effect};
 use std::alloc::{AllocError, Global};
 
@@ -42,7 +42,7 @@ fn first_increase_of<'a>(members: &'a [Effect]) -> Option<&'a Cost>
 fn cost_row(
     alloc: Global,
     numbering: &Numbering<'_>,
-    scope: &[Slot],
+    scope: &[Variable<'_, '_>],
     cost: &Cost,
 ) -> Result<CostRow, AllocError>
     ensures { IfOk result (λ row. row ≡ spec.cost_row numbering.now.domain numbering.now.problem scope.now cost.now) }
@@ -61,7 +61,7 @@ fn cost_row(
 pub(crate) fn action_cost(
     alloc: Global,
     numbering: &Numbering<'_>,
-    scope: &[Slot],
+    scope: &[Variable<'_, '_>],
     action: &Action,
 ) -> Result<CostRow, AllocError>
     ensures { IfOk result (λ row. row ≡ cost_of numbering.now.domain numbering.now.problem scope.now action.now) }

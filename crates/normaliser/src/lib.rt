@@ -1,7 +1,9 @@
 //! Normal tasks.
 #![tactic(auto)]
 
+mod asked;
 mod axioms;
+mod below;
 mod cut;
 mod effects;
 mod free;
@@ -21,6 +23,7 @@ mod schemas;
 mod scope;
 mod slots;
 mod task;
+mod variable;
 
 pub use normal::normalise;
 pub use task::{

@@ -112,7 +112,7 @@ fn normal_of(alloc: Global, numbering: &Numbering<'_>, made: MadeAll) -> Result<
 pub fn normalise(alloc: Global, task: &Checked) -> Result<Normal, AllocError>
     ensures { IfOk result (λ normal. normal ≡ spec.normal task.now.domain task.now.problem) }
 {
-    let numbering = Numbering::of(alloc, task.domain(), task.problem())?;
+    let numbering = Numbering::of(alloc, task)?;
     let made = make_all(alloc, &numbering)?;
     normal_of(alloc, &numbering, made)
 }

@@ -1,14 +1,30 @@
 // The numbers of objects, predicates and functions.
-ghost use Rattle.std.specs.Prelude.{◌≡◌, ◌++◌, ◌∷◌, [], map, length, IfOk, OnOk};
-ghost use Rattle.std.specs.List.{list_any, filter};
+ghost use Rattle.std.specs.Prelude.{◌≡◌, ◌++◌, ◌∷◌, [], map, length, false, IfOk, IfSome, OnOk};
+ghost use Rattle.std.specs.List.{list_any, filter, IsDistinct};
+ghost use Rattle.names.specs.Names.{is_same};
+ghost use Rattle.pddl_parser.specs.declared.types.Domain.{Domain};
+ghost use Rattle.pddl_parser.specs.declared.types.Problem.{Problem};
 ghost use Rattle.pddl_parser.specs.Objects as typing;
+ghost use Rattle.normaliser.specs.Below.{has_type_among, objects_of_type, range_of_types};
+ghost use Rattle.normaliser.specs.Below as spec_below;
 ghost use Rattle.normaliser.specs.Numbers as spec;
 
+use crate::asked::asked_types;
+use crate::below::{Hierarchy, has_some};
+use crate::moved::copied_numbers;
 use lists::List;
 use names::Names;
 use pddl_parser::{Domain, Head, Named, Problem, Typed};
 use std::alloc::{AllocError, Global};
 use std::marker::Model;
+use type_checker::Checked;
+
+/// The objects of a type, by their numbers.
+#[derive(Drop)]
+pub(crate) struct OfType<'a> {
+    name: &'a [u8],
+    objects: List<u64>,
+}
 
 /// The objects, the declared predicates and the declared functions of two files, by their positions. A look-up goes
 /// through a table. Contracts see the two files.
@@ -19,6 +35,10 @@ pub(crate) struct Numbering<'a> {
     objects: Names<'a>,
     predicates: Names<'a>,
     functions: Names<'a>,
+    hierarchy: Hierarchy<'a>,
+    /// The names of the types whose objects are known, in the order of what is known of them.
+    types: Names<'a>,
+    of_types: Vec<OfType<'a>>,
 }
 
 impl<'a> Model for Numbering<'a> {
@@ -27,6 +47,8 @@ impl<'a> Model for Numbering<'a> {
     ghost use Rattle.pddl_parser.specs.contracts.types.Condition as condition;
     ghost use Rattle.pddl_parser.specs.contracts.types.Effect as effect;
     ghost use Rattle.type_checker.specs.Checked.{Pair};
+    ghost use Rattle.std.specs.Prelude.{map};
+    ghost use Rattle.normaliser.specs.Below.{objects_of_type};
     ghost use Rattle.normaliser.specs.Numbers.{object_names, head_names};
 
     ghost Value = { Pair };
@@ -35,30 +57,34 @@ impl<'a> Model for Numbering<'a> {
 
     ghost view = { λ numbering. record { domain = numbering.domain.now; problem = numbering.problem.now } };
 
-    ghost invariant = { λ numbering. (numbering.objects ≡ object_names numbering.domain.now numbering.problem.now) × ((numbering.predicates ≡ head_names numbering.domain.now.predicates) × (numbering.functions ≡ head_names numbering.domain.now.functions)) };
+    ghost invariant = { λ numbering. (numbering.objects ≡ object_names numbering.domain.now numbering.problem.now) × ((numbering.predicates ≡ head_names numbering.domain.now.predicates) × ((numbering.functions ≡ head_names numbering.domain.now.functions) × ((numbering.hierarchy.entries.now ≡ numbering.domain.now.types) × (map (λ known. known.objects) numbering.of_types.items ≡ map (λ known. objects_of_type numbering.domain.now numbering.problem.now known.name.now) numbering.of_types.items)))) };
 }
 
 impl<'a> Numbering<'a> {
-    /// The numbering of two files that declare no name twice.
-    pub(crate) fn of(
-        alloc: Global,
-        domain: &'a Domain,
-        problem: &'a Problem,
-    ) -> Result<Numbering<'a>, AllocError>
-        ensures { IfOk result (λ numbering. numbering ≡ record { domain = domain.now; problem = problem.now }) }
+    /// The numbering of a checked pair, which declares no name twice.
+    pub(crate) fn of(alloc: Global, task: &'a Checked) -> Result<Numbering<'a>, AllocError>
+        ensures { IfOk result (λ numbering. numbering ≡ task.now) }
     {
+        let domain = task.domain();
+        let problem = task.problem();
         let mut objects = Names::new(alloc);
         add_objects(&mut objects, domain.constants.as_slice())?;
         add_objects(&mut objects, problem.objects.as_slice())?;
         let predicates = names_of(alloc, domain.predicates.as_slice())?;
         let functions = names_of(alloc, domain.functions.as_slice())?;
-        Ok(Numbering {
+        let mut numbering = Numbering {
             domain,
             problem,
             objects,
             predicates,
             functions,
-        })
+            hierarchy: Hierarchy::new(alloc, domain.types.as_slice())?,
+            types: Names::new(alloc),
+            of_types: Vec::new(alloc),
+        };
+        let asked = asked_types(alloc, domain, problem)?;
+        numbering.know_types(alloc, &asked)?;
+        Ok(numbering)
     }
 
     pub(crate) fn domain(&self) -> &'a Domain
@@ -102,29 +128,94 @@ impl<'a> Numbering<'a> {
     }
 
     /// The numbers of the objects that the variable ranges over, in their order.
-    pub(crate) fn range(&self, alloc: Global, variable: &Typed) -> Result<List<u64>, AllocError>
+    pub(crate) fn range(&self, alloc: Global, variable: &'a Typed) -> Result<List<u64>, AllocError>
         ensures { IfOk result (λ range. range ≡ spec.range_of self.now.domain self.now.problem variable.now) }
     {
         let listed = variable.types.as_slice();
+        match self.known_range(listed) {
+            Some(range) => copied_numbers(alloc, range),
+            None => self.range_of_types(alloc, listed),
+        }
+    }
+
+    /// The numbers of the objects of the listed type, if they are known.
+    fn known_range(&self, listed: &[Named]) -> Option<&[u64]>
+        ensures { IfSome result (λ range. range.now ≡ range_of_types self.now.domain self.now.problem listed.now) }
+    {
+        let name = one_type(listed)?;
+        let place = self.types.position(name);
+        if place >= self.of_types.len() {
+            return None;
+        }
+        let known = &self.of_types[place];
+        if known.name == name {
+            Some(known.objects.as_slice())
+        } else {
+            None
+        }
+    }
+
+    /// The numbers of the objects that have a listed type.
+    fn range_of_types(&self, alloc: Global, listed: &'a [Named]) -> Result<List<u64>, AllocError>
+        ensures { IfOk result (λ range. range ≡ range_of_types self.now.domain self.now.problem listed.now) }
+    {
+        let below = self.hierarchy.below(alloc, listed)?;
+        let is_any = is_any(listed);
         let mut numbers = Vec::new(alloc);
-        self.push_numbers(&mut numbers, listed, self.domain().constants.as_slice())?;
-        self.push_numbers(&mut numbers, listed, self.problem().objects.as_slice())?;
+        self.push_numbers(
+            &mut numbers,
+            is_any,
+            &below,
+            self.domain().constants.as_slice(),
+        )?;
+        self.push_numbers(
+            &mut numbers,
+            is_any,
+            &below,
+            self.problem().objects.as_slice(),
+        )?;
         Ok(List::from_vec(numbers))
     }
 
-    /// Adds the numbers of those of the objects that have a listed type.
+    /// Adds the numbers of those of the objects that have one of the types, or of all of them.
     fn push_numbers(
         &self,
         numbers: &mut Vec<u64>,
-        listed: &[Named],
+        is_any: bool,
+        below: &Names<'_>,
         objects: &[Typed],
     ) -> Result<(), AllocError>
-        ensures { OnOk result (numbers.new.items ≡ numbers.old.items ++ map (spec.object_number self.now.domain self.now.problem) (map (λ object. object.name.name) (filter (typing.has_listed_type self.now.domain.types listed.now) objects.now))) }
+        ensures { OnOk result (numbers.new.items ≡ numbers.old.items ++ map (spec.object_number self.now.domain self.now.problem) (map (λ object. object.name.name) (filter (has_type_among is_any below.now) objects.now))) }
     {
         for object in objects {
-            if has_listed_type(self.domain.types.as_slice(), listed, object) {
+            if is_any || has_some(below, object.types.as_slice()) {
                 numbers.push(self.object(object.name.name.as_slice()))?;
             }
+        }
+        Ok(())
+    }
+
+    /// Looks up once which objects have the type, if one type alone is listed.
+    fn know_type(&mut self, alloc: Global, listed: &'a [Named]) -> Result<(), AllocError>
+        ensures { OnOk result (self.new ≡ self.old) }
+    {
+        let Some(name) = one_type(listed) else {
+            return Ok(());
+        };
+        if !self.types.has(name) {
+            let objects = self.range_of_types(alloc, listed)?;
+            self.of_types.push(OfType { name, objects })?;
+            self.types.add(name)?;
+        }
+        Ok(())
+    }
+
+    /// Looks up once which objects have each of the types.
+    fn know_types(&mut self, alloc: Global, asked: &[&'a [Named]]) -> Result<(), AllocError>
+        ensures { OnOk result (self.new ≡ self.old) }
+    {
+        for listed in asked {
+            self.know_type(alloc, *listed)?;
         }
         Ok(())
     }
@@ -133,7 +224,7 @@ impl<'a> Numbering<'a> {
     pub(crate) fn ranges(
         &self,
         alloc: Global,
-        variables: &[Typed],
+        variables: &'a [Typed],
     ) -> Result<List<List<u64>>, AllocError>
         ensures { IfOk result (λ ranges. ranges ≡ spec.ranges_of self.now.domain self.now.problem variables.now) }
     {
@@ -147,6 +238,7 @@ impl<'a> Numbering<'a> {
 
 /// Adds the names of the objects, of which none is there.
 fn add_objects<'a>(names: &mut Names<'a>, objects: &'a [Typed]) -> Result<(), AllocError>
+    requires { IsDistinct is_same (names.old ++ map (λ object. object.name.name) objects.now) }
     ensures { OnOk result (names.new ≡ names.old ++ map (λ object. object.name.name) objects.now) }
 {
     for object in objects {
@@ -155,8 +247,9 @@ fn add_objects<'a>(names: &mut Names<'a>, objects: &'a [Typed]) -> Result<(), Al
     Ok(())
 }
 
-/// The names of the heads.
+/// The names of the heads, of which no two are the same.
 fn names_of<'a>(alloc: Global, heads: &'a [Head]) -> Result<Names<'a>, AllocError>
+    requires { IsDistinct is_same (spec.head_names heads.now) }
     ensures { IfOk result (λ names. names ≡ spec.head_names heads.now) }
 {
     let mut names = Names::new(alloc);
@@ -166,71 +259,41 @@ fn names_of<'a>(alloc: Global, heads: &'a [Head]) -> Result<Names<'a>, AllocErro
     Ok(names)
 }
 
-/// Adds a name that isn't there. No name is declared twice in a checked pair.
+/// Adds a name that isn't there.
 fn add_new<'a>(names: &mut Names<'a>, name: &'a [u8]) -> Result<(), AllocError>
+    requires { list_any (is_same name.now) names.old ≡ false }
     ensures { OnOk result (names.new ≡ names.old ++ name.now ∷ []) }
 {
-    let is_new = !names.has(name);
     names.add(name)?;
-    if is_new { Ok(()) } else { Err(AllocError) }
+    Ok(())
 }
 
-fn has_listed_type(types: &[Typed], listed: &[Named], object: &Typed) -> bool
-    ensures { result ≡ typing.has_listed_type types.now listed.now object.now }
+/// The type that is listed alone, where `object` stands for no type at all.
+fn one_type(listed: &[Named]) -> Option<&[u8]>
+    ensures { (domain : Domain) (problem : Problem) → IfSome result (λ type. objects_of_type domain problem type.now ≡ range_of_types domain problem listed.now) }
 {
-    listed.is_empty() || has_some_type(types, listed, object)
-}
-
-fn has_some_type(types: &[Typed], listed: &[Named], object: &Typed) -> bool
-    ensures { result ≡ list_any (λ type. typing.has_type types.now object.now type.name) listed.now }
-{
-    for type_name in listed {
-        if has_type(types, object, type_name.name.as_slice()) {
-            return true;
-        }
+    match listed {
+        [] => Some(b"object".as_slice()),
+        [named] => Some(named.name.as_slice()),
+        _ => None,
     }
-    false
 }
 
-fn has_type(types: &[Typed], object: &Typed, name: &[u8]) -> bool
-    ensures { result ≡ typing.has_type types.now object.now name.now }
+/// Whether no type is listed, or `object` is.
+fn is_any(listed: &[Named]) -> bool
+    ensures { result ≡ spec_below.is_any listed.now }
 {
-    name == b"object".as_slice() || some_leads(types, types.len(), object.types.as_slice(), name)
+    match listed {
+        [] => true,
+        _ => has_root(listed),
+    }
 }
 
-/// Whether the entry puts supertypes above the type.
-fn declares(entry: &Typed, name: &[u8]) -> bool
-    ensures { result ≡ typing.declares entry.now name.now }
+/// Whether one of the types is `object`.
+fn has_root(listed: &[Named]) -> bool
+    ensures { result ≡ list_any (λ type. is_same type.name typing.root) listed.now }
 {
-    entry.name.name.as_slice() == name && name != b"object".as_slice()
-}
-
-#[cycle(leads)]
-fn leads(types: &[Typed], steps: usize, from: &[u8], to: &[u8]) -> bool
-    ensures { result ≡ typing.leads types.now steps from.now to.now }
-{
-    if from == to {
-        return true;
-    }
-    if steps == 0 {
-        return false;
-    }
-    for entry in types {
-        if declares(entry, from) && some_leads(types, steps - 1, entry.types.as_slice(), to) {
-            return true;
-        }
-    }
-    false
-}
-
-#[cycle(leads)]
-fn some_leads(types: &[Typed], steps: usize, parents: &[Named], to: &[u8]) -> bool
-    ensures { result ≡ list_any (λ parent. typing.leads types.now steps parent.name to.now) parents.now }
-{
-    for parent in parents {
-        if leads(types, steps, parent.name.as_slice(), to) {
-            return true;
-        }
-    }
-    false
+    listed
+        .iter()
+        .any(|named| named.name.as_slice() == b"object".as_slice())
 }

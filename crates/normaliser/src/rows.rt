@@ -12,20 +12,17 @@ use std::alloc::{AllocError, Global};
 pub(crate) fn joined_ranges(
     alloc: Global,
     first: &[List<u64>],
-    second: &[List<u64>],
+    second: List<List<u64>>,
 ) -> Result<List<List<u64>>, AllocError>
-    ensures { IfOk result (λ all. all ≡ first.now ++ second.now) }
+    ensures { IfOk result (λ all. all ≡ first.now ++ second) }
 {
     let mut all = Vec::new(alloc);
     push_ranges(&mut all, first)?;
-    push_ranges(&mut all, second)?;
+    all.append(&mut second.into_vec())?;
     Ok(List::from_vec(all))
 }
 
-pub(crate) fn copied_ranges(
-    alloc: Global,
-    ranges: &[List<u64>],
-) -> Result<List<List<u64>>, AllocError>
+fn copied_ranges(alloc: Global, ranges: &[List<u64>]) -> Result<List<List<u64>>, AllocError>
     ensures { IfOk result (λ copy. copy ≡ ranges.now) }
 {
     let mut copy = Vec::new(alloc);
@@ -115,7 +112,11 @@ fn axiom_row(
     Ok(AxiomRow {
         predicate,
         shown: arguments.len() as u64,
-        parameters: joined_ranges(alloc, arguments, part.variables.as_slice())?,
+        parameters: joined_ranges(
+            alloc,
+            arguments,
+            copied_ranges(alloc, part.variables.as_slice())?,
+        )?,
         condition: copied_literals(alloc, part.literals.as_slice())?,
     })
 }

@@ -10,39 +10,40 @@ use crate::increases::action_cost;
 use crate::made::Made;
 use crate::moved::sum;
 use crate::numbering::Numbering;
-use crate::parts::{Fresh, Part, Slot};
-use crate::rows::{copied_literals, joined_ranges, moved_rows};
+use crate::parts::{Fresh, Part};
+use crate::rows::{joined_ranges, moved_rows};
 use crate::scope::scope_inside;
 use crate::task::{EffectRow, Schema};
+use crate::variable::Variable;
 use lists::{List, Text};
 use pddl_parser::Action;
 use std::alloc::{AllocError, Global};
 
 /// What the schemas of an action share: its parameters as variables, what they range over, and its effects.
 #[derive(Clone, Copy)]
-struct Shared<'a> {
+struct Shared<'s, 'n, 'a> {
     action: &'a Action,
-    scope: &'a [Slot],
-    ranges: &'a [List<u64>],
-    rows: &'a [EffectRow],
+    scope: &'s [Variable<'n, 'a>],
+    ranges: &'s [List<u64>],
+    rows: &'s [EffectRow],
 }
 
 /// The schema of the part.
 fn schema(
     alloc: Global,
     numbering: &Numbering<'_>,
-    shared: &Shared<'_>,
-    part: &Part,
+    shared: &Shared<'_, '_, '_>,
+    part: Part,
 ) -> Result<Schema, AllocError>
-    ensures { IfOk result (λ schema. schema ≡ shared_schema numbering.now.domain numbering.now.problem shared.now part.now) }
+    ensures { IfOk result (λ schema. schema ≡ shared_schema numbering.now.domain numbering.now.problem shared.now part) }
 {
     let shown = shared.action.parameters.as_slice().len() as u64;
     let more = part.variables.as_slice().len() as u64;
     Ok(Schema {
         action: Text::from_vec(Vec::from_slice(alloc, shared.action.name.name.as_slice())?),
         shown,
-        parameters: joined_ranges(alloc, shared.ranges, part.variables.as_slice())?,
-        condition: copied_literals(alloc, part.literals.as_slice())?,
+        parameters: joined_ranges(alloc, shared.ranges, part.variables)?,
+        condition: part.literals,
         effects: moved_rows(alloc, shown, more, shared.rows)?,
         cost: action_cost(alloc, numbering, shared.scope, shared.action)?,
     })
@@ -52,13 +53,13 @@ fn schema(
 fn schemas_with(
     alloc: Global,
     numbering: &Numbering<'_>,
-    shared: &Shared<'_>,
-    parts: &[Part],
+    shared: &Shared<'_, '_, '_>,
+    parts: List<Part>,
 ) -> Result<List<Schema>, AllocError>
-    ensures { IfOk result (λ schemas. schemas ≡ map (shared_schema numbering.now.domain numbering.now.problem shared.now) parts.now) }
+    ensures { IfOk result (λ schemas. schemas ≡ map (shared_schema numbering.now.domain numbering.now.problem shared.now) parts) }
 {
     let mut schemas = Vec::new(alloc);
-    for part in parts {
+    for part in parts.into_vec() {
         schemas.push(schema(alloc, numbering, shared, part)?)?;
     }
     Ok(List::from_vec(schemas))
@@ -77,10 +78,10 @@ pub(crate) fn joined_fresh(
 }
 
 /// A schema for each part of the precondition, which all have the same effects.
-fn schemas(
+fn schemas<'n, 'a>(
     alloc: Global,
-    numbering: &Numbering<'_>,
-    action: &Action,
+    numbering: &'n Numbering<'a>,
+    action: &'a Action,
     next: u64,
 ) -> Result<Made<Schema>, AllocError>
     ensures { IfOk result (IsMadeOf (spec.schemas numbering.now.domain numbering.now.problem action.now next)) }
@@ -111,7 +112,7 @@ fn schemas(
         ranges: ranges.as_slice(),
         rows: rows.items.as_slice(),
     };
-    let items = schemas_with(alloc, numbering, &shared, parts.items.as_slice())?;
+    let items = schemas_with(alloc, numbering, &shared, parts.items)?;
     Ok(Made {
         items,
         fresh: joined_fresh(parts.fresh, rows.fresh)?,
@@ -119,10 +120,10 @@ fn schemas(
 }
 
 /// The schemas of the actions, one action after another.
-pub(crate) fn schemas_of(
+pub(crate) fn schemas_of<'n, 'a>(
     alloc: Global,
-    numbering: &Numbering<'_>,
-    actions: &[Action],
+    numbering: &'n Numbering<'a>,
+    actions: &'a [Action],
     next: u64,
 ) -> Result<Made<Schema>, AllocError>
     ensures { IfOk result (IsMadeOf (parts.in_turn (map (spec.schemas numbering.now.domain numbering.now.problem) actions.now) next)) }

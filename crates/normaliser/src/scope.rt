@@ -1,96 +1,64 @@
 // The variables in scope.
-ghost use Rattle.std.specs.Prelude.{◌≡◌, ◌++◌, ◌∷◌, map, unwrap_or, IfOk};
+ghost use Rattle.std.specs.Prelude.{◌≡◌, ◌++◌, ◌∷◌, map, unwrap_or, IfOk, OnOk};
 ghost use Rattle.std.specs.Option.{option_map};
 ghost use Rattle.normaliser.specs.Numbers as numbers;
 ghost use Rattle.normaliser.specs.Parts as spec;
 
-use crate::moved::{copied_numbers, sum};
+use crate::moved::sum;
 use crate::numbering::Numbering;
-use crate::parts::Slot;
 use crate::task::Place;
-use lists::{List, Text};
+use crate::variable::Variable;
+use lists::List;
 use pddl_parser::{Term, Typed};
 use std::alloc::{AllocError, Global};
 
 /// The scope inside a list of variables, which are numbered on from the given number.
-pub(crate) fn scope_inside(
+pub(crate) fn scope_inside<'n, 'a>(
     alloc: Global,
-    numbering: &Numbering<'_>,
-    variables: &[Typed],
+    numbering: &'n Numbering<'a>,
+    variables: &'a [Typed],
     place: u64,
-    outer: &[Slot],
-) -> Result<Vec<Slot>, AllocError>
+    outer: &[Variable<'n, 'a>],
+) -> Result<Vec<Variable<'n, 'a>>, AllocError>
     ensures { IfOk result (λ scope. scope.items ≡ spec.scope_inside numbering.now.domain numbering.now.problem variables.now place outer.now) }
 {
-    let mut scope = copied_scope(alloc, outer)?;
-    let mut number = place;
-    for variable in variables {
-        scope = with_variable(alloc, numbering, variable, number, scope)?;
-        number = sum(number, 1)?;
-    }
-    Ok(scope)
-}
-
-/// The scope with one more variable, the innermost.
-fn with_variable(
-    alloc: Global,
-    numbering: &Numbering<'_>,
-    variable: &Typed,
-    place: u64,
-    mut outer: Vec<Slot>,
-) -> Result<Vec<Slot>, AllocError>
-    ensures { IfOk result (λ scope. scope.items ≡ spec.with_slot place variable.now.name.name (numbers.range_of numbering.now.domain numbering.now.problem variable.now) outer.items) }
-{
     let mut scope = Vec::new(alloc);
-    scope.push(Slot {
-        variable: copied_text(alloc, &variable.name.name)?,
-        range: numbering.range(alloc, variable)?,
-        place,
-    })?;
-    scope.append(&mut outer)?;
+    let mut left = variables.len();
+    while left > 0 {
+        left -= 1;
+        let number = sum(place, left as u64)?;
+        scope.push(Variable::new(numbering, &variables[left], number))?;
+    }
+    push_variables(&mut scope, outer)?;
     Ok(scope)
 }
 
-fn copied_scope(alloc: Global, scope: &[Slot]) -> Result<Vec<Slot>, AllocError>
-    ensures { IfOk result (λ copy. copy.items ≡ scope.now) }
+fn push_variables<'n, 'a>(
+    scope: &mut Vec<Variable<'n, 'a>>,
+    more: &[Variable<'n, 'a>],
+) -> Result<(), AllocError>
+    ensures { OnOk result (scope.new.items ≡ scope.old.items ++ more.now) }
 {
-    let mut copy = Vec::new(alloc);
-    for slot in scope {
-        copy.push(copied_slot(alloc, slot)?)?;
+    for variable in more {
+        scope.push(variable.copy())?;
     }
-    Ok(copy)
-}
-
-fn copied_slot(alloc: Global, slot: &Slot) -> Result<Slot, AllocError>
-    ensures { IfOk result (λ copy. copy ≡ slot.now) }
-{
-    Ok(Slot {
-        variable: copied_text(alloc, &slot.variable)?,
-        range: copied_numbers(alloc, slot.range.as_slice())?,
-        place: slot.place,
-    })
-}
-
-pub(crate) fn copied_text(alloc: Global, text: &Text) -> Result<Text, AllocError>
-    ensures { IfOk result (λ copy. copy ≡ text.now) }
-{
-    Ok(Text::from_vec(Vec::from_slice(alloc, text.as_slice())?))
+    Ok(())
 }
 
 /// The number of the innermost variable of this name.
-fn variable_number(scope: &[Slot], name: &[u8]) -> u64
+fn variable_number(scope: &[Variable<'_, '_>], name: &[u8]) -> u64
     ensures { result ≡ unwrap_or (option_map (λ slot. slot.place) (spec.slot_of scope.now name.now)) 0 }
 {
-    for slot in scope {
-        if slot.variable.as_slice() == name {
-            return slot.place;
+    for variable in scope {
+        if variable.name() == name {
+            return variable.place();
         }
     }
     0
 }
 
 /// What stands for the term.
-pub(crate) fn place_of(numbering: &Numbering<'_>, scope: &[Slot], term: &Term) -> Place
+pub(crate) fn place_of(numbering: &Numbering<'_>, scope: &[Variable<'_, '_>], term: &Term) -> Place
     ensures { result ≡ spec.place_of numbering.now.domain numbering.now.problem scope.now term.now }
 {
     match term {
@@ -105,7 +73,7 @@ pub(crate) fn place_of(numbering: &Numbering<'_>, scope: &[Slot], term: &Term) -
 pub(crate) fn places_of(
     alloc: Global,
     numbering: &Numbering<'_>,
-    scope: &[Slot],
+    scope: &[Variable<'_, '_>],
     terms: &[Term],
 ) -> Result<List<Place>, AllocError>
     ensures { IfOk result (λ places. places ≡ spec.places_of numbering.now.domain numbering.now.problem scope.now terms.now) }

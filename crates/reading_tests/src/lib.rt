@@ -15,3 +15,5 @@ mod parser;
 mod reading;
 #[cfg(test)]
 mod shapes;
+#[cfg(test)]
+mod shown;

@@ -1,4 +1,4 @@
-use Rattle.std.proofs.Common.{◌∙◌, subst}
+use Rattle.std.proofs.Common.{refl, ◌∙◌, subst}
 use Rattle.std.specs.Prelude.{IfOk}
 use Rattle.normaliser.specs.Code.{IsMade}
 use Rattle.normaliser.specs.Parts.{Part, Made}
@@ -16,7 +16,7 @@ pub cut_paired-loop-member-preserved : goal.cut_paired-loop-member-preserved
 cut_paired-loop-member-preserved t c =
     paired-after c.args.numbering.now.domain c.args.numbering.now.problem c.args.positive c.args.scope.now c.args.around c.args.next c.args.members.now c.loop-member.member-index c.member-item.result c.loop-member-test.true c.member-item.is
     c.loop-member.fresh.items c.in_ok-start.start c.len.result c.in_ok-made.made c.in_ok-start.ensures (c.len.ensures ∙ c.loop-member.fresh.ok.0) c.in_ok-made.ensures c.loop-member.all c.loop-member.invariant
-    c.in_ok-all-2.all c.as_slice.result.now c.as_slice-in-loop-member.result.now c.append.new.self.items c.into_vec.result.items c.in_ok-all-2.ensures c.as_slice.ensures c.as_slice-in-loop-member.ensures c.in_ok-append.ensures.items c.into_vec.ensures
+    c.in_ok-all-2.all c.loop-member.all c.as_slice.result.now c.append.new.self.items c.into_vec.result.items c.in_ok-all-2.ensures refl c.as_slice.ensures c.in_ok-append.ensures.items c.into_vec.ensures
 
 pub cut-returns-in-Forall-true : goal.cut-returns-in-Forall-true
 cut-returns-in-Forall-true t c =

@@ -1,6 +1,6 @@
-use Rattle.std.proofs.Common.{◌≡◌, map, take}
+use Rattle.std.proofs.Common.{◌≡◌, map}
 use Rattle.normaliser.specs.Parts as spec
 use Rattle.normaliser.proofs.cut.all_behind.Given as goal
 
 abbrev pub invariant-loop-part : goal.invariant-loop-part
-invariant-loop-part l = l.all.items ≡ map (spec.with_variables l.ranges) (take l.part-index l.parts)
+invariant-loop-part l = l.all.items ≡ map (spec.with_variables l.ranges) l.yielded

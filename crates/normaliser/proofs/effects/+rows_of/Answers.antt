@@ -4,7 +4,7 @@ use Rattle.pddl_parser.specs.declared.types.Effect.{Effect}
 use Rattle.pddl_parser.specs.declared.types.Typed.{Typed}
 use Rattle.normaliser.specs.declared.task.EffectRow.{EffectRow}
 use Rattle.normaliser.specs.MadeThings.{IsMadeOf, cuts_of}
-use Rattle.normaliser.specs.Normalised.{Rows, rows_of, row_with_variables}
+use Rattle.normaliser.specs.Normalised.{Rows, rows_of}
 use Rattle.normaliser.specs.Numbers.{ranges_of}
 use Rattle.normaliser.specs.Parts.{Fresh, Made, scope_inside}
 use Rattle.normaliser.proofs.EffectRows.{when-is, forall-is}
@@ -32,7 +32,7 @@ rows_of-returns-in_ok-rows_with_variables-in-Forall t c =
     c.as_slice-in-Forall-5.result.now (c.as_slice-in-Forall-5.ensures ∙ c.in_ok-ranges-in-Forall.ensures ∙ ap (ranges_of domain problem) c.as_slice-in-Forall-4.ensures)
     c.in_ok-made-in-Forall.made.items c.in_ok-made-in-Forall.made.fresh c.in_ok-made-in-Forall.ensures
     c.in_ok-rows_with_variables-in-Forall.field-0
-    (c.in_ok-rows_with_variables-in-Forall.ensures ∙ ap (map (row_with_variables domain problem c.as_slice-in-Forall-5.result.now)) c.as_slice-in-Forall-6.ensures)
+    c.in_ok-rows_with_variables-in-Forall.ensures
 
 pub rows_of_all-loop-member-preserved : goal.rows_of_all-loop-member-preserved
 rows_of_all-loop-member-preserved t c =

@@ -14,5 +14,5 @@ loop-one-preserved c =
     c.args.next c.loop-one.all c.loop-one.fresh.items c.loop-one.invariant
     c.in_ok-start.start (c.in_ok-start.ensures ∙ ap (λ (n : ℕ). c.args.next + n) (c.len.ensures ∙ c.loop-one.fresh.ok.0)) c.in_ok-made.made.items c.in_ok-made.made.fresh c.in_ok-made.ensures
     c.in_ok-all-2.all c.append.new.self.items
-    (c.in_ok-all-2.ensures ∙ ap (λ (l : List Part). paired c.args.around l c.as_slice-in-loop-one.result.now) c.as_slice.ensures ∙ ap (paired c.args.around c.loop-one.all) c.as_slice-in-loop-one.ensures)
+    (c.in_ok-all-2.ensures ∙ ap (paired c.args.around c.loop-one.all) c.as_slice.ensures)
     (c.in_ok-append.ensures.items ∙ ap (λ (l : List Fresh). c.loop-one.fresh.items ++ l) c.into_vec.ensures)

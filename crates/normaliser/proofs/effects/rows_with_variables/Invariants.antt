@@ -1,4 +1,4 @@
-use Rattle.std.proofs.Common.{◌≡◌, ◌++◌, map, take}
+use Rattle.std.proofs.Common.{◌≡◌, ◌++◌, map}
 use Rattle.normaliser.proofs.effects.rows_with_variables.Given as goal
 
 abbrev pub invariant-loop-row : goal.invariant-loop-row
@@ -9,4 +9,4 @@ invariant-loop-row l =
       adds = row.adds;
       predicate = row.predicate;
       places = row.places;
-    }) (take l.row-index l.rows)
+    }) l.yielded

@@ -1,4 +1,4 @@
-use Rattle.std.proofs.Common.{List, [], ◌+◌, length, ap, ◌∙◌}
+use Rattle.std.proofs.Common.{List, [], ◌+◌, length, refl, ap, ◌∙◌}
 use Rattle.pddl_parser.specs.declared.types.Typed.{Typed}
 use Rattle.normaliser.specs.Numbers.{ranges_of}
 use Rattle.normaliser.specs.Parts.{Fresh, scope_inside}
@@ -18,5 +18,5 @@ returns c =
     c.in_ok-start.start (c.in_ok-start.ensures ∙ ap (λ (l : List Fresh). c.args.next + length l) c.as_slice-2.ensures)
     c.as_slice-3.result.now c.as_slice-3.ensures.value c.in_ok-rows.rows.items c.in_ok-rows.rows.fresh c.in_ok-rows.ensures
     c.as_slice-4.result.now c.as_slice-5.result.now c.as_slice-6.result.now c.as_slice-4.ensures.value c.as_slice-5.ensures c.as_slice-6.ensures
-    c.in_ok-items.items c.as_slice-7.result.now c.as_slice-7.ensures c.in_ok-items.ensures
+    c.in_ok-items.items c.in_ok-parts.parts.items refl c.in_ok-items.ensures
     c.in_ok-joined_fresh.field-0 c.in_ok-joined_fresh.ensures

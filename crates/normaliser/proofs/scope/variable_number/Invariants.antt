@@ -2,5 +2,5 @@ use Rattle.std.proofs.Common.{◌≡◌, drop}
 use Rattle.normaliser.specs.Parts as spec
 use Rattle.normaliser.proofs.scope.variable_number.Given as goal
 
-abbrev pub invariant-loop-slot : goal.invariant-loop-slot
-invariant-loop-slot l = spec.slot_of (drop l.slot-index l.scope) l.name ≡ spec.slot_of l.scope l.name
+abbrev pub invariant-loop-variable : goal.invariant-loop-variable
+invariant-loop-variable l = spec.slot_of (drop l.variable-index l.scope) l.name ≡ spec.slot_of l.scope l.name
