@@ -82,6 +82,22 @@ row_second : (test other : PredicateRow → Bool) (row : Option PredicateRow) �
 row_second test other None is = is
 row_second test other (Some row) is = (and_parts (test row) (other row) is).1
 
+-- ---- atoms of literals
+
+-- the atoms of literals that pass a test
+pub signed : (test : Literal → Bool) (other : GroundAtom → Bool) (sign : Bool) (binding : Binding) →
+    ((positive : Bool) (predicate : ℕ) (places : List Place) → test (Holds positive predicate places) ≡ true → other (atom_of predicate (objects_at binding places)) ≡ true) →
+    (literals : List Literal) → list_all test literals ≡ true → list_all other (signed_atoms sign binding literals) ≡ true
+signed test other sign binding each = all-pieces test other (signed_atom sign binding) one
+  where
+    one : (literal : Literal) → test literal ≡ true → list_all other (signed_atom sign binding literal) ≡ true
+    one (Equal positive left right) passes = refl
+    one (Holds positive predicate places) passes = cases (answers sign positive)
+      where
+        cases : (b : Bool) → list_all other (if b then atom_of predicate (objects_at binding places) ∷ [] else []) ≡ true
+        cases false = refl
+        cases true = and_from (other (atom_of predicate (objects_at binding places))) true (each positive predicate places passes) refl
+
 module _ (task : Normal) (lawful : normal.IsLawful task) (result : Ground) (is : IsGroundTask task result) where
   abbrev by : Settling GroundAtom GroundAtom
   by = static_settling task
@@ -171,23 +187,6 @@ module _ (task : Normal) (lawful : normal.IsLawful task) (result : Ground) (is :
       and_from (list_all (is_object whole) (objects_at binding places)) (is_predicate whole (λ row. row.arity == length (objects_at binding places)) predicate)
       (all_placed count binding bound places within)
       (ap (λ size. is_predicate whole (λ row. row.arity == size) predicate) (length-map places (object_at binding)) ∙ row)
-
-  -- the atoms of literals that pass a test
-  signed : (test : Literal → Bool) (other : GroundAtom → Bool) (sign : Bool) (binding : Binding) →
-      ((positive : Bool) (predicate : ℕ) (places : List Place) → test (Holds positive predicate places) ≡ true → other (atom_of predicate (objects_at binding places)) ≡ true) →
-      (literals : List Literal) → list_all test literals ≡ true → list_all other (signed_atoms sign binding literals) ≡ true
-  signed test other sign binding each = all-pieces test other (signed_atom sign binding) one
-    where
-      one : (literal : Literal) → test literal ≡ true → list_all other (signed_atom sign binding literal) ≡ true
-      one (Equal positive left right) passes = refl
-      one (Holds positive predicate places) passes = cases (answers sign positive)
-        where
-          atom : GroundAtom
-          atom = atom_of predicate (objects_at binding places)
-
-          cases : (b : Bool) → list_all other (if b then atom_of predicate (objects_at binding places) ∷ [] else []) ≡ true
-          cases false = refl
-          cases true = and_from (other (atom_of predicate (objects_at binding places))) true (each positive predicate places passes) refl
 
   literal_known : (count : ℕ) (binding : Binding) → IsBinding count binding → (positive : Bool) (predicate : ℕ) (places : List Place) →
       normal.is_literal task count (Holds positive predicate places) ≡ true → is_known (atom_of predicate (objects_at binding places)) ≡ true
