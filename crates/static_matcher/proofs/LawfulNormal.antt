@@ -1,15 +1,13 @@
 -- A lawful normal task keeps its static predicates, and its instances have no recursion.
-use Rattle.std.proofs.Common.{◌≡◌, ℕ, ◌<◌, Bool, true, false, not, ◌&&◌, ◌||◌, inl, inr, List, [], ◌∷◌, length, Option, Some, None, refl, sym, ap, ◌∙◌, subst, if◌then◌else◌}
+use Rattle.std.proofs.Common.{◌≡◌, ℕ, ◌<◌, Bool, true, false, not, ◌&&◌, ◌||◌, inl, inr, List, length, Option, Some, None, refl, sym, ap, ◌∙◌, subst}
 use Rattle.std.specs.Prelude.{filter, ◌==◌, nat_lt, slice_get, unwrap_or}
 use Rattle.std.specs.List.{All, list_all, flat_map, Contains}
 use Rattle.std.specs.Option.{option_map}
-use Rattle.std.proofs.lemmas.Bool.{and_parts, and_from, or_cases, true≢false, ltb-true}
+use Rattle.std.proofs.lemmas.Bool.{and_parts, or_cases, true≢false, ltb-true}
 use Rattle.lists.proofs.Items.{Among, among_contains, map_source, flat_map_piece, all_passes}
 use Rattle.normaliser.specs.declared.task.AxiomRow.{AxiomRow as AxiomSchema}
 use Rattle.normaliser.specs.declared.task.EffectRow.{EffectRow as EffectSchema}
 use Rattle.normaliser.specs.declared.task.GroundAtom.{GroundAtom}
-use Rattle.normaliser.specs.declared.task.Literal.{Literal}
-use Rattle.normaliser.specs.declared.task.Literal.TheVariants.{Holds, Equal}
 use Rattle.normaliser.specs.declared.task.Normal.{Normal}
 use Rattle.normaliser.specs.declared.task.PredicateRow.{PredicateRow}
 use Rattle.normaliser.specs.declared.task.Schema.{Schema}
@@ -70,7 +68,7 @@ module _ (task : Normal) (lawful : normal.IsLawful task) where
       let all = all_passes (λ (rule : AxiomSchema). list_all (normal.is_below task lawful.rank rule.predicate) rule.condition) schema task.axioms piece.among lawful.falls in
       let test : GroundAtom → Bool = λ asked. not (is_derived task.predicates asked) || nat_lt (lawful.rank asked.predicate) (lawful.rank schema.predicate) in
       let lower = all_passes test atom (signed_atoms sign from.source schema.condition) (inside schema from.source from.gives)
-          (signed (normal.is_below task lawful.rank schema.predicate) test sign from.source (λ positive predicate places is. is) schema.condition all) in
+      (signed (normal.is_below task lawful.rank schema.predicate) test sign from.source (λ positive predicate places is. is) schema.condition all) in
       subst (λ (r : AxiomRow GroundAtom). lawful.rank atom.predicate < lawful.rank r.atom.predicate) from.gives (below lawful.rank schema.predicate atom lower derived)
 
   pub instances_ranked : IsRanked (instance_task task)
