@@ -1,14 +1,13 @@
 -- Tasks of literal lists are planning tasks: their idle steps can be told, and a state has exactly one full state where no derived atom depends on itself.
-use Rattle.std.proofs.Common.{◌≡◌, ℕ, zero, suc, ◌<◌, Bool, true, false, not, ◌&&◌, ◌||◌, ◌⊎◌, inl, inr, List, [], ◌∷◌, map, refl, sym, ap, ◌∙◌, subst, arith}
+use Rattle.std.proofs.Common.{◌≡◌, ◌<◌, Bool, true, false, not, ◌&&◌, ◌⊎◌, inl, inr, List, [], ◌∷◌, map, refl, subst}
 use Rattle.std.specs.List.{list_any, list_all, Contains}
 use Rattle.std.proofs.lemmas.Bool.{and_parts, or_cases}
-use Rattle.planning.specs.Task.{State, IsFull, HasOneFullState}
+use Rattle.planning.specs.Task.{State, HasOneFullState}
 use Rattle.planning.proofs.IdleSteps as idle
 use Rattle.planning.proofs.FullStates.{AgreeBelow, ranked_by, one_full_state}
-use Rattle.static_matcher.specs.declared.types.Cond.{Cond}
-use Rattle.static_matcher.specs.Literals.{EffectRow, ActionRow, AxiomRow, LiteralTask, holds, gives, writes, meaning}
+use Rattle.static_matcher.specs.Literals.{EffectRow, AxiomRow, LiteralTask, holds, gives, writes, meaning}
 use Rattle.static_matcher.specs.Ranked.{IsRanked}
-use Rattle.lists.proofs.Items.{Among, contains_among, among_contains, passing, among_map, same_any}
+use Rattle.lists.proofs.Items.{Among, contains_among, passing, among_map, same_any}
 
 module _ {A : Type 0} (task : LiteralTask A) (same_is : (a b : A) → task.same a b ≡ true → a ≡ b) where
   -- all that an action writes is among the atoms of its effects
