@@ -50,9 +50,9 @@ returns-clause-small c =
     let size : length now ≡ length c.as_mut_slice.result.now = omega arith in
     let len : c.in_ok-layers.layers.len ≡ length now = omega (arith, c.as_mut_slice.ensures.len) in
     let is : AreSound (length c.as_mut_slice.result.now) c.as_slice-2.result.now = (
-      let facts = ap (λ (l : List Fact). length l) c.as_slice-facts.ensures in
-      let count : length c.args.reached.now.facts ≡ length c.as_mut_slice.result.now = omega (arith, facts, c.as_mut_slice.ensures.len, c.in_ok-layers.ensures.len) in
-      sound_arcs c.args.reached.now c.requires.lawful c.as_slice-2.result.now (c.as_slice-2.ensures.value ∙ c.in_ok-arcs.ensures) (length c.as_mut_slice.result.now) count
+    let facts = ap (λ (l : List Fact). length l) c.as_slice-facts.ensures in
+    let count : length c.args.reached.now.facts ≡ length c.as_mut_slice.result.now = omega (arith, facts, c.as_mut_slice.ensures.len, c.in_ok-layers.ensures.len) in
+    sound_arcs c.args.reached.now c.requires.lawful c.as_slice-2.result.now (c.as_slice-2.ensures.value ∙ c.in_ok-arcs.ensures) (length c.as_mut_slice.result.now) count
     ) in
     subst (All (λ (layer : ℕ). layer < 2 ^ 63)) (sym (written c.in_ok-layers.layers.len now (drop (length now) c.in_ok-layers.layers.items) len))
     (small (length c.as_mut_slice.result.now) c.as_slice-2.result.now now size is c.lift_to_rest.ensures.held (omega (arith, c.as_mut_slice.ensures.len)))
