@@ -27,7 +27,7 @@ use Rattle.relaxed_reach.specs.declared.types.Reached.{Reached}
 use Rattle.relaxed_reach.specs.declared.types.ReachedAction.{ReachedAction}
 use Rattle.relaxed_reach.specs.declared.types.ReachedAxiom.{ReachedAxiom}
 use Rattle.relaxed_reach.specs.ReachedTask.{is_derived, reached_task}
-use Rattle.fdr_encoder.specs.Places.{Cover, pair, set_of, has, places, first_place, stands_in, last_value, value_in}
+use Rattle.fdr_encoder.specs.Places.{Cover, pair, set_of, has, first_place, stands_in, last_value, value_in}
 use Rattle.fdr_encoder.specs.Split.{is_looked_at, values_left, combinations, split}
 use Rattle.fdr_encoder.specs.Effects.{among, can_go, less_known, less_idle, effects_left, is_of_use, simplified, effects_of}
 use Rattle.relaxed_reach.specs.Lawful.{NamesFacts, IsLawfulEffect, IsLawfulAction, IsLawfulAxiom, IsLawfulGoal, IsLawful}
@@ -35,8 +35,8 @@ use Rattle.relaxed_reach.specs.Layers.{Names, AreLayers}
 use Rattle.fdr_encoder.specs.Encoding.{variable_over, goal_variable, goal_split, layer_above, is_groups, group_of, groups_of, rule, GoalPart, IsEncoding}
 use Rattle.fdr_encoder.specs.Simulates.{IsCover, IsMutex}
 use Rattle.fdr_encoder.proofs.Lists.{member_map, map_member, member_filter, filter_member, any_member, member_single}
-use Rattle.fdr_encoder.proofs.Sets.{has_member, member_has, place_below, at_place}
-use Rattle.fdr_encoder.proofs.Placed.{Stands, AllStand, place_is, first, first_in, first_is, stands_member}
+use Rattle.fdr_encoder.proofs.Sets.{member_has, place_below, at_place}
+use Rattle.fdr_encoder.proofs.Placed.{place_is, first, first_in, first_is, stands_member}
 use Rattle.fdr_encoder.proofs.SplitHolds.{combination_pairs, split_pairs}
 use Rattle.fdr_encoder.proofs.OneStep.{effect_from}
 use Rattle.fdr_encoder.proofs.Parts.{RuleFrom, in_one, count, count_state, variable_at, layer_at, start_at, last_variable, variable_last, layer_last, start_last, goal_whole, goal_parted, rule_from, operator_from, is_whole, is_parted, part}

@@ -119,14 +119,14 @@ module _ (task : Ground) (lawful : IsLawfulGround task) where
     positive = λ row in' atom in_atom is.
         let from = map_source axiom_row task.axioms row (among_contains (map axiom_row task.axioms) row in') in
         let asks = and_parts (list_all (is_below task lawful.rank from.source.atom.predicate) from.source.condition.positive) (list_all (is_below task lawful.rank from.source.atom.predicate) from.source.condition.negative)
-            (all_passes (asks_below task lawful.rank) from.source task.axioms from.among lawful.falls) in
+        (all_passes (asks_below task lawful.rank) from.source task.axioms from.among lawful.falls) in
         subst (λ (r : AxiomRow GroundAtom). lawful.rank atom.predicate < lawful.rank r.atom.predicate) from.gives
         (lower from.source.atom.predicate from.source.condition.positive asks.0 atom
         (subst (λ (r : AxiomRow GroundAtom). Among atom r.condition.positive) (sym from.gives) (among_contains row.condition.positive atom in_atom)) is);
     negative = λ row in' atom in_atom is.
         let from = map_source axiom_row task.axioms row (among_contains (map axiom_row task.axioms) row in') in
         let asks = and_parts (list_all (is_below task lawful.rank from.source.atom.predicate) from.source.condition.positive) (list_all (is_below task lawful.rank from.source.atom.predicate) from.source.condition.negative)
-            (all_passes (asks_below task lawful.rank) from.source task.axioms from.among lawful.falls) in
+        (all_passes (asks_below task lawful.rank) from.source task.axioms from.among lawful.falls) in
         subst (λ (r : AxiomRow GroundAtom). lawful.rank atom.predicate < lawful.rank r.atom.predicate) from.gives
         (lower from.source.atom.predicate from.source.condition.negative asks.1 atom
         (subst (λ (r : AxiomRow GroundAtom). Among atom r.condition.negative) (sym from.gives) (among_contains row.condition.negative atom in_atom)) is);

@@ -98,7 +98,7 @@ module _ (task : Ground) (reached : Reached) (is_reached : IsReachedTask task re
     action_lawful action among =
         let row_among = among_map action_row action reached.actions among in
         let from = map_source (kept_action (numbering atoms)) (filter (λ (row : ActionRow GroundAtom). is_open (numbering atoms) row.condition) (ground_task task).actions) (action_row action)
-            (subst (λ (l : List (ActionRow ℕ)). Among (action_row action) l) is_reached.is.actions row_among) in
+        (subst (λ (l : List (ActionRow ℕ)). Among (action_row action) l) is_reached.is.actions row_among) in
         let found = filter_among (λ (row : ActionRow GroundAtom). is_open (numbering atoms) row.condition) from.source (ground_task task).actions from.among in
         let pays = paid from.source found.0 in
         record {

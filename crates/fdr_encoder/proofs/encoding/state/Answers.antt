@@ -20,8 +20,8 @@ returns c var layer =
     let sets = c.sets.result.now in
     let same : (λ (fact : ℕ). get_or c.in_ok-truths.truths.items fact false) ≡ test = λ i fact. (c.in_ok-truths.ensures fact ∙ ap (list_any (λ f. f == fact)) c.as_slice.ensures) i in
     let values = c.in_ok-all.ensures
-        ∙ ap (λ (truths : List Bool). map (position_or_len (λ fact. get_or truths fact false)) sets) c.as_slice-3.ensures.value
-        ∙ ap (λ (t : ℕ → Bool). map (position_or_len t) sets) same
-        ∙ ap (map (position_or_len test)) c.sets.ensures
-        ∙ map_places (position_or_len test) c.args.index.now [] in
+    ∙ ap (λ (truths : List Bool). map (position_or_len (λ fact. get_or truths fact false)) sets) c.as_slice-3.ensures.value
+    ∙ ap (λ (t : ℕ → Bool). map (position_or_len t) sets) same
+    ∙ ap (map (position_or_len test)) c.sets.ensures
+    ∙ map_places (position_or_len test) c.args.index.now [] in
     c.from_vec.ensures ∙ c.in_ok-push_goal_value.ensures var layer ∙ ap (λ l. l ++ (goal_part var layer c.args.members.now).values) values
