@@ -1,9 +1,8 @@
 -- Effects and initial atoms are basic, and axioms are for derived atoms: in the instances of a checked pair's normal task, and after atoms are settled.
-use Rattle.std.proofs.Common.{◌≡◌, ℕ, ◌+◌, ◌-◌, ◌<◌, ◌≤◌, Bool, true, false, not, ◌&&◌, ◌⊎◌, inl, inr, List, [], ◌∷◌, ◌++◌, map, length, refl, sym, ap, ◌∙◌, subst, arith}
+use Rattle.std.proofs.Common.{◌≡◌, ◌+◌, ◌-◌, Bool, true, false, not, ◌&&◌, ◌⊎◌, inl, inr, List, [], ◌∷◌, ◌++◌, length, refl, sym, ap, ◌∙◌, subst, arith}
 use Rattle.std.specs.Prelude.{filter, if◌then◌else◌}
 use Rattle.std.specs.List.{flat_map, list_any, list_all}
 use Rattle.std.proofs.lemmas.Bool.{and_parts}
-use Rattle.pddl_parser.specs.declared.types.Action.{Action}
 use Rattle.pddl_parser.specs.declared.types.Derived.{Derived}
 use Rattle.pddl_parser.specs.declared.types.Domain.{Domain}
 use Rattle.pddl_parser.specs.declared.types.Init.{Init}
@@ -26,7 +25,7 @@ use Rattle.normaliser.specs.Meaning as task
 use Rattle.normaliser.specs.Normalised.{moved_row, schema, precondition_parts, effect_rows, schemas, axiom_row, body_parts, axiom_rows, fresh_rows, stated, once_after, made_axioms, after_schemas, all_fresh, normal}
 use Rattle.normaliser.proofs.Faultless.{action_mentioned, action_basic, known_in_problem, problem_basic, rules_sound}
 use Rattle.normaliser.proofs.Full.{derived-declared, derived-fresh, head-declared, RuleSound}
-use Rattle.normaliser.proofs.Mentioned.{is_declared, is_known_mention}
+use Rattle.normaliser.proofs.Mentioned.{is_known_mention}
 use Rattle.normaliser.proofs.Ranks.{fresh-range, each-among}
 use Rattle.normaliser.proofs.Written.{is_basic_mention}
 use Rattle.static_matcher.specs.Literals.{EffectRow, ActionRow, AxiomRow, LiteralTask}

@@ -1,11 +1,11 @@
 -- No derived atom of the instances of a checked pair's normal task depends on itself.
-use Rattle.std.proofs.Common.{◌≡◌, ℕ, ◌<◌, Bool, true, false, List, [], ◌∷◌, take, refl, sym, ap, ◌∙◌, subst, inl, inr}
+use Rattle.std.proofs.Common.{◌≡◌, ℕ, ◌<◌, Bool, true, false, List, [], ◌∷◌, sym, subst, inl, inr}
 use Rattle.std.specs.Prelude.{filter, if◌then◌else◌}
 use Rattle.std.specs.List.{flat_map, Contains}
 use Rattle.pddl_parser.specs.declared.types.Domain.{Domain}
 use Rattle.pddl_parser.specs.declared.types.Problem.{Problem}
 use Rattle.type_checker.specs.Faults.{check_faults}
-use Rattle.lists.proofs.Items.{Among, among_contains, map_source, filter_among, flat_map_piece}
+use Rattle.lists.proofs.Items.{Among, among_contains, map_source, flat_map_piece}
 use Rattle.normaliser.specs.declared.task.AxiomRow.{AxiomRow as AxiomSchema}
 use Rattle.normaliser.specs.declared.task.GroundAtom.{GroundAtom}
 use Rattle.normaliser.specs.declared.task.Literal.{Literal}

@@ -6,7 +6,6 @@ use Rattle.std.specs.Option.{option_map}
 use Rattle.std.proofs.lemmas.Bool.{cases_Bool, true≢false}
 use Rattle.std.proofs.lemmas.List.Elements.{All-contains}
 use Rattle.std.proofs.lemmas.List.Sorted.{Contains-permutation, IsPermutation-sym}
-use Rattle.planning.specs.Task.{State}
 use Rattle.planning.specs.Same.{SameRuns}
 use Rattle.planning.specs.Plan.{system}
 use Rattle.runs.proofs.Systems.{run_follows, same_through}
@@ -20,7 +19,7 @@ use Rattle.normaliser.specs.Meaning.{choices}
 use Rattle.normaliser.specs.Meaning.{normal_task}
 use Rattle.static_matcher.specs.declared.types.Ground.{Ground}
 use Rattle.static_matcher.specs.GroundTask.{is_derived, is_fixed, ground_task}
-use Rattle.static_matcher.specs.Literals.{EffectRow, ActionRow, AxiomRow, LiteralTask, meaning}
+use Rattle.static_matcher.specs.Literals.{EffectRow, ActionRow, LiteralTask, meaning}
 use Rattle.static_matcher.specs.Ranked.{IsRanked}
 use Rattle.static_matcher.specs.Settled.{Settling, kept_actions, kept_axioms, SameMembers, IsSettled, Shows}
 use Rattle.static_matcher.specs.Instances.{effects_of, effect_of, all_fit, action_of, is_instance, actions_of, instance_task, static_settling, IsGroundTask}

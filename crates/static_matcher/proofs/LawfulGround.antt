@@ -1,10 +1,10 @@
 -- The ground task of a lawful normal task is lawful.
-use Rattle.std.proofs.Common.{◌≡◌, ℕ, zero, suc, ◌+◌, ◌<◌, ◌≤◌, Bool, true, false, not, ◌&&◌, ◌||◌, inl, inr, List, [], ◌∷◌, ◌++◌, map, take, length, get_or, Option, Some, None, refl, sym, ap, ◌∙◌, subst, arith, length-append}
-use Rattle.std.specs.Prelude.{filter, nat_lt, nat_le, ◌==◌, nat_eq, unwrap_or, slice_get, if◌then◌else◌, IsPermutation}
+use Rattle.std.proofs.Common.{◌≡◌, ℕ, zero, suc, ◌+◌, Bool, true, false, not, ◌&&◌, ◌||◌, inl, inr, List, [], ◌∷◌, ◌++◌, map, take, length, get_or, Option, Some, None, refl, sym, ap, ◌∙◌, subst, arith, length-append}
+use Rattle.std.specs.Prelude.{filter, nat_le, ◌==◌, nat_eq, unwrap_or, slice_get, if◌then◌else◌}
 use Rattle.std.specs.Cmp.Lexicographic.{pointwise}
 use Rattle.std.specs.List.{list_all, list_any, flat_map}
 use Rattle.std.specs.Option.{option_map}
-use Rattle.std.proofs.lemmas.Bool.{and_parts, and_from, or_left, or_right, or_cases, true≢false, cases_Bool, ltb-true, leb-true, eqb-true, eq-eqb, false_from_ne_true}
+use Rattle.std.proofs.lemmas.Bool.{and_parts, and_from, or_left, true≢false, ltb-true, leb-true}
 use Rattle.std.proofs.lemmas.List.{length-map, length-take-le}
 use Rattle.std.proofs.lemmas.List.Sorted.{Contains-permutation, IsPermutation-sym}
 use Rattle.lists.proofs.Items.{Among, among_at, among_contains, contains_among, among_map, map_source, filter_among, flat_map_piece, all_passes, each_passes, any_passes, none_passes}
@@ -25,14 +25,12 @@ use Rattle.normaliser.specs.Lawful as normal
 use Rattle.normaliser.specs.Lawful.{most, is_word, is_rising, differ}
 use Rattle.normaliser.specs.Meaning.{atom_of, is_same_atom, Binding, object_at, objects_at, choices, answers, value_in, value_of, object_name}
 use Rattle.normaliser.proofs.Alls.{all-both, all-images, all-pieces}
-use Rattle.static_matcher.specs.declared.types.Cond.{Cond}
-use Rattle.static_matcher.specs.declared.types.GoalRow.{GoalRow}
 use Rattle.static_matcher.specs.declared.types.GoalRow.TheVariants.{Never, All}
 use Rattle.static_matcher.specs.declared.types.Ground.{Ground}
 use Rattle.static_matcher.specs.declared.types.GroundAction.{GroundAction}
 use Rattle.static_matcher.specs.declared.types.GroundAxiom.{GroundAxiom}
 use Rattle.static_matcher.specs.declared.types.GroundEffect.{GroundEffect}
-use Rattle.static_matcher.specs.GroundTask.{is_fixed, effect_row, action_row, axiom_row, ground_task}
+use Rattle.static_matcher.specs.GroundTask.{effect_row, action_row, axiom_row}
 use Rattle.static_matcher.specs.Instances.{signed_atom, signed_atoms, condition_of, all_fit, effect_of, effects_of, action_of, is_instance, actions_of, axiom_of, axioms_of, instance_task, static_settling, IsGroundTask}
 use Rattle.static_matcher.specs.Lawful.{is_name, is_object, is_predicate, is_atom, is_basic_atom, is_derived_atom, is_condition, is_effect, is_cost, is_action, is_axiom, is_goal, is_below, asks_below, IsLawful}
 use Rattle.static_matcher.specs.Literals.{EffectRow, ActionRow, AxiomRow}
@@ -81,6 +79,22 @@ row_first test other (Some row) is = (and_parts (test row) (other row) is).0
 row_second : (test other : PredicateRow → Bool) (row : Option PredicateRow) → row_is (λ row. test row && other row) row ≡ true → row_is other row ≡ true
 row_second test other None is = is
 row_second test other (Some row) is = (and_parts (test row) (other row) is).1
+
+-- ---- atoms of literals
+
+-- the atoms of literals that pass a test
+pub signed : (test : Literal → Bool) (other : GroundAtom → Bool) (sign : Bool) (binding : Binding) →
+    ((positive : Bool) (predicate : ℕ) (places : List Place) → test (Holds positive predicate places) ≡ true → other (atom_of predicate (objects_at binding places)) ≡ true) →
+    (literals : List Literal) → list_all test literals ≡ true → list_all other (signed_atoms sign binding literals) ≡ true
+signed test other sign binding each = all-pieces test other (signed_atom sign binding) one
+  where
+    one : (literal : Literal) → test literal ≡ true → list_all other (signed_atom sign binding literal) ≡ true
+    one (Equal positive left right) passes = refl
+    one (Holds positive predicate places) passes = cases (answers sign positive)
+      where
+        cases : (b : Bool) → list_all other (if b then atom_of predicate (objects_at binding places) ∷ [] else []) ≡ true
+        cases false = refl
+        cases true = and_from (other (atom_of predicate (objects_at binding places))) true (each positive predicate places passes) refl
 
 module _ (task : Normal) (lawful : normal.IsLawful task) (result : Ground) (is : IsGroundTask task result) where
   abbrev by : Settling GroundAtom GroundAtom
@@ -172,23 +186,6 @@ module _ (task : Normal) (lawful : normal.IsLawful task) (result : Ground) (is :
       (all_placed count binding bound places within)
       (ap (λ size. is_predicate whole (λ row. row.arity == size) predicate) (length-map places (object_at binding)) ∙ row)
 
-  -- the atoms of literals that pass a test
-  signed : (test : Literal → Bool) (other : GroundAtom → Bool) (sign : Bool) (binding : Binding) →
-      ((positive : Bool) (predicate : ℕ) (places : List Place) → test (Holds positive predicate places) ≡ true → other (atom_of predicate (objects_at binding places)) ≡ true) →
-      (literals : List Literal) → list_all test literals ≡ true → list_all other (signed_atoms sign binding literals) ≡ true
-  signed test other sign binding each = all-pieces test other (signed_atom sign binding) one
-    where
-      one : (literal : Literal) → test literal ≡ true → list_all other (signed_atom sign binding literal) ≡ true
-      one (Equal positive left right) passes = refl
-      one (Holds positive predicate places) passes = cases (answers sign positive)
-        where
-          atom : GroundAtom
-          atom = atom_of predicate (objects_at binding places)
-
-          cases : (b : Bool) → list_all other (if b then atom_of predicate (objects_at binding places) ∷ [] else []) ≡ true
-          cases false = refl
-          cases true = and_from (other (atom_of predicate (objects_at binding places))) true (each positive predicate places passes) refl
-
   literal_known : (count : ℕ) (binding : Binding) → IsBinding count binding → (positive : Bool) (predicate : ℕ) (places : List Place) →
       normal.is_literal task count (Holds positive predicate places) ≡ true → is_known (atom_of predicate (objects_at binding places)) ≡ true
   literal_known count binding bound positive predicate places literal =
@@ -207,7 +204,7 @@ module _ (task : Normal) (lawful : normal.IsLawful task) (result : Ground) (is :
       is_condition whole (kept_condition by (condition_of binding literals)) ≡ true
   condition_is count binding bound literals all =
       let atoms : (sign : Bool) → list_all (is_atom whole (λ row. true)) (map by.named (filter by.keeps (signed_atoms sign binding literals))) ≡ true =
-          λ sign. kept_atoms (is_atom whole (λ row. true)) (signed_atoms sign binding literals) kept_atom (signed (normal.is_literal task count) is_known sign binding (literal_known count binding bound) literals all) in
+      λ sign. kept_atoms (is_atom whole (λ row. true)) (signed_atoms sign binding literals) kept_atom (signed (normal.is_literal task count) is_known sign binding (literal_known count binding bound) literals all) in
       and_from (list_all (is_atom whole (λ row. true)) (map by.named (filter by.keeps (signed_atoms true binding literals)))) (list_all (is_atom whole (λ row. true)) (map by.named (filter by.keeps (signed_atoms false binding literals))))
       (atoms true) (atoms false)
 
@@ -223,7 +220,7 @@ module _ (task : Normal) (lawful : normal.IsLawful task) (result : Ground) (is :
       let third = and_parts (list_all (normal.is_range task) row.variables) (list_all (normal.is_literal task all) row.condition) second.0 in
       let wide = more count (length row.variables) binding objects bound (chosen row.variables objects among third.0) in
       let arity_basic : is_predicate whole (λ declared. (declared.arity == length row.places && not declared.derived) && not declared.fixed) row.predicate ≡ true =
-          sym (row_of task (λ declared. (declared.arity == length row.places && not declared.derived) && not declared.fixed) (slice_get task.predicates row.predicate)) ∙ first.1 in
+      sym (row_of task (λ declared. (declared.arity == length row.places && not declared.derived) && not declared.fixed) (slice_get task.predicates row.predicate)) ∙ first.1 in
       let both = row_first (λ declared. declared.arity == length row.places && not declared.derived) (λ declared. not declared.fixed) (slice_get task.predicates row.predicate) arity_basic in
       let arity = row_first (λ declared. declared.arity == length row.places) (λ declared. not declared.derived) (slice_get task.predicates row.predicate) both in
       let basic = row_second (λ declared. declared.arity == length row.places) (λ declared. not declared.derived) (slice_get task.predicates row.predicate) both in
@@ -305,9 +302,9 @@ module _ (task : Normal) (lawful : normal.IsLawful task) (result : Ground) (is :
   actions_are : list_all (is_action whole) result.actions ≡ true
   actions_are = each_passes (is_action whole) result.actions (λ action among.
       let given = among_contains (kept_actions by (instance_task task).actions) (action_row action)
-          (Contains-permutation (map action_row result.actions) (kept_actions by (instance_task task).actions) (action_row action)
-          (IsPermutation-sym (kept_actions by (instance_task task).actions) (map action_row result.actions) is.actions)
-          (contains_among (map action_row result.actions) (action_row action) (among_map action_row action result.actions among))) in
+      (Contains-permutation (map action_row result.actions) (kept_actions by (instance_task task).actions) (action_row action)
+      (IsPermutation-sym (kept_actions by (instance_task task).actions) (map action_row result.actions) is.actions)
+      (contains_among (map action_row result.actions) (action_row action) (among_map action_row action result.actions among))) in
       let from = map_source (kept_action by) (filter (λ (row : ActionRow GroundAtom). is_open by row.condition) (instance_task task).actions) (action_row action) given in
       let found = filter_among (λ (row : ActionRow GroundAtom). is_open by row.condition) from.source (instance_task task).actions from.among in
       let piece = flat_map_piece (actions_of task) task.schemas from.source found.0 in
@@ -330,9 +327,9 @@ module _ (task : Normal) (lawful : normal.IsLawful task) (result : Ground) (is :
   origin : (rule : GroundAxiom) → Among rule result.axioms → Origin rule
   origin rule among =
       let given = among_contains (kept_axioms by (instance_task task).axioms) (axiom_row rule)
-          (Contains-permutation (map axiom_row result.axioms) (kept_axioms by (instance_task task).axioms) (axiom_row rule)
-          (IsPermutation-sym (kept_axioms by (instance_task task).axioms) (map axiom_row result.axioms) is.axioms)
-          (contains_among (map axiom_row result.axioms) (axiom_row rule) (among_map axiom_row rule result.axioms among))) in
+      (Contains-permutation (map axiom_row result.axioms) (kept_axioms by (instance_task task).axioms) (axiom_row rule)
+      (IsPermutation-sym (kept_axioms by (instance_task task).axioms) (map axiom_row result.axioms) is.axioms)
+      (contains_among (map axiom_row result.axioms) (axiom_row rule) (among_map axiom_row rule result.axioms among))) in
       let from = map_source (kept_axiom by) (filter (λ (row : AxiomRow GroundAtom). by.keeps row.atom && is_open by row.condition) (instance_task task).axioms) (axiom_row rule) given in
       let found = filter_among (λ (row : AxiomRow GroundAtom). by.keeps row.atom && is_open by row.condition) from.source (instance_task task).axioms from.among in
       let piece = flat_map_piece axioms_of task.axioms from.source found.0 in
@@ -355,14 +352,14 @@ module _ (task : Normal) (lawful : normal.IsLawful task) (result : Ground) (is :
       let third = and_parts (nat_le row.shown count) (list_all (normal.is_range task) row.parameters) second.0 in
       let bound = chosen row.parameters from.objects from.chosen' third.1 in
       let both : is_predicate whole (λ declared. declared.arity == row.shown && declared.derived) row.predicate ≡ true =
-          sym (row_of task (λ declared. declared.arity == row.shown && declared.derived) (slice_get task.predicates row.predicate)) ∙ first.1 in
+      sym (row_of task (λ declared. declared.arity == row.shown && declared.derived) (slice_get task.predicates row.predicate)) ∙ first.1 in
       let arity = row_first (λ declared. declared.arity == row.shown) (λ declared. declared.derived) (slice_get task.predicates row.predicate) both in
       let derived = row_second (λ declared. declared.arity == row.shown) (λ declared. declared.derived) (slice_get task.predicates row.predicate) both in
       let few = leb-true row.shown count third.0 in
       let size : length (take row.shown from.objects) ≡ row.shown = length-take-le row.shown from.objects (let all = bound.size in omega (arith, few, all)) in
       let known : is_known (axiom_of row from.objects).atom ≡ true =
-          and_from (list_all (is_object whole) (take row.shown from.objects)) (is_predicate whole (λ declared. declared.arity == length (take row.shown from.objects)) row.predicate)
-          (all_take (is_object whole) row.shown from.objects bound.objects) (ap (λ n. is_predicate whole (λ declared. declared.arity == n) row.predicate) size ∙ arity) in
+      and_from (list_all (is_object whole) (take row.shown from.objects)) (is_predicate whole (λ declared. declared.arity == length (take row.shown from.objects)) row.predicate)
+      (all_take (is_object whole) row.shown from.objects bound.objects) (ap (λ n. is_predicate whole (λ declared. declared.arity == n) row.predicate) size ∙ arity) in
       and_from (is_derived_atom whole rule.atom) (is_condition whole rule.condition)
       (subst (λ (r : AxiomRow GroundAtom). is_derived_atom whole r.atom ≡ true) from.gives (kept_is (λ row. row.derived) (axiom_of row from.objects).atom known from.keeps derived))
       (subst (λ (r : AxiomRow GroundAtom). is_condition whole r.condition ≡ true) from.gives (condition_is count from.objects bound row.condition second.1))
@@ -375,11 +372,11 @@ module _ (task : Normal) (lawful : normal.IsLawful task) (result : Ground) (is :
       let all = all_passes (λ (row : AxiomSchema). list_all (normal.is_below task lawful.rank row.predicate) row.condition) row task.axioms from.among lawful.falls in
       let test : GroundAtom → Bool = is_below whole lawful.rank row.predicate in
       let atoms : (sign : Bool) → list_all test (map by.named (filter by.keeps (signed_atoms sign from.objects row.condition))) ≡ true =
-          λ sign. each_passes test (map by.named (filter by.keeps (signed_atoms sign from.objects row.condition))) (λ atom among.
-          let source = map_source by.named (filter by.keeps (signed_atoms sign from.objects row.condition)) atom among in
-          ap test (sym source.gives)
-          ∙ all_passes test source.source (signed_atoms sign from.objects row.condition) (filter_among by.keeps source.source (signed_atoms sign from.objects row.condition) source.among).0
-          (signed (normal.is_below task lawful.rank row.predicate) test sign from.objects (λ positive predicate places below. below) row.condition all)) in
+      λ sign. each_passes test (map by.named (filter by.keeps (signed_atoms sign from.objects row.condition))) (λ atom among.
+      let source = map_source by.named (filter by.keeps (signed_atoms sign from.objects row.condition)) atom among in
+      ap test (sym source.gives)
+      ∙ all_passes test source.source (signed_atoms sign from.objects row.condition) (filter_among by.keeps source.source (signed_atoms sign from.objects row.condition) source.among).0
+      (signed (normal.is_below task lawful.rank row.predicate) test sign from.objects (λ positive predicate places below. below) row.condition all)) in
       subst (λ (r : AxiomRow GroundAtom). (list_all (is_below whole lawful.rank r.atom.predicate) r.condition.positive && list_all (is_below whole lawful.rank r.atom.predicate) r.condition.negative) ≡ true) from.gives
       (and_from (list_all test (map by.named (filter by.keeps (signed_atoms true from.objects row.condition)))) (list_all test (map by.named (filter by.keeps (signed_atoms false from.objects row.condition)))) (atoms true) (atoms false))
 
@@ -390,7 +387,7 @@ module _ (task : Normal) (lawful : normal.IsLawful task) (result : Ground) (is :
       let found = filter_among by.keeps atom task.init among in
       let parts = and_parts (list_all (normal.is_object task) atom.objects) _ (all_passes (normal.is_init task) atom task.init found.0 lawful.init) in
       let both : is_predicate whole (λ declared. declared.arity == length atom.objects && not declared.derived) atom.predicate ≡ true =
-          sym (row_of task (λ declared. declared.arity == length atom.objects && not declared.derived) (slice_get task.predicates atom.predicate)) ∙ parts.1 in
+      sym (row_of task (λ declared. declared.arity == length atom.objects && not declared.derived) (slice_get task.predicates atom.predicate)) ∙ parts.1 in
       kept_is (λ row. not row.derived) atom
       (and_from (list_all (is_object whole) atom.objects) (is_predicate whole (λ row. row.arity == length atom.objects) atom.predicate) parts.0
       (row_first (λ declared. declared.arity == length atom.objects) (λ declared. not declared.derived) (slice_get task.predicates atom.predicate) both))
@@ -412,13 +409,13 @@ module _ (task : Normal) (lawful : normal.IsLawful task) (result : Ground) (is :
 
   pub lawful_ground : IsLawful result
   lawful_ground = subst IsLawful same (record {
-      objects = lawful.objects;
-      predicates = lawful.predicates;
-      init = each_passes (is_basic_atom whole) (filter by.keeps task.init) init_is;
-      init_once = differ_filter is_same_atom by.keeps task.init lawful.init_once;
-      actions = actions_are;
-      axioms = each_passes (is_axiom whole) result.axioms (λ rule among. axiom_is rule (origin rule among));
-      goal = goal_is;
-      rank = lawful.rank;
-      falls = each_passes (asks_below whole lawful.rank) result.axioms (λ rule among. rule_below rule (origin rule among));
-    })
+    objects = lawful.objects;
+    predicates = lawful.predicates;
+    init = each_passes (is_basic_atom whole) (filter by.keeps task.init) init_is;
+    init_once = differ_filter is_same_atom by.keeps task.init lawful.init_once;
+    actions = actions_are;
+    axioms = each_passes (is_axiom whole) result.axioms (λ rule among. axiom_is rule (origin rule among));
+    goal = goal_is;
+    rank = lawful.rank;
+    falls = each_passes (asks_below whole lawful.rank) result.axioms (λ rule among. rule_below rule (origin rule among));
+  })

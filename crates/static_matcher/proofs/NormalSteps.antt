@@ -1,11 +1,9 @@
 -- A normal task has the runs of its instances.
-use Rattle.std.proofs.Common.{◌≡◌, ℕ, zero, suc, Option, None, Bool, true, false, not, ◌&&◌, cond, inl, inr, List, [], ◌∷◌, ◌++◌, map, take, Some, refl, sym, ap, ◌∙◌, subst, nat_eq}
+use Rattle.std.proofs.Common.{◌≡◌, ℕ, zero, suc, Bool, true, false, not, ◌&&◌, cond, inl, inr, List, [], ◌∷◌, ◌++◌, take, Some, refl, sym, ap, ◌∙◌, subst, nat_eq}
 use Rattle.std.specs.Prelude.{filter, is_some, unwrap_or, slice_get}
 use Rattle.std.specs.List.{list_any, list_all, flat_map, Contains}
-use Rattle.std.specs.Option.{option_map, option_and_then}
 use Rattle.std.specs.Cmp.Lexicographic.{pointwise}
-use Rattle.std.proofs.lemmas.Bool.{cases_Bool, and_parts, and_from, true≢false, eqb-true, eq-eqb}
-use Rattle.pddl_parser.specs.Step.{shown}
+use Rattle.std.proofs.lemmas.Bool.{cases_Bool, and_parts, and_from, true≢false}
 use Rattle.planning.specs.Task.{State, IsFull, Takes, cost, successor}
 use Rattle.runs.specs.Systems.{HasStep}
 use Rattle.planning.specs.Plan.{system}
@@ -16,14 +14,13 @@ use Rattle.normaliser.specs.declared.task.GroundAtom.{GroundAtom}
 use Rattle.normaliser.specs.declared.task.Literal.{Literal}
 use Rattle.normaliser.specs.declared.task.Literal.TheVariants.{Holds, Equal}
 use Rattle.normaliser.specs.declared.task.Normal.{Normal}
-use Rattle.normaliser.specs.declared.task.Schema.{Schema}
 use Rattle.normaliser.specs.Meaning.{atom_of, is_same_atom, Binding, objects_at, object_at, choices, steps_of, answers, is_met, are_met, derives, is_on, row_writes, value_of, object_name}
 use Rattle.normaliser.specs.Meaning.{normal_task, Step}
 use Rattle.normaliser.specs.Meaning as normal
 use Rattle.static_matcher.specs.declared.types.GoalRow.TheVariants.{Never, All}
-use Rattle.static_matcher.specs.Literals.{EffectRow, ActionRow, AxiomRow, holds, goal_holds, writes, meaning}
+use Rattle.static_matcher.specs.Literals.{EffectRow, ActionRow, AxiomRow, holds, goal_holds, meaning}
 use Rattle.static_matcher.specs.Instances.{signed_atoms, condition_of, all_fit, effect_of, effects_of, action_of, is_instance, actions_of, axiom_of, axioms_of, instance_task}
-use Rattle.lists.proofs.Items.{Among, among_contains, contains_among, among_map, map_source, among_filter, filter_among, passing, any_passes, same_any, any_kept, among_flat_map, flat_map_piece, any_flat_map, any_and}
+use Rattle.lists.proofs.Items.{Among, among_contains, contains_among, among_map, map_source, among_filter, filter_among, same_any, any_kept, among_flat_map, flat_map_piece, any_flat_map, any_and}
 
 -- ---- literal lists
 

@@ -1,13 +1,13 @@
 -- The normal task of a checked pair keeps its static predicates.
-use Rattle.std.proofs.Common.{◌≡◌, ℕ, suc, ◌+◌, ◌<◌, Bool, true, false, not, ◌&&◌, ◌||◌, ◌⊎◌, inl, inr, List, [], ◌∷◌, ◌++◌, map, length, get_or, Option, refl, sym, ap, ◌∙◌, subst, arith}
+use Rattle.std.proofs.Common.{◌≡◌, ℕ, suc, ◌+◌, Bool, true, false, not, ◌&&◌, ◌||◌, ◌⊎◌, inl, inr, List, [], ◌∷◌, ◌++◌, map, length, get_or, Option, refl, sym, ap, ◌∙◌, subst, arith}
 use Rattle.std.specs.Prelude.{slice_get, unwrap_or, if◌then◌else◌}
-use Rattle.std.specs.List.{list_all, list_any, flat_map, All}
+use Rattle.std.specs.List.{list_any, flat_map, All}
 use Rattle.std.specs.Option.{option_map}
 use Rattle.std.proofs.lemmas.Bool.{and_parts, true≢false}
 use Rattle.pddl_parser.specs.declared.types.Action.{Action}
 use Rattle.pddl_parser.specs.declared.types.Atom.{Atom}
 use Rattle.pddl_parser.specs.declared.types.Domain.{Domain}
-use Rattle.pddl_parser.specs.declared.types.Effect.{Effect, Effect-F}
+use Rattle.pddl_parser.specs.declared.types.Effect.{Effect}
 use Rattle.pddl_parser.specs.declared.types.Head.{Head}
 use Rattle.pddl_parser.specs.declared.types.Named.{Named}
 use Rattle.pddl_parser.specs.declared.types.Problem.{Problem}
@@ -17,8 +17,8 @@ use Rattle.pddl_parser.proofs.ConditionCases.{Each}
 use Rattle.pddl_parser.proofs.SameAtoms.{same_name}
 use Rattle.pddl_parser.proofs.Steps.{name_same}
 use Rattle.type_checker.specs.Faults.{check_faults}
-use Rattle.type_checker.specs.Mentions.{Mention, Variables, Derives, Asked, Written, Function, Compared, Use, use_of, predicate_uses, arguments, written_predicates, in_condition, in_effect, effect_step, in_action}
-use Rattle.lists.proofs.Items.{Among, among_at, among_left, among_right, among_which, among_flat_map, map_source, all_passes, any_passes}
+use Rattle.type_checker.specs.Mentions.{Mention, Variables, Derives, Asked, Written, Function, Compared, written_predicates, in_condition, in_effect, effect_step, in_action}
+use Rattle.lists.proofs.Items.{Among, among_at, among_left, among_right, among_which, map_source, all_passes, any_passes}
 use Rattle.normaliser.specs.declared.task.EffectRow.{EffectRow}
 use Rattle.normaliser.specs.declared.task.PredicateRow.{PredicateRow}
 use Rattle.normaliser.specs.declared.task.Schema.{Schema}
@@ -26,9 +26,9 @@ use Rattle.normaliser.specs.Numbers.{head_names, number_in, predicate_number, ra
 use Rattle.normaliser.specs.declared.parts.Fresh.{Fresh}
 use Rattle.normaliser.specs.declared.parts.Part.{Part}
 use Rattle.normaliser.specs.Parts.{Scope, Made, in_turn}
-use Rattle.normaliser.specs.Normalised.{Rows, effect_row, written, row_with_variables, row_step, rows_of, moved_row, schema, precondition_parts, effect_rows, schemas, made_schemas, fresh_predicates, declared_row, is_changed, all_fresh, normal}
+use Rattle.normaliser.specs.Normalised.{Rows, effect_row, written, row_with_variables, row_step, rows_of, moved_row, schema, precondition_parts, effect_rows, schemas, fresh_predicates, declared_row, is_changed, all_fresh, normal}
 use Rattle.normaliser.specs.Same.{is_among}
-use Rattle.normaliser.proofs.Mentioned.{is_declared, is_known_term, is_known_mention}
+use Rattle.normaliser.proofs.Mentioned.{is_declared, is_known_mention}
 use Rattle.normaliser.proofs.FourFolds.{by_folds}
 use Rattle.normaliser.proofs.Full.{within-left, heads-length, number-below}
 use Rattle.normaliser.proofs.Faultless.{action_mentioned}
@@ -177,7 +177,7 @@ module _ (domain : Domain) (problem : Problem) where
         let moved = map_source (moved_row domain problem (length action.parameters) (length from.source.variables)) rows row among' in
         let is = on_effect action.effect _ _ _ later moved.source moved.among in
         let known = all_passes (is_known_mention domain problem) is.mention (in_action action)
-            (inr (among_right is.mention (in_condition action.precondition) (in_effect action.effect) is.among)) (action_mentioned domain problem none action turn.among) in
+        (inr (among_right is.mention (in_condition action.precondition) (in_effect action.effect) is.among)) (action_mentioned domain problem none action turn.among) in
         let declared = named_declared is.mention is.named is.inside known in
         ap (λ (r : EffectRow). is_fixed (normal domain problem).predicates r.predicate) (sym moved.gives)
         ∙ ap (is_fixed (normal domain problem).predicates) (sym is.same)

@@ -1,5 +1,5 @@
 -- Tables of atoms and of values, as they are filled.
-use Rattle.std.proofs.Common.{◌≡◌, ℕ, ◌+◌, ◌<◌, Bool, true, false, not, ◌&&◌, ◌||◌, cond, List, [], ◌∷◌, ◌++◌, map, take, drop, length, get_or, Option, Some, None, nat_eq, refl, sym, ap, ◌∙◌, subst, arith, if◌then◌else◌}
+use Rattle.std.proofs.Common.{◌≡◌, ℕ, ◌+◌, ◌<◌, Bool, true, false, ◌&&◌, ◌||◌, List, [], ◌∷◌, ◌++◌, map, take, length, get_or, Option, Some, nat_eq, refl, sym, ap, ◌∙◌, if◌then◌else◌}
 use Rattle.std.specs.Cmp.Lexicographic.{pointwise}
 use Rattle.std.specs.List.{list_any}
 use Rattle.std.specs.Map.{lookup}
@@ -32,7 +32,7 @@ value_is [] function objects = refl
 value_is (row ∷ rows) function objects =
     let rest = value_is rows function objects in
     let swapped : (nat_eq function row.function && pointwise nat_eq objects row.objects) ≡ (nat_eq row.function function && pointwise nat_eq row.objects objects) =
-        ap (λ t. t && pointwise nat_eq objects row.objects) (nat_eq_equiv.symm function row.function) ∙ ap (λ t. nat_eq row.function function && t) ((lists_equiv nat_eq_equiv).symm objects row.objects) in
+    ap (λ t. t && pointwise nat_eq objects row.objects) (nat_eq_equiv.symm function row.function) ∙ ap (λ t. nat_eq row.function function && t) ((lists_equiv nat_eq_equiv).symm objects row.objects) in
     ap (λ t. if t then Some row.value else value_at rows (function ∷ objects)) swapped
     ∙ ap (λ o. if nat_eq row.function function && pointwise nat_eq row.objects objects then Some row.value else o) rest
 
@@ -86,7 +86,7 @@ module _ {Key : Type 0} (held : Key → List ℕ) where
       kept true e false f differ = refl
       kept true e true f differ =
           let same : held key ≡ held entry.0 = sym (same_name other (held key) f) ∙ same_name other (held entry.0) e in
-          absurd (true≢false (sym (sym differ ∙ ap (λ k. is_same (held key) k) (sym same) ∙ nat_list_eq_equiv.refl (held key)) ))
+          absurd (true≢false (sym (sym differ ∙ ap (λ k. is_same (held key) k) (sym same) ∙ nat_list_eq_equiv.refl (held key))))
 
       by : (there : Bool) → is_same (held key) (held entry.0) ≡ there →
           lookup (is_same other) (told (insert_entry (λ a b. is_same (held a) (held b)) entries key value)) ≡ (if is_same other (held key) then Some value else lookup (is_same other) (told entries)) →

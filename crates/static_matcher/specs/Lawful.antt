@@ -20,6 +20,7 @@ abbrev pub is_name : List ℕ → Bool
 is_name name = nat_lt 0 (length name) && list_all (λ byte. not (byte == 10)) name && not (slice_index name 0 == 32) && not (slice_index name (length name - 1) == 32)
 
 module _ (task : Ground) where
+  -- the number is the position of an object
   abbrev pub is_object : ℕ → Bool
   is_object number = nat_lt number (length task.objects)
 
@@ -32,9 +33,11 @@ module _ (task : Ground) where
   is_atom test atom =
       list_all is_object atom.objects && is_predicate (λ row. (row.arity == length atom.objects && not row.fixed) && test row) atom.predicate
 
+  -- such an atom that actions may change
   abbrev pub is_basic_atom : GroundAtom → Bool
   is_basic_atom = is_atom (λ row. not row.derived)
 
+  -- such an atom that axioms make true
   abbrev pub is_derived_atom : GroundAtom → Bool
   is_derived_atom = is_atom (λ row. row.derived)
 
@@ -42,19 +45,23 @@ module _ (task : Ground) where
   abbrev pub is_condition : Cond GroundAtom → Bool
   is_condition condition = list_all (is_atom (λ row. true)) condition.positive && list_all (is_atom (λ row. true)) condition.negative
 
+  -- an effect is on a basic atom
   abbrev pub is_effect : GroundEffect → Bool
   is_effect effect = is_condition effect.condition && is_basic_atom effect.atom
 
-  -- costs count only with the metric
+  -- costs count only with the metric, and aren't too great
   abbrev pub is_cost : ℕ → Bool
   is_cost cost = nat_le cost most && (task.metric || cost == 1)
 
+  -- an action has a name, a cost, and literals and effects on atoms of the task
   abbrev pub is_action : GroundAction → Bool
   is_action action = is_name action.name && is_condition action.condition && list_all is_effect action.effects && is_cost action.cost
 
+  -- an axiom is for a derived atom
   abbrev pub is_axiom : GroundAxiom → Bool
   is_axiom rule = is_derived_atom rule.atom && is_condition rule.condition
 
+  -- a goal's literals are on atoms of the task
   abbrev pub is_goal : GoalRow GroundAtom → Bool
   is_goal Never = true
   is_goal (All condition) = is_condition condition
@@ -63,10 +70,12 @@ module _ (task : Ground) where
   abbrev pub is_below : (ℕ → ℕ) → ℕ → GroundAtom → Bool
   is_below rank predicate atom = not (is_derived task.normal_predicates atom) || nat_lt (rank atom.predicate) (rank predicate)
 
+  -- each derived atom that the axiom's condition asks for has a predicate of lower rank than the axiom's own
   abbrev pub asks_below : (ℕ → ℕ) → GroundAxiom → Bool
   asks_below rank rule =
       list_all (is_below rank rule.atom.predicate) rule.condition.positive && list_all (is_below rank rule.atom.predicate) rule.condition.negative
 
+  -- the ground task is lawful
   pub record IsLawful : Type 0 where
     pub objects : list_all is_word task.objects ≡ true
     pub predicates : list_all (λ row. is_word row.name && not (row.derived && row.fixed)) task.normal_predicates ≡ true

@@ -24,11 +24,8 @@ fn object_at(binding: &[u64], place: &Place) -> u64
     }
 }
 
-fn push_objects(
-    objects: &mut Vec<u64>,
-    binding: &[u64],
-    places: &[Place],
-) -> Result<(), AllocError>
+/// Adds the objects that stand at the places.
+fn push_objects(objects: &mut Vec<u64>, binding: &[u64], places: &[Place]) -> Result<(), AllocError>
     ensures { OnOk result (objects.new.items ≡ objects.old.items ++ objects_of binding.now places.now) }
 {
     for place in places {
@@ -94,7 +91,10 @@ pub(crate) fn can_hold(
             Ok(answers(*positive, tables.is_initial(key.as_slice())))
         }
         Literal::Equal(positive, left, right) => {
-            Ok(answers(*positive, object_at(binding, left) == object_at(binding, right)))
+            Ok(answers(
+                *positive,
+                object_at(binding, left) == object_at(binding, right),
+            ))
         }
     }
 }

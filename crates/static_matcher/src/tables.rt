@@ -59,7 +59,10 @@ fn value_table(alloc: Global, rows: &[ValueRow]) -> Result<IndexMap<Vec<u64>, u6
     while left > 0 {
         left -= 1;
         let row = &rows[left];
-        table.insert(key_of(alloc, row.function, row.objects.as_slice())?, row.value)?;
+        table.insert(
+            key_of(alloc, row.function, row.objects.as_slice())?,
+            row.value,
+        )?;
     }
     Ok(table)
 }

@@ -13,12 +13,14 @@ use lists::{List, Text};
 use normaliser::{GroundAtom, Normal, PredicateRow};
 use std::alloc::{AllocError, Global};
 
+/// A text of its own.
 fn copied(alloc: Global, text: &Text) -> Result<Text, AllocError>
     ensures { IfOk result (λ copy. copy ≡ text.now) }
 {
     Ok(Text::from_vec(Vec::from_slice(alloc, text.as_slice())?))
 }
 
+/// A row of its own.
 fn predicate(alloc: Global, row: &PredicateRow) -> Result<PredicateRow, AllocError>
     ensures { IfOk result (λ copy. copy ≡ row.now) }
 {
@@ -30,6 +32,7 @@ fn predicate(alloc: Global, row: &PredicateRow) -> Result<PredicateRow, AllocErr
     })
 }
 
+/// The rows, in a list of its own.
 fn predicates(alloc: Global, rows: &[PredicateRow]) -> Result<List<PredicateRow>, AllocError>
     ensures { IfOk result (λ copy. copy ≡ rows.now) }
 {
@@ -40,6 +43,7 @@ fn predicates(alloc: Global, rows: &[PredicateRow]) -> Result<List<PredicateRow>
     Ok(List::from_vec(out))
 }
 
+/// The names, in a list of its own.
 fn objects(alloc: Global, names: &[Text]) -> Result<List<Text>, AllocError>
     ensures { IfOk result (λ copy. copy ≡ names.now) }
 {
@@ -50,6 +54,7 @@ fn objects(alloc: Global, names: &[Text]) -> Result<List<Text>, AllocError>
     Ok(List::from_vec(out))
 }
 
+/// An atom of its own.
 fn copy(alloc: Global, atom: &GroundAtom) -> Result<GroundAtom, AllocError>
     ensures { IfOk result (λ copy. copy ≡ atom.now) }
 {
@@ -82,6 +87,7 @@ fn goal(alloc: Global, tables: &Tables<'_>) -> Result<GoalRow<GroundAtom>, Alloc
     }
 }
 
+/// The ground task of the task with tables.
 fn instances_by(alloc: Global, tables: &Tables<'_>) -> Result<Ground, AllocError>
     ensures { IfOk result (IsGroundTask tables.now) }
 {

@@ -1,5 +1,5 @@
 use Rattle.std.proofs.Common.{◌∷◌, sym, ◌∙◌, ap}
-use Rattle.normaliser.specs.Meaning.{objects_at, value_of, value_in}
+use Rattle.normaliser.specs.Meaning.{objects_at, value_of}
 use Rattle.static_matcher.specs.Tables.{value_at}
 use Rattle.static_matcher.proofs.TableKeys.{value_is}
 use Rattle.static_matcher.proofs.literals.cost.Goals as goal
