@@ -1,9 +1,8 @@
 -- Tables whose keys are atoms, beside the atoms themselves.
-use Rattle.std.proofs.Common.{◌≡◌, ℕ, ◌+◌, ◌<◌, ◌≤◌, Bool, true, false, not, cond, List, [], ◌∷◌, ◌++◌, Option, Some, None, map, take, length, nat_lt, get_or, refl, sym, ap, ◌∙◌, subst, arith}
+use Rattle.std.proofs.Common.{◌≡◌, ℕ, ◌+◌, ◌≤◌, Bool, true, false, not, cond, List, [], ◌∷◌, ◌++◌, Some, None, map, take, length, nat_lt, get_or, refl, sym, ap, ◌∙◌, arith}
 use Rattle.std.specs.List.{list_any, position, position_or_len}
-use Rattle.std.specs.List.Sorted.{IsPermutation, IsSorted, IsSortedBy}
-use Rattle.std.specs.Ordering.{is_lt, ordering_then, nat_cmp}
-use Rattle.std.specs.Cmp.Lexicographic.{slice_cmp}
+use Rattle.std.specs.List.Sorted.{IsSorted}
+use Rattle.std.specs.Ordering.{is_lt}
 use Rattle.std.proofs.lemmas.List.{map_push, length-map, get_or-map, take_all}
 use Rattle.std.proofs.lemmas.Simd.{map-map}
 use Rattle.lists.proofs.Items.{any_map}

@@ -15,7 +15,7 @@ use Rattle.normaliser.specs.Meaning.{is_same_atom}
 use Rattle.static_matcher.specs.declared.types.Cond.{Cond}
 use Rattle.static_matcher.specs.declared.types.Ground.{Ground}
 use Rattle.static_matcher.specs.GroundTask.{ground_task}
-use Rattle.static_matcher.specs.Literals.{EffectRow, ActionRow, AxiomRow, LiteralTask, holds, gives, initial, meaning}
+use Rattle.static_matcher.specs.Literals.{AxiomRow, LiteralTask, holds, gives, meaning}
 use Rattle.static_matcher.specs.Ranked.{IsRanked}
 use Rattle.static_matcher.specs.Settled.{is_open, IsSettled, Shows}
 use Rattle.lists.proofs.Items.{Among, contains_among, all_passes, each_passes, passing, none_passes}

@@ -4,7 +4,7 @@ use Rattle.std.specs.List.{list_all, slice_get}
 use Rattle.std.specs.Option.{option_map, option_map_or, unwrap_or}
 use Rattle.std.proofs.lemmas.Bool.{and_parts, true≢false, not-true, leb-true, ltb-true, eqb-true}
 use Rattle.std.proofs.lemmas.Option.{slice_get_within, get_or_from_slice_get}
-use Rattle.lists.proofs.Items.{Among, among_contains, contains_among, among_at, among_map, map_source, all_passes}
+use Rattle.lists.proofs.Items.{Among, among_contains, among_at, map_source, all_passes}
 use Rattle.normaliser.specs.declared.task.GroundAtom.{GroundAtom}
 use Rattle.normaliser.specs.declared.task.PredicateRow.{PredicateRow}
 use Rattle.normaliser.specs.Lawful.{most, is_word}
@@ -18,7 +18,7 @@ use Rattle.static_matcher.specs.Literals.{EffectRow, ActionRow, AxiomRow}
 use Rattle.static_matcher.specs.Ranked.{IsRanked}
 use Rattle.static_matcher.proofs.AtomKinds.{HasKinds}
 use Rattle.relaxed_reach.specs.declared.types.Reached.{Reached}
-use Rattle.relaxed_reach.specs.Reachable.{is_among, predicate_name, IsClosed, IsReachedTask}
+use Rattle.relaxed_reach.specs.Reachable.{predicate_name, IsClosed, IsReachedTask}
 use Rattle.relaxed_reach.specs.Lawful.{IsLawful}
 use Rattle.relaxed_reach.proofs.LawfulTask.{IsPaid, lawful_if}
 use Rattle.relaxed_reach.proofs.Passes.{from_in}

@@ -1,13 +1,12 @@
 -- The reached task of a lawful ground task is lawful.
-use Rattle.std.proofs.Common.{◌≡◌, ℕ, ◌<◌, ◌≤◌, Bool, true, false, not, ◌&&◌, ◌||◌, cond, inl, inr, List, [], ◌∷◌, ◌++◌, map, length, Some, None, nat_eq, refl, sym, ap, ◌∙◌, subst, arith}
+use Rattle.std.proofs.Common.{◌≡◌, ℕ, ◌<◌, ◌≤◌, Bool, true, false, not, ◌&&◌, inl, inr, List, [], ◌∷◌, map, length, nat_eq, refl, sym, ap, ◌∙◌, subst, arith}
 use Rattle.std.specs.Prelude.{filter, if◌then◌else◌}
-use Rattle.std.specs.List.{All as Each, list_any, list_all, slice_get}
+use Rattle.std.specs.List.{All as Each, list_any}
 use Rattle.std.specs.List.Sorted.{IsStrictlySortedBy}
-use Rattle.std.proofs.lemmas.Bool.{cases_Bool, and_parts, and_from, false_from_ne_true, true≢false, eqb-true}
+use Rattle.std.proofs.lemmas.Bool.{cases_Bool, and_parts, and_from, true≢false}
 use Rattle.std.proofs.lemmas.List.{length-map}
-use Rattle.std.proofs.lemmas.List.Elements.{All-contains}
 use Rattle.std.proofs.lemmas.Option.{slice_get_within}
-use Rattle.lists.proofs.Items.{Among, among_contains, contains_among, among_map, map_source, filter_among, filter_yes, filter_no, any_passes, none_passes, passing, all_passes}
+use Rattle.lists.proofs.Items.{Among, among_map, map_source, filter_among, filter_yes, filter_no, any_passes, none_passes}
 use Rattle.normaliser.specs.declared.task.GroundAtom.{GroundAtom}
 use Rattle.normaliser.specs.Lawful.{most, differ}
 use Rattle.normaliser.specs.Meaning.{is_same_atom}
@@ -15,14 +14,12 @@ use Rattle.static_matcher.specs.declared.types.Cond.{Cond}
 use Rattle.static_matcher.specs.declared.types.GoalRow.{GoalRow}
 use Rattle.static_matcher.specs.declared.types.GoalRow.TheVariants.{Never, All}
 use Rattle.static_matcher.specs.declared.types.Ground.{Ground}
-use Rattle.static_matcher.specs.declared.types.GroundAction.{GroundAction}
-use Rattle.static_matcher.specs.GroundTask.{ground_task, action_row as ground_action}
+use Rattle.static_matcher.specs.GroundTask.{ground_task}
 use Rattle.static_matcher.specs.Literals.{EffectRow, ActionRow, AxiomRow}
 use Rattle.static_matcher.specs.Lawful.{is_name}
 use Rattle.static_matcher.specs.Ranked.{IsRanked}
 use Rattle.static_matcher.specs.Settled.{is_open, kept_condition, kept_effect, kept_action, kept_axiom, kept_goal}
 use Rattle.static_matcher.proofs.AtomKinds.{HasKinds, kinds_kept}
-use Rattle.static_matcher.proofs.Atoms.{atom_same}
 use Rattle.static_matcher.proofs.Settling.{Names}
 use Rattle.static_matcher.proofs.Statics.{all_if}
 use Rattle.relaxed_reach.specs.declared.types.Fact.{Fact}
@@ -32,7 +29,6 @@ use Rattle.relaxed_reach.specs.declared.types.ReachedAxiom.{ReachedAxiom}
 use Rattle.relaxed_reach.specs.ReachedTask.{is_derived, effect_row, action_row, axiom_row, reached_task}
 use Rattle.relaxed_reach.specs.Reachable.{is_among, number_of, numbering, fact_of, fact_cmp, shown_atom, IsReachedTask}
 use Rattle.relaxed_reach.specs.Lawful.{NamesFacts, IsLawfulEffect, IsLawfulAction, IsLawfulAxiom, IsLawfulGoal, IsLawful}
-use Rattle.relaxed_reach.specs.Law.{atoms_of}
 use Rattle.relaxed_reach.proofs.Law as law
 
 -- an action's name and cost

@@ -1,5 +1,5 @@
 -- What is written of facts is one line, with no space at either end.
-use Rattle.std.proofs.Common.{◌≡◌, ◌≢◌, ℕ, ◌+◌, ◌-◌, ◌<◌, ◌≤◌, Bool, true, false, not, nat_le, nat_lt, nat_eq, ◌&&◌, inl, inr, List, [], ◌∷◌, ◌++◌, length, get_or, refl, sym, ap, ◌∙◌, subst, arith, length-append}
+use Rattle.std.proofs.Common.{◌≡◌, ◌≢◌, ℕ, ◌-◌, ◌<◌, ◌≤◌, Bool, true, not, nat_le, nat_lt, nat_eq, ◌&&◌, inl, inr, List, [], ◌∷◌, ◌++◌, length, get_or, sym, ap, ◌∙◌, subst, arith, length-append}
 use Rattle.std.specs.Prelude.{codes}
 use Rattle.std.specs.List.{All, list_all, flat_map}
 use Rattle.std.proofs.lemmas.Bool.{and_parts, and_from, true≢false, leb-true, lt-ltb, ne_eqb, cases_lt}
