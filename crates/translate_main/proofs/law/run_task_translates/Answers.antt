@@ -1,0 +1,18 @@
+use Rattle.std.proofs.Common.{[], length}
+use Rattle.normaliser.specs.Normalised.{normal}
+use Rattle.fdr_encoder.specs.Covers.{singles}
+use Rattle.translate_main.proofs.Translated.{no_groups, translates}
+use Rattle.translate_main.proofs.law.run_task_translates.Goals as goal
+
+pub returns : goal.returns
+returns c pair task checked run valid =
+    let cover = singles (length run.reached.facts) in
+    let encoding = c.layers_and_order.ensures.in_order cover [] run.layers run.reached task run.encodes in
+    let statics = c.statics_kept.ensures pair.domain pair.problem checked.faultless in
+    let ranked = c.no_recursion.ensures (normal pair.domain pair.problem) run.grounded statics run.is_ground (c.instances_ranked.ensures pair.domain pair.problem checked.faultless) in
+    translates pair.domain pair.problem run.grounded run.reached task
+    (c.same_task.ensures pair.domain pair.problem checked.faultless)
+    (c.same_meaning.ensures (normal pair.domain pair.problem) run.grounded statics run.is_ground)
+    (c.same_meaning-2.ensures run.grounded run.reached ranked run.is_reached)
+    (c.simulation.ensures run.reached cover [] run.layers task run.lawful (c.covers.ensures.single_facts run.reached) (no_groups run.reached) encoding valid)
+    (c.idle_steps.ensures.left_out pair.domain pair.problem)

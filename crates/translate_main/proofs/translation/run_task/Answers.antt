@@ -1,0 +1,1 @@
+use Rattle.translate_main.proofs.translation.run_task.Goals as goal
