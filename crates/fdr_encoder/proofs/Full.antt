@@ -23,7 +23,7 @@ use Rattle.relaxed_reach.specs.declared.types.Reached.{Reached}
 use Rattle.relaxed_reach.specs.declared.types.ReachedAxiom.{ReachedAxiom}
 use Rattle.relaxed_reach.specs.ReachedTask.{is_derived, axiom_row, reached_task}
 use Rattle.fdr_encoder.specs.Places.{Cover, pair, set_of, places, value_in}
-use Rattle.fdr_encoder.specs.Lawful.{IsLawfulAxiom, IsLawfulGoal, IsLawful}
+use Rattle.relaxed_reach.specs.Lawful.{IsLawfulAxiom, IsLawfulGoal, IsLawful}
 use Rattle.fdr_encoder.specs.Encoding.{rule, goal_split, IsEncoding}
 use Rattle.fdr_encoder.specs.Simulates.{IsCover, Shows}
 use Rattle.fdr_encoder.proofs.Lists.{any_member, member_any, member_map, map_member, member_single}

@@ -30,7 +30,7 @@ use Rattle.relaxed_reach.specs.declared.types.ReachedAction.{ReachedAction}
 use Rattle.relaxed_reach.specs.ReachedTask.{is_derived, action_row, reached_task}
 use Rattle.fdr_encoder.specs.Places.{Cover, pair, set_of, has, first_place, stands_in, last_value, value_in}
 use Rattle.fdr_encoder.specs.Effects.{effects_of, simplified}
-use Rattle.fdr_encoder.specs.Lawful.{IsLawfulAction, IsLawful}
+use Rattle.relaxed_reach.specs.Lawful.{IsLawfulAction, IsLawful}
 use Rattle.fdr_encoder.specs.Encoding.{is_groups, group_of, groups_of, IsSameOperator, IsEncoding}
 use Rattle.fdr_encoder.specs.Simulates.{IsCover, IsMutex, Shows, Correspond, Simulates}
 use Rattle.fdr_encoder.proofs.Lists.{member_map, map_member, filter_member}

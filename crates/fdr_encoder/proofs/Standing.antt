@@ -16,7 +16,7 @@ use Rattle.relaxed_reach.specs.declared.types.Reached.{Reached}
 use Rattle.relaxed_reach.specs.declared.types.ReachedAction.{ReachedAction}
 use Rattle.relaxed_reach.specs.ReachedTask.{is_derived, reached_task}
 use Rattle.fdr_encoder.specs.Places.{Cover, pair, set_of, places, stands_in, value_in}
-use Rattle.fdr_encoder.specs.Lawful.{NamesFacts, IsLawfulEffect, IsLawfulAction, IsLawful}
+use Rattle.relaxed_reach.specs.Lawful.{NamesFacts, IsLawfulEffect, IsLawfulAction, IsLawful}
 use Rattle.fdr_encoder.specs.Encoding.{IsEncoding}
 use Rattle.fdr_encoder.specs.Simulates.{IsCover}
 use Rattle.fdr_encoder.proofs.Lists.{any_member, member_single}

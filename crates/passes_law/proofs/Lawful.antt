@@ -35,7 +35,7 @@ use Rattle.relaxed_reach.specs.declared.types.ReachedEffect.{ReachedEffect}
 use Rattle.relaxed_reach.specs.ReachedTask.{is_derived, effect_row, action_row, axiom_row, reached_task}
 use Rattle.relaxed_reach.specs.Reachable.{is_among, number_of, numbering, fact_of, IsReachedTask}
 use Rattle.relaxed_reach.proofs.Law as reached_law
-use Rattle.fdr_encoder.specs.Lawful.{NamesFacts, IsLawfulEffect, IsLawfulAction, IsLawfulAxiom, IsLawfulGoal, IsLawful}
+use Rattle.relaxed_reach.specs.Lawful.{NamesFacts, IsLawfulEffect, IsLawfulAction, IsLawfulAxiom, IsLawfulGoal, IsLawful}
 use Rattle.passes_law.specs.Words.{HasWords}
 
 module _ (domain : Domain) (problem : Problem) (none : check_faults domain problem ≡ []) (grounded : Ground) (reached : Reached) (is_ground : IsGroundTask (normal domain problem) grounded) (is_reached : IsReachedTask grounded reached) where
