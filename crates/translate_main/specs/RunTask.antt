@@ -7,8 +7,8 @@ use Rattle.static_matcher.specs.declared.types.Ground.{Ground}
 use Rattle.static_matcher.specs.Instances.{IsGroundTask}
 use Rattle.relaxed_reach.specs.declared.types.Reached.{Reached}
 use Rattle.relaxed_reach.specs.Reachable.{IsReachedTask}
-use Rattle.fdr_encoder.specs.Lawful.{IsLawful}
-use Rattle.fdr_encoder.specs.Layers.{AreLayers}
+use Rattle.relaxed_reach.specs.Lawful.{IsLawful}
+use Rattle.relaxed_reach.specs.Layers.{AreLayers}
 use Rattle.fdr_encoder.specs.Covers.{singles}
 use Rattle.fdr_encoder.specs.Ordered.{IsEncodingInOrder}
 use Rattle.sas_task.specs.Task.{Task}

@@ -6,7 +6,7 @@ ghost use Rattle.sas_task.specs.Valid.{IsValid};
 ghost use Rattle.translate_main.specs.RunTask.{IsRunTask};
 ghost use Rattle.translate_main.specs.Theorem.{Translates};
 
-use fdr_encoder::laws::{covers, layers_and_order, simulation};
+use fdr_encoder::laws::{covers, in_any_order, simulation};
 use normaliser::laws::same_task;
 use pddl_parser::laws::idle_steps;
 
@@ -23,6 +23,6 @@ pub(crate) fn run_task_translates()
     static_matcher::laws::no_recursion();
     relaxed_reach::laws::same_meaning();
     covers();
-    layers_and_order();
+    in_any_order();
     simulation();
 }

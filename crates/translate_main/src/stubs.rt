@@ -3,8 +3,8 @@ ghost use Rattle.std.specs.Prelude.{◌≡◌, [], IfOk, length};
 ghost use Rattle.normaliser.specs.Lawful as normal_law;
 ghost use Rattle.static_matcher.specs.Instances.{IsGroundTask};
 ghost use Rattle.relaxed_reach.specs.Reachable.{IsReachedTask};
-ghost use Rattle.fdr_encoder.specs.Layers.{AreLayers};
-ghost use Rattle.fdr_encoder.specs.Lawful as reached_law;
+ghost use Rattle.relaxed_reach.specs.Layers.{AreLayers};
+ghost use Rattle.relaxed_reach.specs.Lawful as reached_law;
 ghost use Rattle.fdr_encoder.specs.Covers.{singles};
 ghost use Rattle.fdr_encoder.specs.Ordered.{IsEncodingInOrder};
 

@@ -7,7 +7,7 @@ use Rattle.translate_main.proofs.law.run_task_translates.Goals as goal
 pub returns : goal.returns
 returns c pair task checked run valid =
     let cover = singles (length run.reached.facts) in
-    let encoding = c.layers_and_order.ensures.in_order cover [] run.layers run.reached task run.encodes in
+    let encoding = c.in_any_order.ensures cover [] run.layers run.reached task run.encodes in
     let statics = c.statics_kept.ensures pair.domain pair.problem checked.faultless in
     let ranked = c.no_recursion.ensures (normal pair.domain pair.problem) run.grounded statics run.is_ground (c.instances_ranked.ensures pair.domain pair.problem checked.faultless) in
     translates pair.domain pair.problem run.grounded run.reached task
