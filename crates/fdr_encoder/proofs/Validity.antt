@@ -1,6 +1,6 @@
 -- An encoding is a valid task.
 use Rattle.std.proofs.Common.{◌≡◌, ℕ, suc, ◌+◌, ◌<◌, ◌≤◌, Bool, true, false, cond, not, ◌&&◌, eqb, max, List, [], ◌∷◌, ◌++◌, map, length, get_or, Some, None, refl, sym, ap, ◌∙◌, subst, inl, inr, arith, length-append}
-use Rattle.std.specs.Prelude.{IsSomeAnd, IsNone, IsSome, IfSome, fold}
+use Rattle.std.specs.Prelude.{◌^◌, IsSomeAnd, IsNone, IsSome, IfSome, fold}
 use Rattle.std.specs.List.{Contains, All, filter, flat_map, range_with_len, list_any, position_or_len}
 use Rattle.std.specs.List.Sorted.{IsStrictlyIncreasing}
 use Rattle.std.specs.Option.{option_map_or}
@@ -43,6 +43,7 @@ use Rattle.fdr_encoder.proofs.Parts.{RuleFrom, in_one, count, count_state, varia
 use Rattle.fdr_encoder.proofs.Standing.{derived_below, value_single, stands, literals_stand, OverBasic, kind, layer_of_basic, starts_plain}
 use Rattle.fdr_encoder.proofs.Rising.{rising_filter, range_rises, range_increases, pairs_flat_map, pairs_map, two_members}
 use Rattle.fdr_encoder.proofs.Texts.{line_is_name, variable_valid, goal_variable_valid}
+use Rattle.fdr_encoder.proofs.LayersBelow.{layer_below, above_within}
 
 -- the variables of a combination are those that were asked for
 combination_vars : (values : ℕ → List ℕ) (vars : List ℕ) (m : List Pair) → Contains (combinations values vars) m → map (λ p. p.var) m ≡ vars
@@ -65,7 +66,7 @@ fold_max_member g (y ∷ xs) start x in' =
       | inr later ↦ fold_max_member g xs (max start (g y)) x later
     ]
 
-module _ (reached : Reached) (lawful : IsLawful reached) (cover : Cover) (ok : IsCover reached cover) (mutexes : List (List ℕ)) (are-mutex : All (IsMutex reached) mutexes) (layers : List ℕ) (are-layers : AreLayers reached layers) (task : Task) (encoding : IsEncoding cover mutexes layers reached task) where
+module _ (reached : Reached) (lawful : IsLawful reached) (cover : Cover) (ok : IsCover reached cover) (mutexes : List (List ℕ)) (are-mutex : All (IsMutex reached) mutexes) (layers : List ℕ) (are-layers : AreLayers reached layers) (few : length reached.facts < 2 ^ 64) (task : Task) (encoding : IsEncoding cover mutexes layers reached task) where
   abbrev n : ℕ
   n = length cover
 
@@ -352,13 +353,19 @@ module _ (reached : Reached) (lawful : IsLawful reached) (cover : Cover) (ok : I
   goal_variables_valid =
       elim (cases_Bool one_goal) [
         | inl is ↦ subst (λ (p : GoalPart). All IsValidVariable p.variables) (sym (is_whole cover mutexes layers reached task encoding is)) (All-nil IsValidVariable)
-        | inr is ↦ subst (λ (p : GoalPart). All IsValidVariable p.variables) (sym (is_parted cover mutexes layers reached task encoding is)) (All-cons IsValidVariable (goal_variable (layer_above reached layers)) [] (goal_variable_valid (layer_above reached layers)) (All-nil IsValidVariable))
+        | inr is ↦ subst (λ (p : GoalPart). All IsValidVariable p.variables) (sym (is_parted cover mutexes layers reached task encoding is)) (All-cons IsValidVariable (goal_variable (layer_above reached layers)) [] (goal_variable_valid (layer_above reached layers) (let within = above_within reached layers are-layers in omega arith)) (All-nil IsValidVariable))
       ]
+
+  small_layer : (f : ℕ) → f < length reached.facts → get_or layers f 0 < 2 ^ 64
+  small_layer f below =
+      let within : f < length layers = subst (λ m. f < m) (sym are-layers.count) below in
+      let low = layer_below reached layers are-layers f within in
+      omega arith
 
   sets_valid : All IsValidVariable (map over cover)
   sets_valid k d inside =
       let low : k < n = subst (λ m. k < m) (length-map cover over) inside in
-      subst IsValidVariable (sym (get_or-map over cover k [] d low)) (variable_valid reached lawful layers (set_of cover k) (ok.filled k low) (λ f in'. ok.facts k f low in'))
+      subst IsValidVariable (sym (get_or-map over cover k [] d low)) (variable_valid reached lawful layers (set_of cover k) (λ is. small_layer (get_or (set_of cover k) 0 0) (derived_below reached.facts (get_or (set_of cover k) 0 0) is)) (ok.filled k low) (λ f in'. ok.facts k f low in'))
 
   state_valid : (var : ℕ) → var < length task.variables → IsValue task var (get_or task.state var 0)
   state_valid var below =

@@ -1,9 +1,10 @@
 pub mod Members
 pub mod Completion
 pub mod Successors
-mod States
+pub mod States
 mod KeepsLaws
 mod Checks
 mod Steps
 mod Tells
 mod TextsTellTasks
+pub mod Orders
