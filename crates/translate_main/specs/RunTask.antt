@@ -7,7 +7,6 @@ use Rattle.static_matcher.specs.declared.types.Ground.{Ground}
 use Rattle.static_matcher.specs.Instances.{IsGroundTask}
 use Rattle.relaxed_reach.specs.declared.types.Reached.{Reached}
 use Rattle.relaxed_reach.specs.Reachable.{IsReachedTask}
-use Rattle.relaxed_reach.specs.Lawful.{IsLawful}
 use Rattle.relaxed_reach.specs.Layers.{AreLayers}
 use Rattle.fdr_encoder.specs.Covers.{singles}
 use Rattle.fdr_encoder.specs.Ordered.{IsEncodingInOrder}
@@ -20,6 +19,5 @@ pub record IsRunTask (domain : Domain) (problem : Problem) (task : Task) : Type 
   pub layers : List ℕ
   pub is_ground : IsGroundTask (normal domain problem) grounded
   pub is_reached : IsReachedTask grounded reached
-  pub lawful : IsLawful reached
   pub are_layers : AreLayers reached layers
   pub encodes : IsEncodingInOrder (singles (length reached.facts)) [] layers reached task

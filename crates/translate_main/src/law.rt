@@ -17,6 +17,9 @@ pub(crate) fn run_task_translates()
 {
     idle_steps();
     same_task();
+    normaliser::laws::lawful();
+    static_matcher::laws::lawful();
+    relaxed_reach::laws::lawful();
     static_matcher::laws::same_meaning();
     static_matcher::laws::statics_kept();
     static_matcher::laws::instances_ranked();
