@@ -22,13 +22,13 @@ use Rattle.planning.specs.Task.{State, IsFull}
 use Rattle.relaxed_reach.specs.declared.types.Reached.{Reached}
 use Rattle.relaxed_reach.specs.declared.types.ReachedAxiom.{ReachedAxiom}
 use Rattle.relaxed_reach.specs.ReachedTask.{is_derived, axiom_row, reached_task}
-use Rattle.fdr_encoder.specs.Places.{Cover, pair, set_of, places, value_in}
+use Rattle.fdr_encoder.specs.Places.{Cover, set_of, value_in}
 use Rattle.relaxed_reach.specs.Lawful.{IsLawfulAxiom, IsLawfulGoal, IsLawful}
 use Rattle.fdr_encoder.specs.Encoding.{rule, goal_split, IsEncoding}
 use Rattle.fdr_encoder.specs.Simulates.{IsCover, Shows}
 use Rattle.fdr_encoder.proofs.Lists.{any_member, member_any, member_map, map_member, member_single}
 use Rattle.fdr_encoder.proofs.Sets.{same_place}
-use Rattle.fdr_encoder.proofs.Placed.{AreExclusive, Stands, place_in, place_is, place_at, first, first_in}
+use Rattle.fdr_encoder.proofs.Placed.{AreExclusive, place_in, place_is, place_at, first, first_in}
 use Rattle.fdr_encoder.proofs.SplitHolds.{split_on, split_back}
 use Rattle.fdr_encoder.proofs.Standing.{derived_below, value_single, stands, literals_stand, OverDerived, only_place, kind, exclusive_full, over_by_layer, basic_by_layer, layer_of_derived, layer_of_basic, starts_plain}
 use Rattle.fdr_encoder.proofs.Parts.{in_one, within, start_at, last_variable, last_below, layer_last, start_last, goal_whole, goal_parted, rule_from, axiom_rule, goal_rule}

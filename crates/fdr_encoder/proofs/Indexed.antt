@@ -1,14 +1,14 @@
 -- The places of single facts.
-use Rattle.std.proofs.Common.{◌≡◌, ℕ, ◌+◌, ◌<◌, ◌≤◌, Bool, true, false, eqb, List, [], ◌∷◌, map, length, get_or, unwrap_or, refl, sym, ap, ◌∙◌, subst, inl, inr, arith}
+use Rattle.std.proofs.Common.{◌≡◌, ℕ, ◌<◌, ◌≤◌, eqb, List, [], ◌∷◌, map, length, get_or, unwrap_or, sym, ap, ◌∙◌, subst, inl, inr, arith}
 use Rattle.std.specs.List.{Contains, filter, range_with_len, position_or_len}
 use Rattle.std.specs.List.Sorted.{IsStrictlyIncreasing}
-use Rattle.std.proofs.lemmas.Bool.{cases_lt, eqb-true, eq-eqb}
+use Rattle.std.proofs.lemmas.Bool.{cases_lt}
 use Rattle.std.proofs.lemmas.List.Kept.{IsStrictlyIncreasing-filter}
 use Rattle.std.proofs.lemmas.List.FromFn.{length-map-range_with_len, get_or-map-range_with_len}
 use Rattle.std.proofs.lemmas.Option.{unwrap_or-slice_get, slice_get_past}
 use Rattle.sas_task.specs.declared.parts.Pair.{Pair}
 use Rattle.sas_task.proofs.Members.{no_member, member_first, member_range, range_member}
-use Rattle.fdr_encoder.specs.Places.{Cover, pair, set_of, has, places}
+use Rattle.fdr_encoder.specs.Places.{pair, set_of, has, places}
 use Rattle.fdr_encoder.specs.Covers.{singles}
 use Rattle.fdr_encoder.proofs.Lists.{member_filter, filter_member, member_single}
 use Rattle.fdr_encoder.proofs.Sets.{has_member, member_has, place_below}

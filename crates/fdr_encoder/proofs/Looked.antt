@@ -1,5 +1,5 @@
 -- The variables that a split looks at, gathered from places, sorted and without repeats.
-use Rattle.std.proofs.Common.{◌≡◌, ℕ, zero, suc, ◌+◌, ◌<◌, ◌≤◌, Bool, true, false, ◌||◌, eqb, List, [], ◌∷◌, ◌++◌, map, take, length, get_or, Option, Some, None, refl, sym, ap, ◌∙◌, subst, inl, inr, arith}
+use Rattle.std.proofs.Common.{◌≡◌, ℕ, suc, ◌<◌, Bool, true, false, eqb, List, [], ◌∷◌, ◌++◌, map, take, length, refl, sym, ap, ◌∙◌, subst, inl, inr, arith}
 use Rattle.std.specs.List.{All, Contains, filter, flat_map, dedup, range_with_len, list_any, slice_get}
 use Rattle.std.specs.List.Sorted.{IsPermutation, IsSorted, IsStrictlyIncreasing}
 use Rattle.std.specs.Option.{option_map_or}
@@ -10,7 +10,7 @@ use Rattle.std.proofs.lemmas.List.Kept.{Contains-dedup_nat, Contains-from_dedup,
 use Rattle.std.proofs.lemmas.List.Sorted.{Contains-permutation, IsPermutation-sym}
 use Rattle.std.proofs.lemmas.Map.Keys.{sorted_from_strictly_increasing, sorted_tail, IsStrictlyIncreasing-dedup, IsStrictlyIncreasing-from_sorted}
 use Rattle.sas_task.specs.declared.parts.Pair.{Pair}
-use Rattle.sas_task.proofs.Members.{no_member, member_first, member_later, member_cases, member_flat_map, flat_map_member, member_range, range_member}
+use Rattle.sas_task.proofs.Members.{no_member, member_first, member_later, member_cases, member_flat_map, flat_map_member, member_range}
 use Rattle.static_matcher.specs.declared.types.Cond.{Cond}
 use Rattle.fdr_encoder.specs.Places.{Cover, places, first_place, stands_in}
 use Rattle.fdr_encoder.specs.Split.{is_looked_at}
@@ -53,7 +53,6 @@ same_in_order (x ∷ xs) (y ∷ ys) up up' to from =
   where
     rest_of : (h z : ℕ) (l : List ℕ) → Contains (h ∷ l) z → h < z → Contains l z
     rest_of h z l in' above = elim (member_cases h z l in') [ inl same ↦ absurd (omega arith) | inr later ↦ later ]
-
 
 module _ (cover : Cover) (literals : Cond ℕ) where
   -- the variables of all places of positive facts, and of the first places of negative ones

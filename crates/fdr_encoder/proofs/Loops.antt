@@ -10,7 +10,6 @@ use Rattle.std.proofs.lemmas.List.Sums.{position_or_len_is}
 use Rattle.std.proofs.lemmas.List.{take_more}
 use Rattle.std.proofs.lemmas.List.Elements.{filter-append}
 use Rattle.std.proofs.lemmas.List.Concat.{flat_map-append}
-use Rattle.std.proofs.lemmas.List.FromFn.{filter_of_map_range_with_len_more}
 use Rattle.sas_task.specs.declared.parts.Pair.{Pair}
 use Rattle.fdr_encoder.proofs.Lists.{range_more}
 use Rattle.static_matcher.specs.declared.types.Cond.{Cond}

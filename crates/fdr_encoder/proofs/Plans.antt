@@ -28,7 +28,7 @@ use Rattle.planning.specs.Plan.{IsReachable, MeetsGoal}
 use Rattle.relaxed_reach.specs.declared.types.Reached.{Reached}
 use Rattle.relaxed_reach.specs.declared.types.ReachedAction.{ReachedAction}
 use Rattle.relaxed_reach.specs.ReachedTask.{is_derived, action_row, reached_task}
-use Rattle.fdr_encoder.specs.Places.{Cover, pair, set_of, has, first_place, stands_in, last_value, value_in}
+use Rattle.fdr_encoder.specs.Places.{Cover, pair, set_of, has, first_place, last_value, value_in}
 use Rattle.fdr_encoder.specs.Effects.{effects_of, simplified}
 use Rattle.relaxed_reach.specs.Lawful.{IsLawfulAction, IsLawful}
 use Rattle.fdr_encoder.specs.Encoding.{is_groups, group_of, groups_of, IsSameOperator, IsEncoding}
@@ -36,7 +36,7 @@ use Rattle.fdr_encoder.specs.Simulates.{IsCover, IsMutex, Shows, Correspond, Sim
 use Rattle.fdr_encoder.proofs.Lists.{member_map, map_member, filter_member}
 use Rattle.fdr_encoder.proofs.Sets.{has_member, same_place}
 use Rattle.fdr_encoder.proofs.After.{after, successor_is}
-use Rattle.fdr_encoder.proofs.Placed.{AreExclusive, stands_below}
+use Rattle.fdr_encoder.proofs.Placed.{AreExclusive}
 use Rattle.fdr_encoder.proofs.SplitHolds.{split_on, split_back, split_pairs}
 use Rattle.fdr_encoder.proofs.OneStep.{IsPlaced, effect_from, sets, moves}
 use Rattle.fdr_encoder.proofs.Simplified.{Drives, IsPlain, drives_simplified, below_simplified}

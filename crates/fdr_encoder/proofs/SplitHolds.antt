@@ -1,6 +1,6 @@
 -- Some member of the split of literals holds in the values exactly where the literals hold in the state.
-use Rattle.std.proofs.Common.{Bool, ◌≡◌, ℕ, ◌+◌, ◌<◌, true, false, not, ◌&&◌, ◌||◌, eqb, List, [], ◌∷◌, map, length, get_or, Some, None, refl, sym, ap, ◌∙◌, subst, inl, inr, arith}
-use Rattle.std.specs.List.{Contains, list_all, list_any, filter, range_with_len, position_or_len}
+use Rattle.std.proofs.Common.{Bool, ◌≡◌, ℕ, ◌+◌, ◌<◌, true, false, not, ◌&&◌, ◌||◌, eqb, List, [], ◌∷◌, map, length, get_or, refl, sym, ap, ◌∙◌, subst, inl, inr, arith}
+use Rattle.std.specs.List.{Contains, list_all, list_any, filter, range_with_len}
 use Rattle.std.specs.Option.{option_map_or}
 use Rattle.std.proofs.lemmas.Bool.{cases_Bool, eqb-true, eq-eqb, and_parts, and_from, or_cases, or_left, or_right, not-true, not_from_false, both_ways, false_from_ne_true}
 use Rattle.std.proofs.lemmas.List.Sums.{prefix_len-le-length}
@@ -13,8 +13,8 @@ use Rattle.planning.specs.Task.{State}
 use Rattle.fdr_encoder.specs.Places.{Cover, pair, set_of, places, first_place, stands_in, last_value, value_in}
 use Rattle.fdr_encoder.specs.Split.{is_looked_at, is_left, values_left, combinations, split}
 use Rattle.fdr_encoder.specs.Simulates.{Shows}
-use Rattle.fdr_encoder.proofs.Lists.{member_map, map_member, member_filter, filter_member, any_member, member_any, member_single}
-use Rattle.fdr_encoder.proofs.Placed.{AreExclusive, Stands, AllStand, place_is, place_stands, stands_place, stands_below, first, first_in, first_is, value_of_true, true_of_value}
+use Rattle.fdr_encoder.proofs.Lists.{member_map, map_member, member_filter, filter_member, member_any, member_single}
+use Rattle.fdr_encoder.proofs.Placed.{AreExclusive, Stands, AllStand, place_is, place_stands, first, first_in, first_is, value_of_true, true_of_value}
 
 module _ (cover : Cover) (state : State ℕ) (one : AreExclusive cover state) (now : List ℕ) (shows : Shows cover state now) (literals : Cond ℕ) (stand : AllStand cover literals) where
   -- what is asked of a value for a positive and for a negative literal

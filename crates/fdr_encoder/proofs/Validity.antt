@@ -27,7 +27,7 @@ use Rattle.relaxed_reach.specs.declared.types.Reached.{Reached}
 use Rattle.relaxed_reach.specs.declared.types.ReachedAction.{ReachedAction}
 use Rattle.relaxed_reach.specs.declared.types.ReachedAxiom.{ReachedAxiom}
 use Rattle.relaxed_reach.specs.ReachedTask.{is_derived, reached_task}
-use Rattle.fdr_encoder.specs.Places.{Cover, pair, set_of, has, places, first_place, stands_in, last_value, value_in}
+use Rattle.fdr_encoder.specs.Places.{Cover, pair, set_of, has, first_place, stands_in, last_value, value_in}
 use Rattle.fdr_encoder.specs.Split.{is_looked_at, values_left, combinations, split}
 use Rattle.fdr_encoder.specs.Effects.{among, can_go, less_known, less_idle, effects_left, is_of_use, simplified, effects_of}
 use Rattle.relaxed_reach.specs.Lawful.{NamesFacts, IsLawfulEffect, IsLawfulAction, IsLawfulAxiom, IsLawfulGoal, IsLawful}
@@ -35,14 +35,14 @@ use Rattle.relaxed_reach.specs.Layers.{Names, AreLayers}
 use Rattle.fdr_encoder.specs.Encoding.{variable_over, goal_variable, goal_split, layer_above, is_groups, group_of, groups_of, rule, GoalPart, IsEncoding}
 use Rattle.fdr_encoder.specs.Simulates.{IsCover, IsMutex}
 use Rattle.fdr_encoder.proofs.Lists.{member_map, map_member, member_filter, filter_member, any_member, member_single}
-use Rattle.fdr_encoder.proofs.Sets.{has_member, member_has, place_below, at_place}
-use Rattle.fdr_encoder.proofs.Placed.{Stands, AllStand, place_is, first, first_in, first_is, stands_member}
+use Rattle.fdr_encoder.proofs.Sets.{member_has, place_below, at_place}
+use Rattle.fdr_encoder.proofs.Placed.{place_is, first, first_in, first_is, stands_member}
 use Rattle.fdr_encoder.proofs.SplitHolds.{combination_pairs, split_pairs}
 use Rattle.fdr_encoder.proofs.OneStep.{effect_from}
 use Rattle.fdr_encoder.proofs.Parts.{RuleFrom, in_one, count, count_state, variable_at, layer_at, start_at, last_variable, variable_last, layer_last, start_last, goal_whole, goal_parted, rule_from, operator_from, is_whole, is_parted, part}
 use Rattle.fdr_encoder.proofs.Standing.{derived_below, value_single, stands, literals_stand, OverBasic, kind, layer_of_basic, starts_plain}
 use Rattle.fdr_encoder.proofs.Rising.{rising_filter, range_rises, range_increases, pairs_flat_map, pairs_map, two_members}
-use Rattle.fdr_encoder.proofs.Texts.{line_is_name, variable_valid, goal_variable_valid}
+use Rattle.fdr_encoder.proofs.Texts.{named, variable_valid, goal_variable_valid}
 use Rattle.fdr_encoder.proofs.LayersBelow.{layer_below, above_within}
 
 -- the variables of a combination are those that were asked for
@@ -141,7 +141,7 @@ module _ (reached : Reached) (lawful : IsLawful reached) (cover : Cover) (ok : I
       let law = All-contains (IsLawfulAction reached) reached.actions a lawful.actions from.of_task in
       let raw = simplified cover from.member (effects_of cover a.effects) in
       record {
-        name = subst IsName (sym from.same.name) (line_is_name a.name law.is_name);
+        name = subst IsName (sym from.same.name) (named a.name law.name);
         conditions = subst (AreConditions task) (sym from.same.conditions) (split_conditions a.condition from.member from.in_split);
         effects = all_from_members (IsValidEffect task) o.effects (λ q q-in. simple_effect a law from.member q (Contains-permutation o.effects raw q (IsPermutation-sym raw o.effects from.same.effects) q-in));
         cost = subst (λ c. c ≤ 2147483647) (sym from.same.cost) law.small_cost;

@@ -2,6 +2,7 @@
 
 ghost use Rattle.std.specs.Prelude.{◌≡◌, ℕ, ◌^◌, ◌<◌, ◌++◌, [], length, map, IfOk};
 ghost use Rattle.std.specs.List.{flat_map};
+ghost use Rattle.sas_task.specs.Valid.{IsValid};
 ghost use Rattle.static_matcher.specs.Literals.{initial};
 ghost use Rattle.relaxed_reach.specs.ReachedTask.{reached_task};
 ghost use Rattle.fdr_encoder.specs.Places.{values_in};
@@ -17,7 +18,7 @@ use crate::goal::{goal_pairs, goal_split, push_goal_rules, push_goal_value, push
 use crate::index::Index;
 use crate::operators::{operators, rules};
 use crate::order::by_name;
-use crate::variables::{layer_above, start, variables};
+use crate::variables::{layer_above, start, truths, variables};
 use lists::List;
 use relaxed_reach::Reached;
 use sas_task::{Operator, Pair, Rule, SasTask, Variable};
@@ -27,11 +28,14 @@ use std::alloc::{AllocError, Global};
 /// has the values `Atom` (0) and `NegatedAtom` (1), and a goal that isn't in one part has the variable `goal@split()`
 /// behind them. `layers` has one number for each fact, the layer of its variable where the fact is derived.
 ///
-/// Operators stand by name, those of one name in the order of the task's actions, and rules in the order of its axioms.
+/// Operators stand in the byte order of their names, those of one name in the order of the task's actions, each with
+/// its effects by variable, then conditions, then new value; one without effects is written too. Rules stand in the
+/// order of the task's axioms, and the goal's behind them. It fails only where memory is refused.
 pub fn encode(alloc: Global, reached: &Reached, layers: &[u64]) -> Result<SasTask, AllocError>
     requires lawful { IsLawful reached.now }
     requires layers { AreLayers reached.now layers.now }
     ensures encoding { IfOk result (IsEncodingInOrder (singles (length reached.now.facts)) [] layers.now reached.now) }
+    ensures valid { IfOk result IsValid }
     ensures simulates { IfOk result (Simulates (singles (length reached.now.facts)) reached.now) }
 {
     let index = Index::singles(alloc, reached.facts.as_slice().len() as u64)?;
@@ -40,13 +44,20 @@ pub fn encode(alloc: Global, reached: &Reached, layers: &[u64]) -> Result<SasTas
 }
 
 /// The encoding over the sets of the index, without groups. `members` is the split of the goal.
-fn encode_over(alloc: Global, reached: &Reached, layers: &[u64], index: &Index, members: &[List<Pair>]) -> Result<SasTask, AllocError>
+fn encode_over(
+    alloc: Global,
+    reached: &Reached,
+    layers: &[u64],
+    index: &Index,
+    members: &[List<Pair>],
+) -> Result<SasTask, AllocError>
     requires lawful { IsLawful reached.now }
     requires layers { AreLayers reached.now layers.now }
     requires cover { IsCover reached.now index.now }
     requires few { length reached.now.facts < 2 ^ 64 }
     requires members { members.now ≡ parts.goal_split index.now reached.now.goal }
     ensures encoding { IfOk result (IsEncodingInOrder index.now [] layers.now reached.now) }
+    ensures valid { IfOk result IsValid }
     ensures simulates { IfOk result (Simulates index.now reached.now) }
 {
     let variables = all_variables(alloc, reached, layers, index, members)?;
@@ -55,11 +66,25 @@ fn encode_over(alloc: Global, reached: &Reached, layers: &[u64], index: &Index, 
     let operators = all_operators(alloc, reached, index)?;
     let rules = all_rules(alloc, reached, index, members)?;
     let groups = List::from_vec(Vec::new(alloc));
-    Ok(SasTask::from_parts(reached.metric, variables, groups, state, goal, operators, rules))
+    Ok(SasTask::from_parts(
+        reached.metric,
+        variables,
+        groups,
+        state,
+        goal,
+        operators,
+        rules,
+    ))
 }
 
 /// The variables over the sets, and the goal's.
-fn all_variables(alloc: Global, reached: &Reached, layers: &[u64], index: &Index, members: &[List<Pair>]) -> Result<List<Variable>, AllocError>
+fn all_variables(
+    alloc: Global,
+    reached: &Reached,
+    layers: &[u64],
+    index: &Index,
+    members: &[List<Pair>],
+) -> Result<List<Variable>, AllocError>
     requires { AreLayers reached.now layers.now }
     ensures { (var : ℕ) → IfOk result (λ all. all ≡ map (parts.variable_over reached.now layers.now) index.now ++ (parts.goal_part var (parts.layer_above reached.now layers.now) members.now).variables) }
 {
@@ -69,16 +94,31 @@ fn all_variables(alloc: Global, reached: &Reached, layers: &[u64], index: &Index
 }
 
 /// The values at the start.
-fn state(alloc: Global, reached: &Reached, index: &Index, members: &[List<Pair>]) -> Result<List<u64>, AllocError>
+fn state(
+    alloc: Global,
+    reached: &Reached,
+    index: &Index,
+    members: &[List<Pair>],
+) -> Result<List<u64>, AllocError>
+    requires { IsLawful reached.now }
     ensures { (var layer : ℕ) → IfOk result (λ all. all ≡ values_in index.now (initial (reached_task reached.now)) ++ (parts.goal_part var layer members.now).values) }
 {
-    let mut all = start(alloc, reached.init.as_slice(), index.sets())?;
+    let truths = truths(
+        alloc,
+        reached.init.as_slice(),
+        reached.facts.as_slice().len(),
+    )?;
+    let mut all = start(alloc, truths.as_slice(), index.sets())?;
     push_goal_value(&mut all, members)?;
     Ok(List::from_vec(all))
 }
 
 /// The operators of the actions, in order.
-fn all_operators(alloc: Global, reached: &Reached, index: &Index) -> Result<List<Operator>, AllocError>
+fn all_operators(
+    alloc: Global,
+    reached: &Reached,
+    index: &Index,
+) -> Result<List<Operator>, AllocError>
     ensures { IfOk result (AreByName (flat_map (operators_at index.now) reached.now.actions)) }
 {
     let all = operators(alloc, index, reached.actions.as_slice())?;
@@ -86,7 +126,12 @@ fn all_operators(alloc: Global, reached: &Reached, index: &Index) -> Result<List
 }
 
 /// The rules of the axioms, and the goal's.
-fn all_rules(alloc: Global, reached: &Reached, index: &Index, members: &[List<Pair>]) -> Result<List<Rule>, AllocError>
+fn all_rules(
+    alloc: Global,
+    reached: &Reached,
+    index: &Index,
+    members: &[List<Pair>],
+) -> Result<List<Rule>, AllocError>
     ensures { (layer : ℕ) → IfOk result (λ all. all ≡ flat_map (parts.rules_at index.now) reached.now.axioms ++ (parts.goal_part (length index.now) layer members.now).rules) }
 {
     let mut all = rules(alloc, index, reached.axioms.as_slice())?;

@@ -12,7 +12,11 @@ use static_matcher::GoalRow;
 use std::alloc::{AllocError, Global};
 
 /// The split of the goal.
-pub(crate) fn goal_split(alloc: Global, index: &Index, goal: &GoalRow<u64>) -> Result<Vec<List<Pair>>, AllocError>
+pub(crate) fn goal_split(
+    alloc: Global,
+    index: &Index,
+    goal: &GoalRow<u64>,
+) -> Result<Vec<List<Pair>>, AllocError>
     ensures { IfOk result (λ all. all.items ≡ parts.goal_split index.now goal.now) }
 {
     match goal {
@@ -34,7 +38,12 @@ fn goal_variable(alloc: Global, layer: u64) -> Result<Variable, AllocError>
 }
 
 /// The variable `goal@split()` with this layer, unless the goal is in one part.
-pub(crate) fn push_goal_variable(alloc: Global, out: &mut Vec<Variable>, layer: u64, members: &[List<Pair>]) -> Result<(), AllocError>
+pub(crate) fn push_goal_variable(
+    alloc: Global,
+    out: &mut Vec<Variable>,
+    layer: u64,
+    members: &[List<Pair>],
+) -> Result<(), AllocError>
     ensures { (var : ℕ) → OnOk result (out.new.items ≡ out.old.items ++ (parts.goal_part var layer members.now).variables) }
 {
     if members.len() != 1 {
@@ -54,7 +63,12 @@ pub(crate) fn push_goal_value(out: &mut Vec<u64>, members: &[List<Pair>]) -> Res
 }
 
 /// Its rules, one for each part.
-pub(crate) fn push_goal_rules(alloc: Global, out: &mut Vec<Rule>, var: u64, members: &[List<Pair>]) -> Result<(), AllocError>
+pub(crate) fn push_goal_rules(
+    alloc: Global,
+    out: &mut Vec<Rule>,
+    var: u64,
+    members: &[List<Pair>],
+) -> Result<(), AllocError>
     ensures { (layer : ℕ) → OnOk result (out.new.items ≡ out.old.items ++ (parts.goal_part var layer members.now).rules) }
 {
     if members.len() != 1 {
@@ -64,7 +78,11 @@ pub(crate) fn push_goal_rules(alloc: Global, out: &mut Vec<Rule>, var: u64, memb
 }
 
 /// The goal of the task: the one part, or that `goal@split()` is true.
-pub(crate) fn goal_pairs(alloc: Global, var: u64, members: &[List<Pair>]) -> Result<List<Pair>, AllocError>
+pub(crate) fn goal_pairs(
+    alloc: Global,
+    var: u64,
+    members: &[List<Pair>],
+) -> Result<List<Pair>, AllocError>
     ensures { (layer : ℕ) → IfOk result (λ goal. goal ≡ (parts.goal_part var layer members.now).goal) }
 {
     if members.len() == 1 {

@@ -2,6 +2,7 @@
 
 ghost use Rattle.std.specs.Prelude.{◌≡◌, IfOk, OnOk, IsPermutation, IsSorted, IsSortedByKey};
 ghost use Rattle.std.specs.List.{AllZip};
+ghost use Rattle.std.specs.Ordering.{nat_cmp, then_cmp, on};
 ghost use Rattle.std.specs.List.Sorted.{IsStableByKey};
 ghost use Rattle.sas_task.specs.Orders.{pair_cmp, pairs_cmp, effect_cmp, name_cmp};
 ghost use Rattle.fdr_encoder.specs.Ordered.{IsInOrder, AreByName};
@@ -15,7 +16,10 @@ use std::cmp::Ordering;
 fn pair_order(front: &Pair, back: &Pair) -> Ordering
     ensures { result ≡ pair_cmp front.now back.now }
 {
-    front.var.cmp(&back.var).then_with(|| front.val.cmp(&back.val))
+    front
+        .var
+        .cmp(&back.var)
+        .then_with(|| front.val.cmp(&back.val))
 }
 
 /// The order of lists of pairs.
@@ -32,14 +36,23 @@ fn pairs_order(front: &[Pair], back: &[Pair]) -> Ordering
     front.len().cmp(&back.len())
 }
 
+/// The order of effects on one variable: by conditions, then by new value.
+fn order_on_one_variable(front: &Effect, back: &Effect) -> Ordering
+    ensures { result ≡ then_cmp (on (λ e. e.conditions) pairs_cmp) (on (λ e. e.after) nat_cmp) front.now back.now }
+{
+    pairs_order(front.conditions.as_slice(), back.conditions.as_slice()).then_with(|| front
+        .after
+        .cmp(&back.after))
+}
+
 /// The order of effects.
 fn effect_order(front: &Effect, back: &Effect) -> Ordering
     ensures { result ≡ effect_cmp front.now back.now }
 {
-    front.var.cmp(&back.var).then_with(|| {
-        pairs_order(front.conditions.as_slice(), back.conditions.as_slice())
-            .then_with(|| front.after.cmp(&back.after))
-    })
+    front
+        .var
+        .cmp(&back.var)
+        .then_with(|| order_on_one_variable(front, back))
 }
 
 /// Puts effects into their order.
@@ -55,7 +68,12 @@ fn sort_effects(effects: &mut Vec<Effect>) -> Result<(), AllocError>
 fn in_order(operator: Operator) -> Result<Operator, AllocError>
     ensures { IfOk result (IsInOrder operator) }
 {
-    let Operator { name, conditions, effects, cost } = operator;
+    let Operator {
+        name,
+        conditions,
+        effects,
+        cost,
+    } = operator;
     let mut effects = effects.into_vec();
     sort_effects(&mut effects)?;
     Ok(Operator {

@@ -27,7 +27,7 @@ use Rattle.relaxed_reach.specs.ReachedTask.{reached_task}
 use Rattle.relaxed_reach.specs.Reachable.{IsClosed, is_among, number_of, numbering, fact_of, IsReachedTask}
 use Rattle.relaxed_reach.specs.Law.{atoms_of, MeansTheSame}
 use Rattle.static_matcher.proofs.Atoms.{same_atom, atom_same}
-use Rattle.relaxed_reach.proofs.Atoms.{facts_apart, map_back}
+use Rattle.relaxed_reach.proofs.OrderedFacts.{facts_apart, map_back}
 use Rattle.relaxed_reach.proofs.Numbers as numbers
 
 -- ---- what a closed set holds
@@ -143,7 +143,7 @@ module _ (task : Ground) (reached : Reached) (ranked : IsRanked (ground_task tas
   same : SameRuns (meaning (ground_task task)) (meaning (reached_task reached)) (Shows (numbering atoms))
   same = settling.same_runs (numbering atoms) (ground_task task) (reached_task reached) settled names has_stays
 
-  atoms_are : atoms_of reached ≡ atoms
+  pub atoms_are : atoms_of reached ≡ atoms
   atoms_are = ap (map (λ (fact : Fact). fact.atom)) is.is.facts ∙ map_back (fact_of task) (λ fact. fact.atom) (λ a. refl) atoms
 
   among_atoms : (a : GroundAtom) → is_among atoms a ≡ true → Contains (atoms_of reached) a

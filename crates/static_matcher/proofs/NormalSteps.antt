@@ -28,18 +28,18 @@ use Rattle.lists.proofs.Items.{Among, among_contains, contains_among, among_map,
 -- ---- literal lists
 
 -- a list of literals is true where its equalities are and its atoms are true or false as they must be
-met_parts : (x f p n : Bool) → (x && (f && (p && n))) ≡ (f && ((x && p) && n))
+pub met_parts : (x f p n : Bool) → (x && (f && (p && n))) ≡ (f && ((x && p) && n))
 met_parts true f p n = refl
 met_parts false true p n = refl
 met_parts false false p n = refl
 
-met_negative : (x f p n : Bool) → (x && (f && (p && n))) ≡ (f && (p && (x && n)))
+pub met_negative : (x f p n : Bool) → (x && (f && (p && n))) ≡ (f && (p && (x && n)))
 met_negative true f p n = refl
 met_negative false true true n = refl
 met_negative false true false n = refl
 met_negative false false p n = refl
 
-met_equal : (x f r : Bool) → (x && (f && r)) ≡ ((x && f) && r)
+pub met_equal : (x f r : Bool) → (x && (f && r)) ≡ ((x && f) && r)
 met_equal true f r = refl
 met_equal false f r = refl
 

@@ -1,14 +1,27 @@
--- The sets, place by place.
-use Rattle.std.proofs.Common.{[], ◌++◌, ◌==◌, List, ℕ, map, ap, ◌∙◌}
+-- The sets, place by place, by the table of the facts that are true at the start.
+use Rattle.std.proofs.Common.{◌≡◌, [], ◌++◌, ◌==◌, ◌<◌, Bool, false, List, ℕ, map, length, get_or, sym, ap, ◌∙◌, subst}
 use Rattle.std.specs.List.{list_any, position_or_len}
 use Rattle.static_matcher.specs.Literals.{initial}
+use Rattle.relaxed_reach.specs.declared.types.Fact.{Fact}
 use Rattle.relaxed_reach.specs.ReachedTask.{reached_task}
 use Rattle.fdr_encoder.specs.Encoding.{goal_part}
 use Rattle.fdr_encoder.proofs.Loops.{map_places}
 use Rattle.fdr_encoder.proofs.encoding.state.Goals as goal
 
+pub truths-requires : goal.truths-requires
+truths-requires c k d below =
+    let init = c.as_slice.ensures in
+    let facts = ap (λ (fs : List Fact). length fs) c.as_slice-2.ensures in
+    subst (λ n. get_or c.as_slice.result.now k d < n) (sym facts) (subst (λ (l : List ℕ). get_or l k d < length c.args.reached.now.facts) (sym init) (c.requires.init k d (subst (λ (l : List ℕ). k < length l) init below)).0)
+
 pub returns : goal.returns
 returns c var layer =
     let test = initial (reached_task c.args.reached.now) in
-    let values = c.in_ok-all.ensures ∙ ap (λ (init : List ℕ). map (position_or_len (λ fact. list_any (λ f. f == fact) init)) c.sets.result.now) c.as_slice.ensures ∙ ap (map (position_or_len test)) c.sets.ensures ∙ map_places (position_or_len test) c.args.index.now [] in
+    let sets = c.sets.result.now in
+    let same : (λ (fact : ℕ). get_or c.in_ok-truths.truths.items fact false) ≡ test = λ i fact. (c.in_ok-truths.ensures fact ∙ ap (list_any (λ f. f == fact)) c.as_slice.ensures) i in
+    let values = c.in_ok-all.ensures
+    ∙ ap (λ (truths : List Bool). map (position_or_len (λ fact. get_or truths fact false)) sets) c.as_slice-3.ensures.value
+    ∙ ap (λ (t : ℕ → Bool). map (position_or_len t) sets) same
+    ∙ ap (map (position_or_len test)) c.sets.ensures
+    ∙ map_places (position_or_len test) c.args.index.now [] in
     c.from_vec.ensures ∙ c.in_ok-push_goal_value.ensures var layer ∙ ap (λ l. l ++ (goal_part var layer c.args.members.now).values) values

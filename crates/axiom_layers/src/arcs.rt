@@ -1,0 +1,61 @@
+// Which derived facts the axioms' facts rest on.
+ghost use Rattle.std.specs.Prelude.{◌≡◌, ◌++◌, map, filter, IfOk, OnOk};
+ghost use Rattle.std.specs.List.{flat_map};
+ghost use Rattle.relaxed_reach.specs.ReachedTask.{is_derived as is_derived_in};
+ghost use Rattle.axiom_layers.specs.Arcs.{arc_to, arcs_at, arcs_of};
+
+use relaxed_reach::{Fact, Reached, ReachedAxiom};
+use std::alloc::{AllocError, Global};
+
+/// An axiom for the fact has the lower fact, a derived one, in its body.
+#[derive(Clone, Copy)]
+pub(crate) struct Arc {
+    pub(crate) fact: u64,
+    pub(crate) low: u64,
+}
+
+/// Whether the fact is derived.
+fn is_derived(facts: &[Fact], fact: u64) -> bool
+    ensures { result ≡ is_derived_in facts.now fact }
+{
+    match facts.get(fact as usize) {
+        Some(fact) => fact.derived,
+        None => false,
+    }
+}
+
+/// Adds an arc from the fact to each derived fact among the literals.
+fn push_arcs(
+    arcs: &mut Vec<Arc>,
+    facts: &[Fact],
+    fact: u64,
+    literals: &[u64],
+) -> Result<(), AllocError>
+    ensures { OnOk result (arcs.new.items ≡ arcs.old.items ++ map (arc_to fact) (filter (is_derived_in facts.now) literals.now)) }
+{
+    for low in literals {
+        if is_derived(facts, *low) {
+            arcs.push(Arc { fact, low: *low })?;
+        }
+    }
+    Ok(())
+}
+
+/// Adds the arcs of one axiom.
+fn push_axiom(arcs: &mut Vec<Arc>, facts: &[Fact], row: &ReachedAxiom) -> Result<(), AllocError>
+    ensures { OnOk result (arcs.new.items ≡ arcs.old.items ++ arcs_at facts.now row.now) }
+{
+    push_arcs(arcs, facts, row.fact, row.condition.positive.as_slice())?;
+    push_arcs(arcs, facts, row.fact, row.condition.negative.as_slice())
+}
+
+/// The arcs of all axioms, one for each derived fact in a body.
+pub(crate) fn arcs(alloc: Global, reached: &Reached) -> Result<Vec<Arc>, AllocError>
+    ensures { IfOk result (λ arcs. arcs.items ≡ arcs_of reached.now) }
+{
+    let mut arcs = Vec::new(alloc);
+    for row in reached.axioms.as_slice() {
+        push_axiom(&mut arcs, reached.facts.as_slice(), row)?;
+    }
+    Ok(arcs)
+}

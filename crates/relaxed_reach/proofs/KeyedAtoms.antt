@@ -1,0 +1,55 @@
+-- Tables whose keys are atoms, beside the atoms themselves.
+use Rattle.std.proofs.Common.{◌≡◌, ℕ, ◌+◌, ◌<◌, ◌≤◌, Bool, true, false, not, cond, List, [], ◌∷◌, ◌++◌, Option, Some, None, map, take, length, nat_lt, get_or, refl, sym, ap, ◌∙◌, subst, arith}
+use Rattle.std.specs.List.{list_any, position, position_or_len}
+use Rattle.std.specs.List.Sorted.{IsPermutation, IsSorted, IsSortedBy}
+use Rattle.std.specs.Ordering.{is_lt, ordering_then, nat_cmp}
+use Rattle.std.specs.Cmp.Lexicographic.{slice_cmp}
+use Rattle.std.proofs.lemmas.List.{map_push, length-map, get_or-map, take_all}
+use Rattle.std.proofs.lemmas.Simd.{map-map}
+use Rattle.lists.proofs.Items.{any_map}
+use Rattle.normaliser.specs.declared.task.GroundAtom.{GroundAtom}
+use Rattle.normaliser.specs.Meaning.{is_same_atom}
+use Rattle.relaxed_reach.specs.AtomKeys.{Key, atom_of}
+use Rattle.relaxed_reach.specs.Reachable.{is_among, number_of, fact_cmp}
+use Rattle.relaxed_reach.specs.Rounds.{added}
+use Rattle.relaxed_reach.proofs.Keeping.{position_is}
+
+position_or_len-map : (test : GroundAtom → Bool) (keys : List Key) → position_or_len test (map atom_of keys) ≡ position_or_len (λ key. test (atom_of key)) keys
+position_or_len-map test [] = refl
+position_or_len-map test (key ∷ keys) = ap (λ n. cond (not (test (atom_of key))) (1 + n) 0) (position_or_len-map test keys)
+
+module _ (keys : List Key) (atoms : List GroundAtom) (is : map atom_of keys ≡ atoms) where
+  pub among_keys : (atom : GroundAtom) → list_any (λ key. is_same_atom atom (atom_of key)) keys ≡ is_among atoms atom
+  among_keys atom = sym (any_map (is_same_atom atom) atom_of keys) ∙ ap (λ l. is_among l atom) is
+
+  pub number_in_keys : (atom : GroundAtom) → position (λ key. is_same_atom atom (atom_of key)) keys ≡ cond (is_among atoms atom) (Some (number_of atoms atom)) None
+  number_in_keys atom =
+      ap (λ n. cond (nat_lt n (length keys)) (Some n) None) (sym (position_or_len-map (is_same_atom atom) keys))
+      ∙ ap (λ m. cond (nat_lt (position_or_len (is_same_atom atom) (map atom_of keys)) m) (Some (position_or_len (is_same_atom atom) (map atom_of keys))) None) (sym (length-map keys atom_of))
+      ∙ ap (position (is_same_atom atom)) is
+      ∙ position_is atoms atom
+
+  pub added_key : (key : Key) (new_keys : List Key) → new_keys ≡ cond (list_any (λ known. is_same_atom (atom_of key) (atom_of known)) keys) keys (keys ++ key ∷ []) → map atom_of new_keys ≡ added atoms (atom_of key)
+  added_key key new_keys grown =
+      ap (map atom_of) grown
+      ∙ by (list_any (λ known. is_same_atom (atom_of key) (atom_of known)) keys)
+      ∙ ap (λ known. cond known (map atom_of keys) (map atom_of keys ++ atom_of key ∷ [])) (sym (any_map (is_same_atom (atom_of key)) atom_of keys))
+      ∙ ap (λ known. added known (atom_of key)) is
+    where
+      by : (known : Bool) → map atom_of (cond known keys (keys ++ key ∷ [])) ≡ cond known (map atom_of keys) (map atom_of keys ++ atom_of key ∷ [])
+      by true = refl
+      by false = map_push atom_of keys key
+
+-- keys in order are atoms in order
+pub sorted_keys : (keys : List Key) → IsSorted (λ (a b : Key). fact_cmp (atom_of a) (atom_of b)) keys → IsSorted fact_cmp (map atom_of keys)
+sorted_keys [] sorted k d low within = absurd (omega (arith, within))
+sorted_keys (key ∷ more) sorted k d low within =
+    let keys : List Key = key ∷ more in
+    let size = length-map keys atom_of in
+    let next = get_or-map atom_of keys (k + 1) key d (omega (arith, within, size)) in
+    let here = get_or-map atom_of keys k key d (omega (arith, within, size)) in
+    ap (λ a. is_lt (fact_cmp a (get_or (map atom_of keys) k d))) next ∙ ap (λ a. is_lt (fact_cmp (atom_of (get_or keys (k + 1) key)) a)) here ∙ sorted k key low (omega (arith, within, size))
+
+-- what is made of each key's atom is made of each atom
+pub made_of_keys : {X : Type 0} (make : GroundAtom → X) (keys : List Key) (atoms : List GroundAtom) → map atom_of keys ≡ atoms → (n : ℕ) → length keys ≤ n → map (λ key. make (atom_of key)) (take n keys) ≡ map make atoms
+made_of_keys make keys atoms is n whole = ap (map (λ (key : Key). make (atom_of key))) (take_all n keys whole) ∙ sym (map-map make atom_of keys) ∙ ap (map make) is

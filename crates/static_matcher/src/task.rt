@@ -1,0 +1,110 @@
+// The ground task of a normal task.
+ghost use Rattle.std.specs.Prelude.{◌≡◌, IfOk, filter};
+ghost use Rattle.normaliser.specs.Lawful.{IsLawful as IsLawfulNormal};
+ghost use Rattle.static_matcher.specs.Instances.{instance_task, static_settling, IsGroundTask};
+ghost use Rattle.static_matcher.specs.Lawful.{IsLawful};
+ghost use Rattle.static_matcher.specs.Settled.{kept_goal};
+
+use crate::grounding::{actions, axioms};
+use crate::literals::condition;
+use crate::tables::Tables;
+use crate::types::{GoalRow, Ground};
+use lists::{List, Text};
+use normaliser::{GroundAtom, Normal, PredicateRow};
+use std::alloc::{AllocError, Global};
+
+fn copied(alloc: Global, text: &Text) -> Result<Text, AllocError>
+    ensures { IfOk result (λ copy. copy ≡ text.now) }
+{
+    Ok(Text::from_vec(Vec::from_slice(alloc, text.as_slice())?))
+}
+
+fn predicate(alloc: Global, row: &PredicateRow) -> Result<PredicateRow, AllocError>
+    ensures { IfOk result (λ copy. copy ≡ row.now) }
+{
+    Ok(PredicateRow {
+        name: copied(alloc, &row.name)?,
+        arity: row.arity,
+        derived: row.derived,
+        fixed: row.fixed,
+    })
+}
+
+fn predicates(alloc: Global, rows: &[PredicateRow]) -> Result<List<PredicateRow>, AllocError>
+    ensures { IfOk result (λ copy. copy ≡ rows.now) }
+{
+    let mut out = Vec::with_capacity(alloc, rows.len())?;
+    for row in rows {
+        out.push(predicate(alloc, row)?)?;
+    }
+    Ok(List::from_vec(out))
+}
+
+fn objects(alloc: Global, names: &[Text]) -> Result<List<Text>, AllocError>
+    ensures { IfOk result (λ copy. copy ≡ names.now) }
+{
+    let mut out = Vec::with_capacity(alloc, names.len())?;
+    for name in names {
+        out.push(copied(alloc, name)?)?;
+    }
+    Ok(List::from_vec(out))
+}
+
+fn copy(alloc: Global, atom: &GroundAtom) -> Result<GroundAtom, AllocError>
+    ensures { IfOk result (λ copy. copy ≡ atom.now) }
+{
+    Ok(GroundAtom {
+        predicate: atom.predicate,
+        objects: List::from_vec(Vec::from_slice(alloc, atom.objects.as_slice())?),
+    })
+}
+
+/// The initial atoms that aren't static.
+fn init(alloc: Global, tables: &Tables<'_>) -> Result<List<GroundAtom>, AllocError>
+    ensures { IfOk result (λ init. init ≡ filter (static_settling tables.now).keeps tables.now.init) }
+{
+    let mut init = Vec::new(alloc);
+    for atom in tables.task().init.as_slice() {
+        if !tables.is_fixed(atom.predicate) {
+            init.push(copy(alloc, atom)?)?;
+        }
+    }
+    Ok(List::from_vec(init))
+}
+
+/// The goal without static literals.
+fn goal(alloc: Global, tables: &Tables<'_>) -> Result<GoalRow<GroundAtom>, AllocError>
+    ensures { IfOk result (λ goal. goal ≡ kept_goal (static_settling tables.now) (instance_task tables.now).goal) }
+{
+    match condition(alloc, tables, &[], tables.task().goal.as_slice())? {
+        Some(literals) => Ok(GoalRow::All(literals)),
+        None => Ok(GoalRow::Never),
+    }
+}
+
+fn instances_by(alloc: Global, tables: &Tables<'_>) -> Result<Ground, AllocError>
+    ensures { IfOk result (IsGroundTask tables.now) }
+{
+    let task = tables.task();
+    Ok(Ground {
+        normal_predicates: predicates(alloc, task.predicates.as_slice())?,
+        objects: objects(alloc, task.objects.as_slice())?,
+        init: init(alloc, tables)?,
+        actions: actions(alloc, tables)?,
+        axioms: axioms(alloc, tables)?,
+        goal: goal(alloc, tables)?,
+        metric: task.metric,
+    })
+}
+
+/// The ground task of a normal task (Helmert 2009, grounding): its schemas and axioms with each choice of objects of
+/// their parameters, where static literals and equalities are true and, with the metric, the cost has a value. Each
+/// instance stands once, and no atom in it is static. The only error is want of memory.
+pub fn instances(alloc: Global, normal: &Normal) -> Result<Ground, AllocError>
+    requires lawful { IsLawfulNormal normal.now }
+    ensures instances { IfOk result (IsGroundTask normal.now) }
+    ensures lawful { IfOk result IsLawful }
+{
+    let tables = Tables::of(alloc, normal)?;
+    instances_by(alloc, &tables)
+}
