@@ -1,0 +1,3 @@
+(define (problem one) (:domain switch)
+ (:init (off))
+ (:goal (up)))

@@ -1,0 +1,188 @@
+//! What is printed at the end of a run, in pieces that take no memory.
+
+ghost use Rattle.std.specs.Prelude.{◌≡◌, OnOk, OnErr};
+ghost use Rattle.std.specs.List.{flat_map};
+ghost use Rattle.std.specs.Io.KnownBytes.{append_known};
+ghost use Rattle.tl_device.specs.Causes.{HasCause};
+ghost use Rattle.tl_device.specs.Contents.{PrintedInPart};
+ghost use Rattle.translator.specs.Messages.{usage_line, unreadable_line, fault_line, summary_lines, line_of};
+ghost use Rattle.translator.specs.Pieces.{bytes_of, piece_bytes};
+ghost use Rattle.translator.specs.Run.{name_of};
+
+use crate::outcome::{End, Summary};
+use itoa::Buffer;
+use pddl_lexer::Fault;
+use tl_device::{Console, Failed, say_all};
+use type_checker::Side;
+
+/// A fixed part of what is printed.
+#[derive(Clone, Copy, Debug, PartialEq, Eq)]
+pub(crate) enum Phrase {
+    Usage,
+    OutOfMemory,
+    CannotWrite,
+    CannotRead,
+    Prefix,
+    BeforeLine,
+    AfterLine,
+    Variables,
+    Facts,
+    MutexGroups,
+    Operators,
+    Axioms,
+    LineFeed,
+}
+
+impl Phrase {
+    #[tactic(auto, unfolding(crate::specs::Pieces::bytes_of, crate::specs::Messages::usage_line, crate::specs::Messages::memory_line, crate::specs::Messages::unwritable_line))]
+    fn bytes(self) -> &'static [u8]
+        ensures { result.now ≡ bytes_of self }
+    {
+        match self {
+            Phrase::Usage => b"usage: translate DOMAIN PROBLEM [options]\n",
+            Phrase::OutOfMemory => b"translate: out of memory\n",
+            Phrase::CannotWrite => b"translate: cannot write output.sas\n",
+            Phrase::CannotRead => b"translate: cannot read ",
+            Phrase::Prefix => b"translate: ",
+            Phrase::BeforeLine => b":",
+            Phrase::AfterLine => b": ",
+            Phrase::Variables => b"Translator variables: ",
+            Phrase::Facts => b"\nTranslator facts: ",
+            Phrase::MutexGroups => b"\nTranslator mutex groups: ",
+            Phrase::Operators => b"\nTranslator operators: ",
+            Phrase::Axioms => b"\nTranslator axioms: ",
+            Phrase::LineFeed => b"\n",
+        }
+    }
+}
+
+/// A part of what is printed.
+#[derive(Clone, Copy, Debug)]
+pub(crate) enum Piece<'a> {
+    Fixed(Phrase),
+    Name(&'a str),
+    Number(u128),
+}
+
+fn say_piece<C: Console>(console: &mut C, piece: &Piece<'_>) -> Result<(), Failed>
+    ensures ok { OnOk result (C.printed console.new ≡ append_known (C.printed console.old) (piece_bytes piece.now)) }
+    ensures err { OnErr result (PrintedInPart (C.printed console.old) (C.printed console.new) (piece_bytes piece.now)) }
+    ensures cause { HasCause (C.faults console.old) (C.faults console.new) result }
+{
+    match piece {
+        Piece::Fixed(phrase) => say_all(console, phrase.bytes()),
+        Piece::Name(name) => say_all(console, name.as_bytes()),
+        Piece::Number(number) => say_all(console, Buffer::new().format(*number).as_bytes()),
+    }
+}
+
+fn say_pieces<C: Console>(console: &mut C, pieces: &[Piece<'_>]) -> Result<(), Failed>
+    ensures ok { OnOk result (C.printed console.new ≡ append_known (C.printed console.old) (flat_map piece_bytes pieces.now)) }
+    ensures err { OnErr result (PrintedInPart (C.printed console.old) (C.printed console.new) (flat_map piece_bytes pieces.now)) }
+    ensures cause { HasCause (C.faults console.old) (C.faults console.new) result }
+{
+    for piece in pieces {
+        say_piece(console, piece)?;
+    }
+    Ok(())
+}
+
+fn say_phrase<C: Console>(console: &mut C, phrase: Phrase) -> Result<(), Failed>
+    ensures ok { OnOk result (C.printed console.new ≡ append_known (C.printed console.old) (bytes_of phrase)) }
+    ensures err { OnErr result (PrintedInPart (C.printed console.old) (C.printed console.new) (bytes_of phrase)) }
+    ensures cause { HasCause (C.faults console.old) (C.faults console.new) result }
+{
+    say_all(console, phrase.bytes())
+}
+
+/// Says how the command is used.
+#[tactic(auto, unfolding(crate::specs::Pieces::bytes_of))]
+pub(crate) fn say_usage<C: Console>(console: &mut C) -> Result<(), Failed>
+    ensures ok { OnOk result (C.printed console.new ≡ append_known (C.printed console.old) usage_line) }
+    ensures err { OnErr result (PrintedInPart (C.printed console.old) (C.printed console.new) usage_line) }
+    ensures cause { HasCause (C.faults console.old) (C.faults console.new) result }
+{
+    say_phrase(console, Phrase::Usage)
+}
+
+/// The name of the file on this side.
+fn name_of<'a>(side: Side, domain: &'a str, problem: &'a str) -> &'a str
+    ensures { result.now ≡ name_of side domain.now problem.now }
+{
+    match side {
+        Side::Domain => domain,
+        Side::Problem => problem,
+    }
+}
+
+fn say_summary<C: Console>(console: &mut C, summary: &Summary) -> Result<(), Failed>
+    ensures ok { OnOk result (C.printed console.new ≡ append_known (C.printed console.old) (summary_lines summary.now)) }
+    ensures err { OnErr result (PrintedInPart (C.printed console.old) (C.printed console.new) (summary_lines summary.now)) }
+    ensures cause { HasCause (C.faults console.old) (C.faults console.new) result }
+{
+    let pieces = [
+        Piece::Fixed(Phrase::Variables),
+        Piece::Number(summary.variables as u128),
+        Piece::Fixed(Phrase::Facts),
+        Piece::Number(summary.facts),
+        Piece::Fixed(Phrase::MutexGroups),
+        Piece::Number(summary.mutex_groups as u128),
+        Piece::Fixed(Phrase::Operators),
+        Piece::Number(summary.operators as u128),
+        Piece::Fixed(Phrase::Axioms),
+        Piece::Number(summary.axioms as u128),
+        Piece::Fixed(Phrase::LineFeed),
+    ];
+    say_pieces(console, &pieces)
+}
+
+fn say_unreadable<C: Console>(console: &mut C, name: &str) -> Result<(), Failed>
+    ensures ok { OnOk result (C.printed console.new ≡ append_known (C.printed console.old) (unreadable_line name.now)) }
+    ensures err { OnErr result (PrintedInPart (C.printed console.old) (C.printed console.new) (unreadable_line name.now)) }
+    ensures cause { HasCause (C.faults console.old) (C.faults console.new) result }
+{
+    let pieces = [
+        Piece::Fixed(Phrase::CannotRead),
+        Piece::Name(name),
+        Piece::Fixed(Phrase::LineFeed),
+    ];
+    say_pieces(console, &pieces)
+}
+
+fn say_fault<C: Console>(console: &mut C, name: &str, fault: Fault) -> Result<(), Failed>
+    ensures ok { OnOk result (C.printed console.new ≡ append_known (C.printed console.old) (fault_line name.now fault)) }
+    ensures err { OnErr result (PrintedInPart (C.printed console.old) (C.printed console.new) (fault_line name.now fault)) }
+    ensures cause { HasCause (C.faults console.old) (C.faults console.new) result }
+{
+    let pieces = [
+        Piece::Fixed(Phrase::Prefix),
+        Piece::Name(name),
+        Piece::Fixed(Phrase::BeforeLine),
+        Piece::Number(fault.line as u128),
+        Piece::Fixed(Phrase::AfterLine),
+        Piece::Name(fault.kind.text()),
+        Piece::Fixed(Phrase::LineFeed),
+    ];
+    say_pieces(console, &pieces)
+}
+
+/// Says how the work ended, where the input files have these names.
+#[tactic(auto, unfolding(crate::specs::Pieces::bytes_of))]
+pub(crate) fn say_outcome<C: Console>(
+    console: &mut C,
+    outcome: &Result<Summary, End>,
+    domain: &str,
+    problem: &str,
+) -> Result<(), Failed>
+    ensures ok { OnOk result (C.printed console.new ≡ append_known (C.printed console.old) (line_of outcome.now domain.now problem.now)) }
+    ensures err { OnErr result (PrintedInPart (C.printed console.old) (C.printed console.new) (line_of outcome.now domain.now problem.now)) }
+    ensures cause { HasCause (C.faults console.old) (C.faults console.new) result }
+{
+    match outcome {
+        Ok(summary) => say_summary(console, summary),
+        Err(End::NoMemory) => say_phrase(console, Phrase::OutOfMemory),
+        Err(End::CannotRead(side)) => say_unreadable(console, name_of(*side, domain, problem)),
+        Err(End::CannotWrite) => say_phrase(console, Phrase::CannotWrite),
+        Err(End::Faulty(side, fault)) => say_fault(console, name_of(*side, domain, problem), *fault),
+    }
+}

@@ -1,0 +1,101 @@
+//! How a run ends.
+
+ghost use Rattle.std.specs.Prelude.{◌≡◌};
+ghost use Rattle.std.specs.Process.{exit_status};
+ghost use Rattle.translator.specs.Outcome.{code_of, status_of, of_check};
+ghost use Rattle.translator.specs.declared.outcome.End.TheVariants.{NoMemory};
+
+use pddl_lexer::Fault;
+use std::alloc::AllocError;
+use std::process::ExitCode;
+use type_checker::{CheckEnd, Side};
+
+/// What the process answers.
+#[derive(Clone, Copy, Debug, PartialEq, Eq)]
+pub enum Status {
+    /// The output file is written.
+    Done,
+    /// The words are refused.
+    Usage,
+    /// Memory ran out.
+    NoMemory,
+    /// A file or the console failed, or an input file is absent.
+    Device,
+    /// The input has a fault.
+    InputFault,
+}
+
+impl Status {
+    /// The exit status of the process.
+    pub fn code(self) -> u8
+        ensures { result ≡ code_of self }
+    {
+        match self {
+            Status::Done => 0,
+            Status::Usage => 2,
+            Status::NoMemory => 20,
+            Status::Device => 30,
+            Status::InputFault => 31,
+        }
+    }
+
+    /// What the process answers after this end of the work, where the console takes what is said.
+    pub(crate) fn of(outcome: &Result<Summary, End>) -> Status
+        ensures { result ≡ status_of outcome.now }
+    {
+        match outcome {
+            Ok(_) => Status::Done,
+            Err(End::NoMemory) => Status::NoMemory,
+            Err(End::CannotRead(_)) | Err(End::CannotWrite) => Status::Device,
+            Err(End::Faulty(_, _)) => Status::InputFault,
+        }
+    }
+}
+
+impl From<Status> for ExitCode {
+    ghost from_gives = { λ status code. exit_status code ≡ code_of status };
+
+    fn from(status: Status) -> ExitCode {
+        ExitCode::from(status.code())
+    }
+}
+
+/// The sizes of the written task.
+#[derive(Clone, Copy, Debug, PartialEq, Eq)]
+pub struct Summary {
+    pub variables: u64,
+    /// The sum of the ranges of all variables.
+    pub facts: u128,
+    pub mutex_groups: u64,
+    pub operators: u64,
+    /// The number of rules.
+    pub axioms: u64,
+}
+
+/// Why no task is written.
+#[derive(Clone, Copy, Debug, PartialEq, Eq)]
+pub enum End {
+    NoMemory,
+    CannotRead(Side),
+    CannotWrite,
+    Faulty(Side, Fault),
+}
+
+impl From<AllocError> for End {
+    ghost from_gives = { λ _ end. end ≡ NoMemory };
+
+    fn from(_: AllocError) -> End {
+        End::NoMemory
+    }
+}
+
+impl From<CheckEnd> for End {
+    ghost from_gives = { λ check end. end ≡ of_check check };
+
+    fn from(end: CheckEnd) -> End {
+        match end {
+            CheckEnd::Fault(side, fault) => End::Faulty(side, fault),
+            CheckEnd::NoMemory => End::NoMemory,
+        }
+    }
+}

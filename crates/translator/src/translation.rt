@@ -1,0 +1,166 @@
+//! From two texts to the text of a task.
+
+ghost use Rattle.std.specs.Prelude.{◌≡◌, ◌<◌, [], IfOk, IfErr, length, sum_by};
+ghost use Rattle.pddl_lexer.specs.Nested.{tree};
+ghost use Rattle.pddl_lexer.specs.Faults.{tree_faults};
+ghost use Rattle.pddl_parser.specs.Outcome.{Reads, faults_of};
+ghost use Rattle.pddl_parser.specs.Reading.{domain_reading, problem_reading};
+ghost use Rattle.pddl_parser.specs.Spelled.{IsWellSpelled, IsWellSpelledProblem};
+ghost use Rattle.static_matcher.specs.Lawful.{IsLawful as IsLawfulGround};
+ghost use Rattle.relaxed_reach.specs.Lawful.{IsLawful};
+ghost use Rattle.relaxed_reach.specs.Reachable.{IsReachedTask};
+ghost use Rattle.type_checker.specs.Checked.{IsChecked};
+ghost use Rattle.translator.specs.Run.{of_texts};
+ghost use Rattle.translator.specs.RunTask.{IsRunTask};
+ghost use Rattle.translator.specs.declared.outcome.End.TheVariants.{NoMemory};
+ghost use Rattle.translator.specs.Written.{IsSummaryOf, IsWritten, IsTextWhere, StopsWhere, StopsAt};
+
+use crate::law::run_task_translates;
+use crate::outcome::{End, Summary};
+use axiom_layers::layers;
+use fdr_encoder::encode;
+use normaliser::laws::lawful;
+use normaliser::normalise;
+use pddl_lexer::{Tree, TreeEnd, read_tree};
+use pddl_parser::{Domain, ParseEnd, Problem, parse_domain, parse_problem};
+use relaxed_reach::{Reached, Steps, reach};
+use sas_task::{SasTask, Variable};
+use sas_writer::text_of;
+use static_matcher::{Ground, instances};
+use std::alloc::{AllocError, Global};
+use std::marker::Brand;
+use std::sync::ledger::{Blank, Ledger};
+use type_checker::{Checked, Side, check};
+
+/// The text of a task, with its sizes.
+#[derive(Debug, Drop)]
+pub(crate) struct Translation {
+    pub(crate) text: Vec<u8>,
+    pub(crate) summary: Summary,
+}
+
+/// The text of the task that two texts mean. The first fault of the two ends it, or want of memory.
+pub(crate) fn translate_texts(
+    alloc: Global,
+    domain: &[u8],
+    problem: &[u8],
+) -> Result<Translation, End>
+    ensures ok { IfOk result (λ t. IsTextWhere (of_texts domain.now problem.now) t.text.items t.summary) }
+    ensures err { IfErr result (StopsWhere (of_texts domain.now problem.now)) }
+{
+    let domain_tree = tree_of(alloc, Side::Domain, domain)?;
+    let problem_tree = tree_of(alloc, Side::Problem, problem)?;
+    let domain = domain_of(alloc, domain_tree)?;
+    let problem = problem_of(alloc, problem_tree)?;
+    let checked = check(alloc, domain, problem)?;
+    let task = run_task(alloc, &checked)?;
+    run_task_translates();
+    written(alloc, task)
+}
+
+/// The task of a pair without faults: its normal task, the instances of that, those that can be reached, and the
+/// encoding of these.
+fn run_task(alloc: Global, checked: &Checked) -> Result<SasTask, AllocError>
+    requires { IsChecked checked.now }
+    ensures { IfOk result (λ task. IsRunTask checked.now.domain checked.now.problem task) }
+{
+    lawful();
+    let normal = normalise(alloc, checked)?;
+    let ground = instances(alloc, &normal)?;
+    let reached = reached::<Brand>(alloc, &ground, Blank::new(1))?;
+    let layers = layers(alloc, &reached)?;
+    encode(alloc, &reached, &layers)
+}
+
+/// What can be reached of a ground task. Its steps are counted in the blank's ledger, which nothing asks for.
+fn reached<L: Ledger>(alloc: Global, ground: &Ground, blank: Blank) -> Result<Reached, AllocError>
+    requires name { blank.name ≡ L.name }
+    requires parts { blank.parts ≡ L.parts }
+    requires some { 0 < L.parts }
+    requires lawful { IsLawfulGround ground.now }
+    ensures reached { IfOk result (IsReachedTask ground.now) }
+    ensures lawful { IfOk result IsLawful }
+{
+    let mut steps = Steps::<L>::new(blank);
+    reach(alloc, ground, &mut steps)
+}
+
+fn tree_of<'a>(alloc: Global, side: Side, text: &'a [u8]) -> Result<Tree<'a>, End>
+    ensures faultless { IfOk result (λ _. tree_faults text.now ≡ []) }
+    ensures tree { IfOk result (λ t. tree text.now ≡ t) }
+    ensures err { IfErr result (StopsAt side (tree_faults text.now)) }
+{
+    match read_tree(alloc, text) {
+        Ok(tree) => Ok(tree),
+        Err(TreeEnd::Fault(fault)) => Err(End::Faulty(side, fault)),
+        Err(TreeEnd::NoMemory) => Err(End::NoMemory),
+    }
+}
+
+#[tactic(auto, using(crate::proofs::Texts::value_given))]
+fn domain_of(alloc: Global, tree: Tree<'_>) -> Result<Domain, End>
+    ensures reading { IfOk result (λ domain. domain_reading tree.entry ≡ Reads domain) }
+    ensures spelled { IfOk result IsWellSpelled }
+    ensures err { IfErr result (StopsAt Side.Domain (faults_of (domain_reading tree.entry))) }
+{
+    match parse_domain(alloc, &tree) {
+        Ok(domain) => Ok(domain),
+        Err(ParseEnd::Fault(fault)) => Err(End::Faulty(Side::Domain, fault)),
+        Err(ParseEnd::NoMemory) => Err(End::NoMemory),
+    }
+}
+
+#[tactic(auto, using(crate::proofs::Texts::value_given))]
+fn problem_of(alloc: Global, tree: Tree<'_>) -> Result<Problem, End>
+    ensures reading { IfOk result (λ problem. problem_reading tree.entry ≡ Reads problem) }
+    ensures spelled { IfOk result IsWellSpelledProblem }
+    ensures err { IfErr result (StopsAt Side.Problem (faults_of (problem_reading tree.entry))) }
+{
+    match parse_problem(alloc, &tree) {
+        Ok(problem) => Ok(problem),
+        Err(ParseEnd::Fault(fault)) => Err(End::Faulty(Side::Problem, fault)),
+        Err(ParseEnd::NoMemory) => Err(End::NoMemory),
+    }
+}
+
+/// The text of the task and its sizes.
+fn written(alloc: Global, task: SasTask) -> Result<Translation, End>
+    ensures ok { IfOk result (λ t. IsWritten task t.text.items t.summary) }
+    ensures err { IfErr result (λ end. end ≡ NoMemory) }
+{
+    let text = text_of(alloc, &task)?;
+    Ok(Translation {
+        text,
+        summary: summary(&task),
+    })
+}
+
+fn summary(task: &SasTask) -> Summary
+    ensures { IsSummaryOf task.now result }
+{
+    Summary {
+        variables: task.variables(),
+        facts: facts(task),
+        mutex_groups: task.groups(),
+        operators: task.operators(),
+        axioms: task.rules(),
+    }
+}
+
+/// The sum of the ranges of all variables.
+fn facts(task: &SasTask) -> u128
+    ensures { result ≡ sum_by (λ v. length v.facts) task.now.variables }
+{
+    let mut facts = 0;
+    for i in 0..task.variables() {
+        facts += range(task.variable(i)) as u128;
+    }
+    facts
+}
+
+/// How many values the variable has.
+fn range(variable: &Variable) -> u64
+    ensures { result ≡ length variable.now.facts }
+{
+    variable.facts.as_slice().len() as u64
+}
