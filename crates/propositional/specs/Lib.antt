@@ -1,4 +1,0 @@
-pub mod Plan
-pub mod Lawful
-pub mod Encoding
-pub mod Simulates

@@ -1,0 +1,32 @@
+-- Each line is its pieces, one after another.
+use Rattle.std.proofs.Common.{◌≡◌, ℕ, List, [], ◌∷◌, ◌++◌, sym, ◌∙◌, append-nil, append_assoc}
+use Rattle.std.specs.Prelude.{fold, codes, decimal}
+use Rattle.std.specs.List.{flat_map}
+use Rattle.pddl_lexer.specs.Kinds.{text}
+use Rattle.pddl_lexer.specs.declared.fault.Fault.{Fault}
+use Rattle.translate_main.specs.declared.outcome.Summary.{Summary}
+use Rattle.translate_main.specs.declared.message.Phrase.TheVariants as phrases
+use Rattle.translate_main.specs.Messages.{unreadable_line, fault_line, summary_lines}
+use Rattle.translate_main.specs.Pieces.{bytes_of, joined}
+
+run_on : (before : List ℕ) (parts : List (List ℕ)) → before ++ joined parts ≡ fold (λ line part. line ++ part) before parts
+run_on before [] = append-nil before
+run_on before (part ∷ parts) = sym (append_assoc before part (joined parts)) ∙ run_on (before ++ part) parts
+
+pub unreadable_pieces : (name : List ℕ) → joined (bytes_of phrases.CannotRead ∷ name ∷ bytes_of phrases.LineFeed ∷ []) ≡ unreadable_line name
+unfolding bytes_of unreadable_line
+unreadable_pieces name = run_on (codes "translate: cannot read ") (name ∷ codes "\n" ∷ [])
+
+pub fault_pieces : (name : List ℕ) (fault : Fault) →
+    joined (bytes_of phrases.Prefix ∷ name ∷ bytes_of phrases.BeforeLine ∷ decimal fault.line ∷ bytes_of phrases.AfterLine ∷ text fault.kind ∷ bytes_of phrases.LineFeed ∷ []) ≡ fault_line name fault
+unfolding bytes_of fault_line
+fault_pieces name fault = run_on (codes "translate: ") (name ∷ codes ":" ∷ decimal fault.line ∷ codes ": " ∷ text fault.kind ∷ codes "\n" ∷ [])
+
+pub summary_pieces : (summary : Summary) →
+    joined (bytes_of phrases.Variables ∷ decimal summary.variables ∷ bytes_of phrases.Facts ∷ decimal summary.facts ∷ bytes_of phrases.MutexGroups ∷ decimal summary.mutex_groups
+    ∷ bytes_of phrases.Operators ∷ decimal summary.operators ∷ bytes_of phrases.Axioms ∷ decimal summary.axioms ∷ bytes_of phrases.LineFeed ∷ []) ≡ summary_lines summary
+unfolding bytes_of summary_lines
+summary_pieces summary =
+    run_on (codes "Translator variables: ")
+    (decimal summary.variables ∷ codes "\nTranslator facts: " ∷ decimal summary.facts ∷ codes "\nTranslator mutex groups: " ∷ decimal summary.mutex_groups
+    ∷ codes "\nTranslator operators: " ∷ decimal summary.operators ∷ codes "\nTranslator axioms: " ∷ decimal summary.axioms ∷ codes "\n" ∷ [])

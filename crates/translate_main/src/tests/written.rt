@@ -1,0 +1,489 @@
+//! What is written for pairs of files. Every text was worked by hand from the rules of the output.
+
+use super::{WORDS, answers, prepared};
+use crate::Status;
+use std::alloc::{AllocError, Global};
+use std::process::Abort;
+use std::test::*;
+
+/// A pair of files and the task that is written for it. In its lines ` / ` stands for a line feed.
+struct Row {
+    domain: &'static str,
+    problem: &'static str,
+    metric: &'static str,
+    /// The layer of each variable, and how its one fact is shown.
+    variables: &'static [(&'static str, &'static str)],
+    state: &'static str,
+    goal: &'static str,
+    operators: &'static [&'static str],
+    rules: &'static [&'static str],
+    /// The numbers of variables, of facts, of operators and of rules.
+    sizes: (u64, u64, u64, u64),
+}
+
+fn push_lines(text: &mut String, lines: &str) -> Result<(), AllocError> {
+    for line in lines.split(" / ") {
+        text.push_str(line)?;
+        text.push_str("\n")?;
+    }
+    Ok(())
+}
+
+fn push_variables(
+    alloc: Global,
+    text: &mut String,
+    variables: &[(&str, &str)],
+) -> Result<(), AllocError> {
+    let count = format!(in alloc; "{}\n", variables.len())?;
+    text.push_str(&count)?;
+    for (number, (layer, fact)) in variables.iter().enumerate() {
+        let block = format!(in alloc;
+            "begin_variable\nvar{number}\n{layer}\n2\nAtom {fact}\nNegatedAtom {fact}\nend_variable\n"
+        )?;
+        text.push_str(&block)?;
+    }
+    Ok(())
+}
+
+/// The blocks of operators or of rules.
+fn push_blocks(
+    alloc: Global,
+    text: &mut String,
+    sort: &str,
+    blocks: &[&str],
+) -> Result<(), AllocError> {
+    let count = format!(in alloc; "{}\n", blocks.len())?;
+    text.push_str(&count)?;
+    for block in blocks {
+        let block = format!(in alloc; "begin_{sort} / {block} / end_{sort}")?;
+        push_lines(text, &block)?;
+    }
+    Ok(())
+}
+
+impl Row {
+    /// The whole text of the task.
+    fn text(&self, alloc: Global) -> Result<String, AllocError> {
+        let mut text = String::from_str(alloc, "begin_version\n3\nend_version\n")?;
+        let metric = format!(in alloc; "begin_metric / {} / end_metric", self.metric)?;
+        push_lines(&mut text, &metric)?;
+        push_variables(alloc, &mut text, self.variables)?;
+        let state = format!(in alloc; "0 / begin_state / {} / end_state", self.state)?;
+        push_lines(&mut text, &state)?;
+        let goal = format!(in alloc; "begin_goal / {} / end_goal", self.goal)?;
+        push_lines(&mut text, &goal)?;
+        push_blocks(alloc, &mut text, "operator", self.operators)?;
+        push_blocks(alloc, &mut text, "rule", self.rules)?;
+        Ok(text)
+    }
+
+    fn summary(&self, alloc: Global) -> Result<String, AllocError> {
+        let (variables, facts, operators, rules) = self.sizes;
+        format!(in alloc;
+            "Translator variables: {variables}\nTranslator facts: {facts}\nTranslator mutex groups: 0\nTranslator operators: {operators}\nTranslator axioms: {rules}\n"
+        )
+    }
+
+    /// Whether its task is written for its files, and its sizes are printed.
+    fn is_written(&self, alloc: Global) -> Result<bool, AllocError> {
+        let mut outside = prepared(alloc, self.domain.as_bytes(), self.problem.as_bytes())?;
+        outside.room(100_000)?;
+        let is_done = answers(alloc, &WORDS, &mut outside, Status::Done)?;
+        let text = self.text(alloc)?;
+        let summary = self.summary(alloc)?;
+        Ok(is_done && outside.holds("output.sas", text.as_bytes()) && outside.has_printed(summary.as_bytes()))
+    }
+}
+
+fn assert_rows(rt: &impl Abort, alloc: Global, rows: &[Row]) -> Result<(), AllocError> {
+    for (number, row) in rows.iter().enumerate() {
+        assert!(rt; row.is_written(alloc)?, "row {number}");
+    }
+    Ok(())
+}
+
+const SHOP: &str = "(define (domain shop) (:predicates (done ?x)) (:functions (total-cost) - number (price ?x) - number)
+ (:action go :parameters (?x) :effect (and (done ?x) (increase (total-cost) (price ?x)))))";
+
+const FIT: &str = "(define (domain fit) (:types t u) (:predicates (p ?x - t) (done))
+ (:action go :parameters (?x - u) :precondition (p ?x) :effect (done)))";
+
+static GROUNDING: [Row; 8] = [
+    // An instance whose cost has no value is none.
+    Row {
+        domain: SHOP,
+        problem: "(define (problem s) (:domain shop) (:objects a b) (:init (= (total-cost) 0) (= (price a) 7)) (:goal (done a)) (:metric minimize (total-cost)))",
+        metric: "1",
+        variables: &[("-1", "done(a)")],
+        state: "1",
+        goal: "1 / 0 0",
+        operators: &["go a / 0 / 1 / 0 0 -1 0 / 7"],
+        rules: &[],
+        sizes: (1, 2, 1, 0),
+    },
+    // Without the metric costs don't count.
+    Row {
+        domain: SHOP,
+        problem: "(define (problem s) (:domain shop) (:objects a b) (:init (= (total-cost) 0) (= (price a) 7)) (:goal (done a)))",
+        metric: "0",
+        variables: &[("-1", "done(a)"), ("-1", "done(b)")],
+        state: "1 / 1",
+        goal: "1 / 0 0",
+        operators: &["go a / 0 / 1 / 0 0 -1 0 / 1", "go b / 0 / 1 / 0 1 -1 0 / 1"],
+        rules: &[],
+        sizes: (2, 4, 2, 0),
+    },
+    // An argument need not fit the type that its predicate declares.
+    Row {
+        domain: FIT,
+        problem: "(define (problem f) (:domain fit) (:objects a - t b - u) (:init (p b)) (:goal (done)))",
+        metric: "0",
+        variables: &[("-1", "done()")],
+        state: "1",
+        goal: "1 / 0 0",
+        operators: &["go b / 0 / 1 / 0 0 -1 0 / 1"],
+        rules: &[],
+        sizes: (1, 2, 1, 0),
+    },
+    // A goal out of reach is a derived variable without a rule.
+    Row {
+        domain: FIT,
+        problem: "(define (problem f) (:domain fit) (:objects a - t b - u) (:init (p a)) (:goal (done)))",
+        metric: "0",
+        variables: &[("0", "goal@split()")],
+        state: "1",
+        goal: "1 / 0 0",
+        operators: &[],
+        rules: &[],
+        sizes: (1, 2, 0, 0),
+    },
+    // A static negative literal; an inequality of two parameters, and an equality with a constant: of the nine pairs
+    // only `a b` and `c b` are left, and `c` is locked.
+    Row {
+        domain: "(define (domain doors) (:constants b) (:predicates (locked ?x) (open ?x))
+ (:action unlock :parameters (?x ?y) :precondition (and (not (locked ?x)) (not (= ?x ?y)) (= ?y b)) :effect (open ?x)))",
+        problem: "(define (problem d) (:domain doors) (:objects a c) (:init (locked c)) (:goal (open a)))",
+        metric: "0",
+        variables: &[("-1", "open(a)")],
+        state: "1",
+        goal: "1 / 0 0",
+        operators: &["unlock a b / 0 / 1 / 0 0 -1 0 / 1"],
+        rules: &[],
+        sizes: (1, 2, 1, 0),
+    },
+    // A parameter of a type without objects gives no operator.
+    Row {
+        domain: "(define (domain none) (:types spare) (:predicates (p) (q))
+ (:action first :parameters (?x - spare) :effect (q)) (:action second :effect (p)))",
+        problem: "(define (problem n) (:domain none) (:init) (:goal (p)))",
+        metric: "0",
+        variables: &[("-1", "p()")],
+        state: "1",
+        goal: "1 / 0 0",
+        operators: &["second / 0 / 1 / 0 0 -1 0 / 1"],
+        rules: &[],
+        sizes: (1, 2, 1, 0),
+    },
+    // A disjunction gives two operators of one name.
+    Row {
+        domain: "(define (domain two) (:predicates (on) (off) (dim)) (:action flip :precondition (or (off) (dim)) :effect (on)) (:action fade :precondition (off) :effect (dim)))",
+        problem: "(define (problem t) (:domain two) (:init (off)) (:goal (on)))",
+        metric: "0",
+        variables: &[("-1", "on()"), ("-1", "dim()")],
+        state: "1 / 1",
+        goal: "1 / 0 0",
+        operators: &[
+            "fade / 0 / 1 / 0 1 -1 0 / 1",
+            "flip / 0 / 1 / 0 0 -1 0 / 1",
+            "flip / 1 / 1 0 / 1 / 0 0 -1 0 / 1",
+        ],
+        rules: &[],
+        sizes: (2, 4, 3, 0),
+    },
+    // A fact that is reached only once an atom is deleted.
+    Row {
+        domain: "(define (domain late) (:predicates (p) (g)) (:action wipe :precondition (p) :effect (not (p))) (:action go :precondition (not (p)) :effect (g)))",
+        problem: "(define (problem l) (:domain late) (:init (p)) (:goal (g)))",
+        metric: "0",
+        variables: &[("-1", "p()"), ("-1", "g()")],
+        state: "0 / 1",
+        goal: "1 / 1 0",
+        operators: &[
+            "go / 1 / 0 1 / 1 / 0 1 -1 0 / 1",
+            "wipe / 0 / 1 / 0 0 0 1 / 1",
+        ],
+        rules: &[],
+        sizes: (2, 4, 2, 0),
+    },
+];
+
+#[test]
+fn instances_are_those_whose_static_conditions_hold(rt: HostRuntime) -> Result<(), AllocError> {
+    assert_rows(&rt, rt.alloc(), &GROUNDING)
+}
+
+/// The switch domain with this precondition, and an empty type.
+const LAMP: &str = "(define (domain switch) (:types spare) (:predicates (on) (off))
+ (:action flip :parameters () :precondition (and (off) (forall (?x - spare) (on))) :effect (and (on) (not (off)))))";
+
+const DARK: &str = "(define (domain switch) (:types spare) (:predicates (on) (off))
+ (:action flip :parameters () :precondition (and (off) (exists (?x - spare) (off))) :effect (and (on) (not (off)))))";
+
+const ONE: &str = "(define (problem one) (:domain switch) (:init (off)) (:goal (on)))";
+
+static CONDITIONS: [Row; 9] = [
+    // All objects of a type without objects.
+    Row {
+        domain: LAMP,
+        problem: ONE,
+        metric: "0",
+        variables: &[("-1", "on()"), ("-1", "off()")],
+        state: "1 / 0",
+        goal: "1 / 0 0",
+        operators: &["flip / 0 / 2 / 0 0 -1 0 / 0 1 0 1 / 1"],
+        rules: &[],
+        sizes: (2, 4, 1, 0),
+    },
+    // Some object of such a type: nothing can be done.
+    Row {
+        domain: DARK,
+        problem: ONE,
+        metric: "0",
+        variables: &[("-1", "off()"), ("0", "goal@split()")],
+        state: "0 / 1",
+        goal: "1 / 1 0",
+        operators: &[],
+        rules: &[],
+        sizes: (2, 4, 0, 0),
+    },
+    // A goal out of reach.
+    Row {
+        domain: LAMP,
+        problem: "(define (problem one) (:domain switch) (:init) (:goal (on)))",
+        metric: "0",
+        variables: &[("0", "goal@split()")],
+        state: "1",
+        goal: "1 / 0 0",
+        operators: &[],
+        rules: &[],
+        sizes: (1, 2, 0, 0),
+    },
+    // A goal without alternatives is false.
+    Row {
+        domain: LAMP,
+        problem: "(define (problem one) (:domain switch) (:init (off)) (:goal (or)))",
+        metric: "0",
+        variables: &[("-1", "on()"), ("-1", "off()"), ("0", "goal@split()")],
+        state: "1 / 0 / 1",
+        goal: "1 / 2 0",
+        operators: &["flip / 0 / 2 / 0 0 -1 0 / 0 1 0 1 / 1"],
+        rules: &[],
+        sizes: (3, 6, 1, 0),
+    },
+    // A goal that holds at once, of an atom that no operator changes any more.
+    Row {
+        domain: LAMP,
+        problem: "(define (problem one) (:domain switch) (:init (on)) (:goal (on)))",
+        metric: "0",
+        variables: &[("-1", "on()")],
+        state: "0",
+        goal: "1 / 0 0",
+        operators: &[],
+        rules: &[],
+        sizes: (1, 2, 0, 0),
+    },
+    // A goal that always holds asks for nothing.
+    Row {
+        domain: "(define (domain switch) (:predicates (on) (off) (lit)) (:action flip :precondition (off) :effect (and (on) (not (off)))))",
+        problem: "(define (problem one) (:domain switch) (:init (lit) (off)) (:goal (lit)))",
+        metric: "0",
+        variables: &[("-1", "on()"), ("-1", "off()")],
+        state: "1 / 0",
+        goal: "0",
+        operators: &["flip / 0 / 2 / 0 0 -1 0 / 0 1 0 1 / 1"],
+        rules: &[],
+        sizes: (2, 4, 1, 0),
+    },
+    // A goal of a negative literal.
+    Row {
+        domain: LAMP,
+        problem: "(define (problem one) (:domain switch) (:init (off)) (:goal (not (off))))",
+        metric: "0",
+        variables: &[("-1", "on()"), ("-1", "off()")],
+        state: "1 / 0",
+        goal: "1 / 1 1",
+        operators: &["flip / 0 / 2 / 0 0 -1 0 / 0 1 0 1 / 1"],
+        rules: &[],
+        sizes: (2, 4, 1, 0),
+    },
+    // A goal with two alternatives is a derived atom with two rules.
+    Row {
+        domain: "(define (domain choice) (:predicates (p) (q)) (:action left :effect (p)) (:action right :effect (q)))",
+        problem: "(define (problem c) (:domain choice) (:init) (:goal (or (p) (not (q)))))",
+        metric: "0",
+        variables: &[("-1", "p()"), ("-1", "q()"), ("0", "new-axiom@0()")],
+        state: "1 / 1 / 1",
+        goal: "1 / 2 0",
+        operators: &["left / 0 / 1 / 0 0 -1 0 / 1", "right / 0 / 1 / 0 1 -1 0 / 1"],
+        rules: &["1 / 0 0 / 2 1 0", "1 / 1 1 / 2 1 0"],
+        sizes: (3, 6, 2, 2),
+    },
+    // So is one that asks for some object.
+    Row {
+        domain: "(define (domain some) (:predicates (p ?x)) (:action set :parameters (?x) :effect (p ?x)))",
+        problem: "(define (problem e) (:domain some) (:objects a b) (:init) (:goal (exists (?x) (p ?x))))",
+        metric: "0",
+        variables: &[("-1", "p(a)"), ("-1", "p(b)"), ("0", "new-axiom@0()")],
+        state: "1 / 1 / 1",
+        goal: "1 / 2 0",
+        operators: &["set a / 0 / 1 / 0 0 -1 0 / 1", "set b / 0 / 1 / 0 1 -1 0 / 1"],
+        rules: &["1 / 0 0 / 2 1 0", "1 / 1 0 / 2 1 0"],
+        sizes: (3, 6, 2, 2),
+    },
+];
+
+#[test]
+fn conditions_and_goals_of_all_forms_are_translated(rt: HostRuntime) -> Result<(), AllocError> {
+    assert_rows(&rt, rt.alloc(), &CONDITIONS)
+}
+
+static EFFECTS: [Row; 6] = [
+    // A delete effect without a condition needs none in the task, since nothing sets the other value.
+    Row {
+        domain: "(define (domain w) (:predicates (p)) (:action wipe :effect (not (p))))",
+        problem: "(define (problem w) (:domain w) (:init (p)) (:goal (not (p))))",
+        metric: "0",
+        variables: &[("-1", "p()")],
+        state: "0",
+        goal: "1 / 0 1",
+        operators: &["wipe / 0 / 1 / 0 0 -1 1 / 1"],
+        rules: &[],
+        sizes: (1, 2, 1, 0),
+    },
+    // A delete effect yields to an add effect that fires.
+    Row {
+        domain: "(define (domain touch) (:predicates (p) (q)) (:action drop-p :precondition (p) :effect (not (p))) (:action touch :effect (and (not (q)) (when (p) (q)))))",
+        problem: "(define (problem t) (:domain touch) (:init (p) (q)) (:goal (not (q))))",
+        metric: "0",
+        variables: &[("-1", "p()"), ("-1", "q()")],
+        state: "0 / 0",
+        goal: "1 / 1 1",
+        operators: &[
+            "drop-p / 0 / 1 / 0 0 0 1 / 1",
+            "touch / 0 / 2 / 1 0 0 1 -1 0 / 2 0 1 1 0 1 -1 1 / 1",
+        ],
+        rules: &[],
+        sizes: (2, 4, 2, 0),
+    },
+    // It fires where either literal of the add effect's condition is false, so there are two effects.
+    Row {
+        domain: "(define (domain yield) (:predicates (p) (q) (r)) (:action act :effect (and (not (q)) (when (and (p) (not (r))) (q)))) (:action change :effect (and (not (p)) (r))))",
+        problem: "(define (problem y) (:domain yield) (:init (p) (q)) (:goal (not (q))))",
+        metric: "0",
+        variables: &[("-1", "p()"), ("-1", "q()"), ("-1", "r()")],
+        state: "0 / 0 / 1",
+        goal: "1 / 1 1",
+        operators: &[
+            "act / 0 / 3 / 2 0 0 2 1 1 -1 0 / 2 0 1 1 0 1 -1 1 / 2 1 0 2 0 1 -1 1 / 1",
+            "change / 0 / 2 / 0 0 -1 1 / 0 2 -1 0 / 1",
+        ],
+        rules: &[],
+        sizes: (3, 6, 2, 0),
+    },
+    // What is deleted and added is true.
+    Row {
+        domain: "(define (domain both) (:predicates (p) (q)) (:action act :effect (and (not (p)) (p) (q))))",
+        problem: "(define (problem b) (:domain both) (:init) (:goal (q)))",
+        metric: "0",
+        variables: &[("-1", "p()"), ("-1", "q()")],
+        state: "1 / 1",
+        goal: "1 / 1 0",
+        operators: &["act / 0 / 2 / 0 0 -1 0 / 0 1 -1 0 / 1"],
+        rules: &[],
+        sizes: (2, 4, 1, 0),
+    },
+    // A derived atom in the goal, in an effect's condition, and negated in an axiom's body, in three layers.
+    Row {
+        domain: "(define (domain watch) (:predicates (p) (lit) (dark) (calm) (seen)) (:derived (lit) (p)) (:derived (dark) (not (lit))) (:derived (calm) (dark))
+ (:action toggle :effect (and (p) (when (calm) (seen)))))",
+        problem: "(define (problem w) (:domain watch) (:init) (:goal (and (seen) (lit))))",
+        metric: "0",
+        variables: &[("-1", "p()"), ("0", "lit()"), ("1", "dark()"), ("2", "calm()"), ("-1", "seen()")],
+        state: "1 / 1 / 1 / 1 / 1",
+        goal: "2 / 1 0 / 4 0",
+        operators: &["toggle / 0 / 2 / 0 0 -1 0 / 1 3 0 4 -1 0 / 1"],
+        rules: &["1 / 0 0 / 1 1 0", "1 / 1 1 / 2 1 0", "1 / 2 0 / 3 1 0"],
+        sizes: (5, 10, 1, 3),
+    },
+    // An axiom over all objects rests on a new atom, in a layer below its own.
+    Row {
+        domain: "(define (domain all) (:predicates (p ?x) (q) (r)) (:action set :parameters (?x) :effect (p ?x)) (:derived (q) (forall (?x) (p ?x))) (:derived (r) (q)))",
+        problem: "(define (problem a) (:domain all) (:objects a b) (:init) (:goal (r)))",
+        metric: "0",
+        variables: &[("-1", "p(a)"), ("-1", "p(b)"), ("1", "q()"), ("2", "r()"), ("0", "new-axiom@0()")],
+        state: "1 / 1 / 1 / 1 / 1",
+        goal: "1 / 3 0",
+        operators: &["set a / 0 / 1 / 0 0 -1 0 / 1", "set b / 0 / 1 / 0 1 -1 0 / 1"],
+        rules: &["1 / 4 1 / 2 1 0", "1 / 2 0 / 3 1 0", "1 / 0 1 / 4 1 0", "1 / 1 1 / 4 1 0"],
+        sizes: (5, 10, 2, 4),
+    },
+];
+
+#[test]
+fn conditional_effects_and_derived_atoms_are_translated(rt: HostRuntime) -> Result<(), AllocError> {
+    assert_rows(&rt, rt.alloc(), &EFFECTS)
+}
+
+/// The texts of `examples/everything`. How the task was worked stands there, in the domain.
+static EVERYTHING: [Row; 1] = [Row {
+    domain: "(define (domain all)
+ (:requirements :strips :typing :adl :derived-predicates :action-costs)
+ (:types place vehicle - object truck - vehicle)
+ (:constants home - place)
+ (:predicates (at ?t - truck ?p - place) (road ?a ?b - place) (safe ?t - truck) (tired))
+ (:functions (total-cost) - number (length ?a ?b - place) - number)
+ (:derived (safe ?t - truck) (at ?t home))
+ (:action go :parameters (?t - truck ?a ?b - place)
+  :precondition (and (at ?t ?a) (not (= ?a ?b)) (= ?b home) (imply (tired) (safe ?t))
+   (or (road ?a ?b) (exists (?p - place) (and (road ?a ?p) (road ?p ?b))))
+   (forall (?u - truck) (not (safe ?u))) ())
+  :effect (and (not (at ?t ?a)) (at ?t ?b) (when (tired) (not (tired)))
+   (forall (?u - truck) (when (at ?u home) (tired))) () (increase (total-cost) (length ?a ?b))))
+ (:action rest :effect ())
+ (:action wait :parameters () :precondition () :effect (and))
+ (:action pay :effect (increase (total-cost) 3)))
+",
+    problem: "(define (problem one)
+ (:requirements :strips)
+ (:domain all)
+ (:objects red - truck shop - place)
+ (:init (at red shop) (road shop home) (not (tired)) (= (length shop home) 2) (= (total-cost) 0))
+ (:goal (and (at red home) (exists (?t - truck) (safe ?t))))
+ (:metric minimize (total-cost)))
+",
+    metric: "1",
+    variables: &[
+        ("-1", "at(red, home)"),
+        ("-1", "at(red, shop)"),
+        ("0", "safe(red)"),
+        ("-1", "tired()"),
+        ("1", "new-axiom@0()"),
+        ("1", "new-axiom@1()"),
+    ],
+    state: "1 / 0 / 1 / 1 / 1 / 1",
+    goal: "1 / 5 0",
+    operators: &[
+        "go red shop home / 1 / 4 1 / 3 / 0 0 -1 0 / 0 1 0 1 / 1 0 0 3 1 0 / 2",
+        "go red shop home / 2 / 2 0 / 4 1 / 4 / 0 0 -1 0 / 0 1 0 1 / 1 0 0 3 -1 0 / 2 0 1 3 0 3 -1 1 / 2",
+        "pay / 0 / 0 / 3",
+        "rest / 0 / 0 / 0",
+        "wait / 0 / 0 / 0",
+    ],
+    rules: &["1 / 0 0 / 2 1 0", "1 / 2 0 / 4 1 0", "2 / 0 0 / 2 0 / 5 1 0"],
+    sizes: (6, 12, 5, 3),
+}];
+
+#[test]
+fn every_construct_at_once_is_translated(rt: HostRuntime) -> Result<(), AllocError> {
+    assert_rows(&rt, rt.alloc(), &EVERYTHING)
+}

@@ -1,0 +1,49 @@
+; Every construct of the accepted language, with its problem beside it. What is written for them, worked by hand:
+;
+; Objects are home, red and shop, in this order. Nothing changes a road, and the only one leads from the shop home. So
+; `go` has an instance for each of its two alternatives in which no truck is on the way through a third place: the one
+; where red isn't tired, and the one where it is safe. Both cost 2, the length of that road. Of two alternatives that go
+; by a third place there is no instance, since no road leads on from home.
+;
+; The facts are, by predicate and then by object: at(red, home), at(red, shop), safe(red), tired(), and two new ones.
+; new-axiom@0() says that some truck is safe: the precondition asks for its opposite. new-axiom@1() is the goal, since
+; its `exists` binds a variable. Layers: safe(red) rests on no derived fact and has layer 0, both new ones rest on it
+; and have layer 1.
+;
+;   var0 at(red, home)     var1 at(red, shop)     var2 safe(red), layer 0
+;   var3 tired()           var4 new-axiom@0(), layer 1          var5 new-axiom@1(), layer 1
+;
+; At the start only at(red, shop) holds: the state is 1 0 1 1 1 1. The goal is var5 = 0, and the metric is 1.
+;
+; `go red shop home` where red isn't tired: it requires var1 = 0, var3 = 1 and var4 = 1. It sets var0 to 0 and var1 to
+; 1. It sets var3 to 0 where var0 = 0. That tiredness ends can't happen, since red isn't tired. Cost 2.
+;
+; `go red shop home` where red is safe: it requires var1 = 0, var2 = 0 and var4 = 1. It sets var0 to 0 and var1 to 1. It
+; sets var3 to 0 where var0 = 0, and to 1 where var3 = 0 and var0 = 1: being tired again goes before no longer being
+; tired. Cost 2.
+;
+; `pay` costs 3, `rest` and `wait` cost nothing, and none of them has an effect.
+;
+; Rules, in the order of the axioms: var2 is 0 where var0 is; var4 is 0 where var2 is; var5 is 0 where var0 and var2 are.
+;
+;   Translator variables: 6
+;   Translator facts: 12
+;   Translator mutex groups: 0
+;   Translator operators: 5
+;   Translator axioms: 3
+(define (domain all)
+ (:requirements :strips :typing :adl :derived-predicates :action-costs)
+ (:types place vehicle - object truck - vehicle)
+ (:constants home - place)
+ (:predicates (at ?t - truck ?p - place) (road ?a ?b - place) (safe ?t - truck) (tired))
+ (:functions (total-cost) - number (length ?a ?b - place) - number)
+ (:derived (safe ?t - truck) (at ?t home))
+ (:action go :parameters (?t - truck ?a ?b - place)
+  :precondition (and (at ?t ?a) (not (= ?a ?b)) (= ?b home) (imply (tired) (safe ?t))
+   (or (road ?a ?b) (exists (?p - place) (and (road ?a ?p) (road ?p ?b))))
+   (forall (?u - truck) (not (safe ?u))) ())
+  :effect (and (not (at ?t ?a)) (at ?t ?b) (when (tired) (not (tired)))
+   (forall (?u - truck) (when (at ?u home) (tired))) () (increase (total-cost) (length ?a ?b))))
+ (:action rest :effect ())
+ (:action wait :parameters () :precondition () :effect (and))
+ (:action pay :effect (increase (total-cost) 3)))
