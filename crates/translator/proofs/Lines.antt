@@ -1,7 +1,6 @@
 -- Each line is its pieces, one after another.
 use Rattle.std.proofs.Common.{◌≡◌, ℕ, List, [], ◌∷◌, ◌++◌, sym, ◌∙◌, append-nil, append_assoc}
 use Rattle.std.specs.Prelude.{fold, codes, decimal}
-use Rattle.std.specs.List.{flat_map}
 use Rattle.pddl_lexer.specs.Kinds.{text}
 use Rattle.pddl_lexer.specs.declared.fault.Fault.{Fault}
 use Rattle.translator.specs.declared.outcome.Summary.{Summary}

@@ -183,6 +183,10 @@ pub(crate) fn say_outcome<C: Console>(
         Err(End::NoMemory) => say_phrase(console, Phrase::OutOfMemory),
         Err(End::CannotRead(side)) => say_unreadable(console, name_of(*side, domain, problem)),
         Err(End::CannotWrite) => say_phrase(console, Phrase::CannotWrite),
-        Err(End::Faulty(side, fault)) => say_fault(console, name_of(*side, domain, problem), *fault),
+        Err(End::Faulty(side, fault)) => say_fault(
+            console,
+            name_of(*side, domain, problem),
+            *fault,
+        ),
     }
 }

@@ -151,10 +151,14 @@ end_operator
 ";
 
 fn four_balls(alloc: Global) -> Result<String, AllocError> {
-    let mut text =
-        String::from_str(alloc, "begin_version\n3\nend_version\nbegin_metric\n0\nend_metric\n20\n")?;
+    let mut text = String::from_str(
+        alloc,
+        "begin_version\n3\nend_version\nbegin_metric\n0\nend_metric\n20\n",
+    )?;
     push_variables(alloc, &mut text)?;
-    text.push_str("0\nbegin_state\n0\n1\n0\n1\n0\n1\n0\n1\n0\n1\n0\n0\n1\n1\n1\n1\n1\n1\n1\n1\nend_state\n")?;
+    text.push_str(
+        "0\nbegin_state\n0\n1\n0\n1\n0\n1\n0\n1\n0\n1\n0\n0\n1\n1\n1\n1\n1\n1\n1\n1\nend_state\n",
+    )?;
     text.push_str("begin_goal\n4\n3 0\n5 0\n7 0\n9 0\nend_goal\n36\n")?;
     push_handlings(alloc, &mut text, Handling::Drop)?;
     text.push_str(MOVES)?;
@@ -174,9 +178,11 @@ fn is_written(
     let mut outside = prepared(alloc, domain, problem)?;
     outside.room(1_000_000)?;
     let is_done = answers(alloc, &WORDS, &mut outside, Status::Done)?;
-    Ok(is_done
-        && outside.holds("output.sas", text.as_bytes())
-        && outside.has_printed(summary.as_bytes()))
+    Ok(
+        is_done
+            && outside.holds("output.sas", text.as_bytes())
+            && outside.has_printed(summary.as_bytes()),
+    )
 }
 
 #[test]

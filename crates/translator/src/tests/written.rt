@@ -91,7 +91,11 @@ impl Row {
         let is_done = answers(alloc, &WORDS, &mut outside, Status::Done)?;
         let text = self.text(alloc)?;
         let summary = self.summary(alloc)?;
-        Ok(is_done && outside.holds("output.sas", text.as_bytes()) && outside.has_printed(summary.as_bytes()))
+        Ok(
+            is_done
+                && outside.holds("output.sas", text.as_bytes())
+                && outside.has_printed(summary.as_bytes()),
+        )
     }
 }
 
@@ -102,7 +106,8 @@ fn assert_rows(rt: &impl Abort, alloc: Global, rows: &[Row]) -> Result<(), Alloc
     Ok(())
 }
 
-const SHOP: &str = "(define (domain shop) (:predicates (done ?x)) (:functions (total-cost) - number (price ?x) - number)
+const SHOP: &str =
+    "(define (domain shop) (:predicates (done ?x)) (:functions (total-cost) - number (price ?x) - number)
  (:action go :parameters (?x) :effect (and (done ?x) (increase (total-cost) (price ?x)))))";
 
 const FIT: &str = "(define (domain fit) (:types t u) (:predicates (p ?x - t) (done))
@@ -324,7 +329,10 @@ static CONDITIONS: [Row; 9] = [
         variables: &[("-1", "p()"), ("-1", "q()"), ("0", "new-axiom@0()")],
         state: "1 / 1 / 1",
         goal: "1 / 2 0",
-        operators: &["left / 0 / 1 / 0 0 -1 0 / 1", "right / 0 / 1 / 0 1 -1 0 / 1"],
+        operators: &[
+            "left / 0 / 1 / 0 0 -1 0 / 1",
+            "right / 0 / 1 / 0 1 -1 0 / 1",
+        ],
         rules: &["1 / 0 0 / 2 1 0", "1 / 1 1 / 2 1 0"],
         sizes: (3, 6, 2, 2),
     },
@@ -336,7 +344,10 @@ static CONDITIONS: [Row; 9] = [
         variables: &[("-1", "p(a)"), ("-1", "p(b)"), ("0", "new-axiom@0()")],
         state: "1 / 1 / 1",
         goal: "1 / 2 0",
-        operators: &["set a / 0 / 1 / 0 0 -1 0 / 1", "set b / 0 / 1 / 0 1 -1 0 / 1"],
+        operators: &[
+            "set a / 0 / 1 / 0 0 -1 0 / 1",
+            "set b / 0 / 1 / 0 1 -1 0 / 1",
+        ],
         rules: &["1 / 0 0 / 2 1 0", "1 / 1 0 / 2 1 0"],
         sizes: (3, 6, 2, 2),
     },
@@ -408,7 +419,13 @@ static EFFECTS: [Row; 6] = [
  (:action toggle :effect (and (p) (when (calm) (seen)))))",
         problem: "(define (problem w) (:domain watch) (:init) (:goal (and (seen) (lit))))",
         metric: "0",
-        variables: &[("-1", "p()"), ("0", "lit()"), ("1", "dark()"), ("2", "calm()"), ("-1", "seen()")],
+        variables: &[
+            ("-1", "p()"),
+            ("0", "lit()"),
+            ("1", "dark()"),
+            ("2", "calm()"),
+            ("-1", "seen()"),
+        ],
         state: "1 / 1 / 1 / 1 / 1",
         goal: "2 / 1 0 / 4 0",
         operators: &["toggle / 0 / 2 / 0 0 -1 0 / 1 3 0 4 -1 0 / 1"],
@@ -420,11 +437,25 @@ static EFFECTS: [Row; 6] = [
         domain: "(define (domain all) (:predicates (p ?x) (q) (r)) (:action set :parameters (?x) :effect (p ?x)) (:derived (q) (forall (?x) (p ?x))) (:derived (r) (q)))",
         problem: "(define (problem a) (:domain all) (:objects a b) (:init) (:goal (r)))",
         metric: "0",
-        variables: &[("-1", "p(a)"), ("-1", "p(b)"), ("1", "q()"), ("2", "r()"), ("0", "new-axiom@0()")],
+        variables: &[
+            ("-1", "p(a)"),
+            ("-1", "p(b)"),
+            ("1", "q()"),
+            ("2", "r()"),
+            ("0", "new-axiom@0()"),
+        ],
         state: "1 / 1 / 1 / 1 / 1",
         goal: "1 / 3 0",
-        operators: &["set a / 0 / 1 / 0 0 -1 0 / 1", "set b / 0 / 1 / 0 1 -1 0 / 1"],
-        rules: &["1 / 4 1 / 2 1 0", "1 / 2 0 / 3 1 0", "1 / 0 1 / 4 1 0", "1 / 1 1 / 4 1 0"],
+        operators: &[
+            "set a / 0 / 1 / 0 0 -1 0 / 1",
+            "set b / 0 / 1 / 0 1 -1 0 / 1",
+        ],
+        rules: &[
+            "1 / 4 1 / 2 1 0",
+            "1 / 2 0 / 3 1 0",
+            "1 / 0 1 / 4 1 0",
+            "1 / 1 1 / 4 1 0",
+        ],
         sizes: (5, 10, 2, 4),
     },
 ];
@@ -479,7 +510,11 @@ static EVERYTHING: [Row; 1] = [Row {
         "rest / 0 / 0 / 0",
         "wait / 0 / 0 / 0",
     ],
-    rules: &["1 / 0 0 / 2 1 0", "1 / 2 0 / 4 1 0", "2 / 0 0 / 2 0 / 5 1 0"],
+    rules: &[
+        "1 / 0 0 / 2 1 0",
+        "1 / 2 0 / 4 1 0",
+        "2 / 0 0 / 2 0 / 5 1 0",
+    ],
     sizes: (6, 12, 5, 3),
 }];
 

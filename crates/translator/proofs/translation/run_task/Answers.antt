@@ -5,8 +5,8 @@ use Rattle.translator.proofs.translation.run_task.Goals as goal
 
 pub instances-requires : goal.instances-requires
 instances-requires c = record {
-    lawful = subst IsLawful (sym c.in_ok-normal.ensures) (c.lawful.ensures c.args.checked.now.domain c.args.checked.now.problem c.requires.spelled c.requires.spelled_problem c.requires.faultless);
-  }
+  lawful = subst IsLawful (sym c.in_ok-normal.ensures) (c.lawful.ensures c.args.checked.now.domain c.args.checked.now.problem c.requires.spelled c.requires.spelled_problem c.requires.faultless);
+}
 
 pub returns : goal.returns
 returns c =
