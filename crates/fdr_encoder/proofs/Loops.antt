@@ -10,12 +10,10 @@ use Rattle.std.proofs.lemmas.List.Sums.{position_or_len_is}
 use Rattle.std.proofs.lemmas.List.{take_more}
 use Rattle.std.proofs.lemmas.List.Elements.{filter-append}
 use Rattle.std.proofs.lemmas.List.Concat.{flat_map-append}
-use Rattle.sas_task.specs.declared.parts.Pair.{Pair}
 use Rattle.fdr_encoder.proofs.Lists.{range_more}
 use Rattle.static_matcher.specs.declared.types.Cond.{Cond}
 use Rattle.relaxed_reach.specs.declared.types.ReachedEffect.{ReachedEffect}
-use Rattle.fdr_encoder.specs.Places.{Cover, pair, stands_in}
-use Rattle.fdr_encoder.specs.Split.{combinations}
+use Rattle.fdr_encoder.specs.Places.{Cover, stands_in}
 use Rattle.fdr_encoder.specs.Effects.{no_literals, both, negations, choices, rivals}
 
 pub filter_range_more : (p : ℕ → Bool) (n : ℕ) → filter p (range_with_len 0 (n + 1)) ≡ filter p (range_with_len 0 n) ++ cond (p n) (n ∷ []) []
@@ -27,41 +25,6 @@ filter_range_more p n =
 pub flat_map_take_more : {X Y : Type 0} (f : X → List Y) (xs : List X) (i : ℕ) (d : X) → i < length xs → flat_map f (take (i + 1) xs) ≡ flat_map f (take i xs) ++ f (get_or xs i d)
 flat_map_take_more f xs i d within =
     ap (flat_map f) (take_more xs i d within) ∙ flat_map-append f (take i xs) (get_or xs i d ∷ []) ∙ ap (λ l. flat_map f (take i xs) ++ l) (append-nil (f (get_or xs i d)))
-
--- one more variable at the end
-pub combinations_more : (values : ℕ → List ℕ) (vars : List ℕ) (var : ℕ) → combinations values (vars ++ var ∷ []) ≡ flat_map (λ m. map (λ val. m ++ pair var val ∷ []) (values var)) (combinations values vars)
-combinations_more values [] var = append-nil' (values var)
-  where
-    append-nil' : (vs : List ℕ) → flat_map (λ val. map (λ rest. pair var val ∷ rest) ([] ∷ [])) vs ≡ flat_map (λ m. map (λ val. m ++ pair var val ∷ []) vs) ([] ∷ [])
-    append-nil' vs = singles vs ∙ sym (append-nil (map (λ val. pair var val ∷ []) vs))
-      where
-        singles : (vs : List ℕ) → flat_map (λ val. map (λ rest. pair var val ∷ rest) ([] ∷ [])) vs ≡ map (λ val. pair var val ∷ []) vs
-        singles [] = refl
-        singles (v ∷ vs) = ap (λ l. (pair var v ∷ []) ∷ l) (singles vs)
-combinations_more values (v ∷ vars) var =
-    ap (λ ms. flat_map (λ val. map (λ rest. pair v val ∷ rest) ms) (values v)) (combinations_more values vars var) ∙ each (values v)
-  where
-    inner : (val : ℕ) (ms : List (List Pair)) → map (λ rest. pair v val ∷ rest) (flat_map (λ m. map (λ w. m ++ pair var w ∷ []) (values var)) ms) ≡ flat_map (λ m. map (λ w. m ++ pair var w ∷ []) (values var)) (map (λ rest. pair v val ∷ rest) ms)
-    inner val [] = refl
-    inner val (m ∷ ms) = map_append (map (λ w. m ++ pair var w ∷ []) (values var)) (flat_map (λ m. map (λ w. m ++ pair var w ∷ []) (values var)) ms) ∙ both (one (values var)) (inner val ms)
-      where
-        map_append : (xs ys : List (List Pair)) → map (λ rest. pair v val ∷ rest) (xs ++ ys) ≡ map (λ rest. pair v val ∷ rest) xs ++ map (λ rest. pair v val ∷ rest) ys
-        map_append [] ys = refl
-        map_append (x ∷ xs) ys = ap (λ l. (pair v val ∷ x) ∷ l) (map_append xs ys)
-
-        one : (ws : List ℕ) → map (λ rest. pair v val ∷ rest) (map (λ w. m ++ pair var w ∷ []) ws) ≡ map (λ w. (pair v val ∷ m) ++ pair var w ∷ []) ws
-        one [] = refl
-        one (w ∷ ws) = ap (λ l. (pair v val ∷ (m ++ pair var w ∷ [])) ∷ l) (one ws)
-
-        both : {a b c d : List (List Pair)} → a ≡ b → c ≡ d → (a ++ c) ≡ (b ++ d)
-        both {a} {b} {c} {d} e f = ap (λ l. l ++ c) e ∙ ap (λ l. b ++ l) f
-
-    each : (vals : List ℕ) → flat_map (λ val. map (λ rest. pair v val ∷ rest) (flat_map (λ m. map (λ w. m ++ pair var w ∷ []) (values var)) (combinations values vars))) vals ≡ flat_map (λ m. map (λ w. m ++ pair var w ∷ []) (values var)) (flat_map (λ val. map (λ rest. pair v val ∷ rest) (combinations values vars)) vals)
-    each [] = refl
-    each (val ∷ vals) =
-        ap (λ l. l ++ flat_map (λ val. map (λ rest. pair v val ∷ rest) (flat_map (λ m. map (λ w. m ++ pair var w ∷ []) (values var)) (combinations values vars))) vals) (inner val (combinations values vars))
-        ∙ ap (λ l. flat_map (λ m. map (λ w. m ++ pair var w ∷ []) (values var)) (map (λ rest. pair v val ∷ rest) (combinations values vars)) ++ l) (each vals)
-        ∙ sym (flat_map-append (λ m. map (λ w. m ++ pair var w ∷ []) (values var)) (map (λ rest. pair v val ∷ rest) (combinations values vars)) (flat_map (λ val. map (λ rest. pair v val ∷ rest) (combinations values vars)) vals))
 
 -- the literals of three lists, in either grouping
 both_assoc : (a b c : Cond ℕ) → both a (both b c) ≡ both (both a b) c
