@@ -28,7 +28,8 @@ fn normal_task(alloc: Global, domain: &str, problem: &str) -> Option<Normal> {
 /// Whether this is shown of the normal task of the two texts.
 fn is_shown(alloc: Global, domain: &str, problem: &str, wanted: &str) -> bool {
     match normal_task(alloc, domain, problem) {
-        Some(normal) => matches!(shown(alloc, &normal), Ok(text) if text.as_slice() == wanted.as_bytes()),
+        Some(normal) =>
+            matches!(shown(alloc, &normal), Ok(text) if text.as_slice() == wanted.as_bytes()),
         None => false,
     }
 }
@@ -36,7 +37,8 @@ fn is_shown(alloc: Global, domain: &str, problem: &str, wanted: &str) -> bool {
 /// Whether the normal task of the two texts has these objects, initial atoms and values.
 fn is_stated(alloc: Global, domain: &str, problem: &str, wanted: &str) -> bool {
     match normal_task(alloc, domain, problem) {
-        Some(normal) => matches!(stated(alloc, &normal), Ok(text) if text.as_slice() == wanted.as_bytes()),
+        Some(normal) =>
+            matches!(stated(alloc, &normal), Ok(text) if text.as_slice() == wanted.as_bytes()),
         None => false,
     }
 }
@@ -230,7 +232,8 @@ fn is_action(alloc: Global, action: &str, new: &str, wanted: &str) -> Result<boo
         "(define (domain d) (:types t none) (:predicates (p ?x) (q) (r ?x ?y))
  (:action all :effect (and (p a) (q) (r a b))) (:action go {action}))"
     )?;
-    let problem = "(define (problem p) (:domain d) (:objects a b - object c - t) (:init) (:goal ()))";
+    let problem =
+        "(define (problem p) (:domain d) (:objects a b - object c - t) (:init) (:goal ()))";
     let text = format!(in alloc;
         "predicates p/1 q/0 r/2{new}
 action all 0: costs 1
@@ -313,11 +316,7 @@ static COSTS: &[(&str, &str, &str)] = &[
     ),
     ("(increase (total-cost) 5)", PRICED, " costs 5"),
     ("(p)", PRICED, " costs 0"),
-    (
-        "(increase (total-cost) (price ?x))",
-        COUNTED,
-        " costs 1",
-    ),
+    ("(increase (total-cost) (price ?x))", COUNTED, " costs 1"),
     ("(p)", COUNTED, " costs 1"),
 ];
 
@@ -326,7 +325,9 @@ fn is_cost(alloc: Global, effect: &str, metric: &str, wanted: &str) -> Result<bo
         "(define (domain d) (:predicates (p)) (:functions (total-cost) (price ?x) (toll))
  (:action go :parameters (?x) :effect {effect}))"
     )?;
-    let problem = format!(in alloc; "(define (problem p) (:domain d) (:init) (:goal ()) {metric})")?;
+    let problem = format!(in alloc;
+        "(define (problem p) (:domain d) (:init) (:goal ()) {metric})"
+    )?;
     match normal_task(alloc, &domain, &problem) {
         Some(normal) => Ok(costs(alloc, &normal)?.as_slice() == wanted.as_bytes()),
         None => Ok(false),

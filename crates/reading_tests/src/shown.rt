@@ -4,10 +4,11 @@
 //! `-0(?0#1)` its negation; `=(?0#1)` and `!(?0#1)` are an equation and its negation. `{ 0 2 }` is what a variable
 //! ranges over.
 
-use normaliser::{
-    AxiomRow, CostRow, EffectRow, GroundAtom, Literal, Normal, Place, PredicateRow, Schema, ValueRow,
-};
 use lists::{List, Text};
+use normaliser::{
+    AxiomRow, CostRow, EffectRow, GroundAtom, Literal, Normal, Place, PredicateRow, Schema,
+    ValueRow,
+};
 use std::alloc::{AllocError, Global};
 
 fn put_number(text: &mut Vec<u8>, number: u64) -> Result<(), AllocError> {
@@ -238,6 +239,10 @@ pub(crate) fn stated(alloc: Global, normal: &Normal) -> Result<Vec<u8>, AllocErr
     put_atoms(&mut text, normal.init.as_slice())?;
     text.extend_from_slice(b"\nvalues")?;
     put_values(&mut text, normal.values.as_slice())?;
-    text.extend_from_slice(if normal.metric { b"\nmetric" } else { b"\nno metric" })?;
+    text.extend_from_slice(if normal.metric {
+        b"\nmetric"
+    } else {
+        b"\nno metric"
+    })?;
     Ok(text)
 }
