@@ -11,7 +11,9 @@ use Rattle.normal_task.specs.declared.task.Schema.{Schema}
 use Rattle.normaliser.specs.MadeThings.{cost_of}
 use Rattle.normal_task.specs.Normalised.{parameter_scope, precondition_parts, effect_rows, moved_row, schema, schemas, rows_of, axiom_row, fresh_rows}
 use Rattle.normal_task.specs.Numbers.{ranges_of}
-use Rattle.normal_task.specs.Parts.{Scope, Part, Fresh, Made, parts, fresh_number}
+use Rattle.normal_task.specs.declared.parts.Part.{Part}
+use Rattle.normal_task.specs.declared.parts.Fresh.{Fresh}
+use Rattle.normal_task.specs.Parts.{Scope, Made, parts, fresh_number}
 
 module _ (domain : Domain) (problem : Problem) where
   abbrev pub schema_from : Action → Scope → List (List ℕ) → List EffectRow → Part → Schema

@@ -2,7 +2,9 @@
 use Rattle.std.proofs.Common.{append-nil, append_assoc, ◌≡◌, ℕ, ◌+◌, ◌<◌, List, [], ◌∷◌, ◌++◌, map, take, length, get_or, sym, ap, ◌∙◌, arith}
 use Rattle.std.proofs.lemmas.List.{map-append}
 use Rattle.lists.proofs.LoopSteps.{map_next}
-use Rattle.normal_task.specs.Parts.{Part, Fresh, Made, in_turn, all_of, paired}
+use Rattle.normal_task.specs.declared.parts.Part.{Part}
+use Rattle.normal_task.specs.declared.parts.Fresh.{Fresh}
+use Rattle.normal_task.specs.Parts.{Made, in_turn, all_of, paired}
 use Rattle.normaliser.proofs.LeftToRight.{all_of-more}
 use Rattle.normal_task.proofs.Scopes.{length-append}
 

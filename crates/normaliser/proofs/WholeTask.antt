@@ -19,7 +19,9 @@ use Rattle.normal_task.specs.Meaning.{is_same_atom}
 use Rattle.normal_task.specs.Numbers.{object_names}
 use Rattle.normaliser.specs.MadeThings.{IsMadeAll}
 use Rattle.normal_task.specs.Normalised.{schemas, axiom_rows, made_schemas, made_axioms, after_schemas, after_axioms, goal_parts, goal_of, made_goal, all_fresh, declared_row, fresh_predicates, fresh_rows, once_after, stated, value_row, is_same_value, normal}
-use Rattle.normal_task.specs.Parts.{Part, Fresh, Made, in_turn, parts}
+use Rattle.normal_task.specs.declared.parts.Part.{Part}
+use Rattle.normal_task.specs.declared.parts.Fresh.{Fresh}
+use Rattle.normal_task.specs.Parts.{Made, in_turn, parts}
 
 module _ (domain : Domain) (problem : Problem) where
   pub made-all : (actions : List Action) → actions ≡ domain.actions → (schema_items : List Schema) (schema_fresh : List Fresh) →

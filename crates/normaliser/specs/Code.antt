@@ -9,7 +9,8 @@ use Rattle.std.specs.Prelude.{◌≡◌, Bool, List, [], ◌∷◌, Option, Some
 use Rattle.pddl_parser.specs.declared.types.Head.{Head}
 use Rattle.normal_task.specs.declared.task.PredicateRow.{PredicateRow}
 use Rattle.normaliser.specs.declared.cut.MadeParts.{MadeParts}
-use Rattle.normal_task.specs.Parts.{Part, Made, Slot, known, is_listed}
+use Rattle.normal_task.specs.declared.parts.Part.{Part}
+use Rattle.normal_task.specs.Parts.{Made, Slot, known, is_listed}
 
 -- the parts and the new predicates are those wanted
 abbrev pub IsMade : Made Part → MadeParts → Type 0

@@ -15,7 +15,8 @@ use Rattle.normal_task.specs.declared.task.EffectRow.{EffectRow}
 use Rattle.normal_task.specs.declared.task.Literal.{Literal}
 use Rattle.normal_task.specs.declared.task.Schema.{Schema}
 use Rattle.normal_task.specs.Normalised.{increase_row, moved_row, made_schemas, made_axioms, made_goal, all_fresh}
-use Rattle.normal_task.specs.Parts.{Scope, Part, Made, parts}
+use Rattle.normal_task.specs.declared.parts.Part.{Part}
+use Rattle.normal_task.specs.Parts.{Scope, Made, parts}
 
 -- what is made is what is wanted
 abbrev pub IsMadeOf : {A : Type 0} → Made A → made.Made A → Type 0
