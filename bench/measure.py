@@ -8,6 +8,10 @@ import tempfile
 TOP = os.path.dirname(os.path.dirname(os.path.abspath(__file__)))
 MIB = 1024 * 1024
 
+# Memory up to here is never judged: what a program takes at its start, and what the script itself takes, which a process
+# begins with before it becomes the translator.
+LEAST = 32 * MIB
+
 with open(os.path.join(TOP, "examples", "switch", "problem.pddl"), "rb") as switch:
     SWITCH = switch.read()
 
@@ -72,7 +76,7 @@ def measure(families):
             growth = seconds / before if before else None
             each = memory / (read + output)
             slow = growth_limit is not None and growth is not None and growth > growth_limit and seconds > 0.2
-            large = most is not None and each >= most
+            large = most is not None and memory > LEAST and each >= most
             bad += slow or large
             shown = f"{growth:7.2f}" if growth else " " * 7
             marks = (" slow" if slow else "") + (" large" if large else "")

@@ -24,8 +24,15 @@
 ;
 ; `pay` costs 3, `rest` and `wait` cost nothing, and none of them has an effect.
 ;
+; Candidates for invariants, by predicate: at with both arguments, with its truck counted, with its place counted; and
+; tired. None has a predicate to add, since no other has as many arguments. `go` adds and deletes at for one truck and two
+; places, so that of these only the one that counts the place is balanced: a truck is at one place at most. Tiredness is
+; added where nothing is deleted.
+;
 ; Rules, in the order of the axioms: var2 is 0 where var0 is; var4 is 0 where var2 is; var5 is 0 where var0 and var2 are.
 ;
+;   Translator candidates: 4
+;   Translator invariants: 1
 ;   Translator variables: 6
 ;   Translator facts: 12
 ;   Translator mutex groups: 0

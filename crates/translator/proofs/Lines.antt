@@ -22,10 +22,12 @@ unfolding bytes_of fault_line
 fault_pieces name fault = run_on (codes "translate: ") (name ∷ codes ":" ∷ decimal fault.line ∷ codes ": " ∷ text fault.kind ∷ codes "\n" ∷ [])
 
 pub summary_pieces : (summary : Summary) →
-    joined (bytes_of phrases.Variables ∷ decimal summary.variables ∷ bytes_of phrases.Facts ∷ decimal summary.facts ∷ bytes_of phrases.MutexGroups ∷ decimal summary.mutex_groups
+    joined (bytes_of phrases.Candidates ∷ decimal summary.candidates ∷ bytes_of phrases.Invariants ∷ decimal summary.invariants
+    ∷ bytes_of phrases.Variables ∷ decimal summary.variables ∷ bytes_of phrases.Facts ∷ decimal summary.facts ∷ bytes_of phrases.MutexGroups ∷ decimal summary.mutex_groups
     ∷ bytes_of phrases.Operators ∷ decimal summary.operators ∷ bytes_of phrases.Axioms ∷ decimal summary.axioms ∷ bytes_of phrases.LineFeed ∷ []) ≡ summary_lines summary
 unfolding bytes_of summary_lines
 summary_pieces summary =
-    run_on (codes "Translator variables: ")
-    (decimal summary.variables ∷ codes "\nTranslator facts: " ∷ decimal summary.facts ∷ codes "\nTranslator mutex groups: " ∷ decimal summary.mutex_groups
+    run_on (codes "Translator candidates: ")
+    (decimal summary.candidates ∷ codes "\nTranslator invariants: " ∷ decimal summary.invariants
+    ∷ codes "\nTranslator variables: " ∷ decimal summary.variables ∷ codes "\nTranslator facts: " ∷ decimal summary.facts ∷ codes "\nTranslator mutex groups: " ∷ decimal summary.mutex_groups
     ∷ codes "\nTranslator operators: " ∷ decimal summary.operators ∷ codes "\nTranslator axioms: " ∷ decimal summary.axioms ∷ codes "\n" ∷ [])

@@ -11,6 +11,8 @@ use Rattle.pddl_parser.specs.Plan.{pddl_task, HasPlan, HasBusyPlan}
 use Rattle.normal_task.specs.declared.task.Normal.{Normal}
 use Rattle.normal_task.specs.Normalised.{normal}
 use Rattle.normal_task.specs.Same.{SameTask}
+use Rattle.invariant_guess.specs.declared.types.Found.{Found}
+use Rattle.invariant_guess.specs.Trial.{IsFound}
 use Rattle.static_matcher.specs.declared.types.Ground.{Ground}
 use Rattle.static_matcher.specs.Instances.{IsGroundTask}
 use Rattle.static_matcher.specs.Law as matcher
@@ -29,7 +31,7 @@ use Rattle.translator.specs.declared.outcome.End.{End}
 use Rattle.translator.specs.declared.outcome.End.TheVariants.{NoMemory}
 use Rattle.translator.specs.declared.translation.Translation.{Translation}
 use Rattle.translator.specs.Run.{Ending, Translated}
-use Rattle.translator.specs.RunTask.{IsRunTask}
+use Rattle.translator.specs.RunTask.{IsRunTask, most_candidates}
 use Rattle.translator.specs.Theorem.{Translates}
 use Rattle.translator.specs.Written.{IsWritten, IsTextWhere, StopsWhere}
 use Rattle.translator.proofs.Texts.{memory_stops}
@@ -64,27 +66,29 @@ module _ (domain : Domain) (problem : Problem) (grounded : Ground) (reached : Re
 -- ---- what the calls give, put together
 
 -- the passes' results are those of the task of the run
-pub run_task_of : {E : Type 0} (domain : Domain) (problem : Problem) (made : Normal) (grounded : Ground) (reached : Reached) (layers layers' : List ℕ) (result : Result Task E)
-    → made ≡ normal domain problem → IsGroundTask made grounded → IsReachedTask grounded reached → AreLayers reached layers → layers' ≡ layers
-    → IfOk result (IsEncodingInOrder (singles (length reached.facts)) [] layers' reached) → IfOk result (λ task. IsRunTask domain problem task)
-run_task_of domain problem made grounded reached layers layers' (Ok task) is is_ground is_reached are same encodes =
+pub run_task_of : {E : Type 0} (made : Normal) (grounded : Ground) (reached : Reached) (layers layers' : List ℕ) (result : Result Task E)
+    → IsGroundTask made grounded → IsReachedTask grounded reached → AreLayers reached layers → layers' ≡ layers
+    → IfOk result (IsEncodingInOrder (singles (length reached.facts)) [] layers' reached) → IfOk result (IsRunTask made)
+run_task_of made grounded reached layers layers' (Ok task) is_ground is_reached are same encodes =
     record {
       grounded = grounded;
       reached = reached;
       layers = layers;
-      is_ground = subst (λ (n : Normal). IsGroundTask n grounded) is is_ground;
+      is_ground = is_ground;
       is_reached = is_reached;
       are_layers = are;
       encodes = subst (λ (l : List ℕ). IsEncodingInOrder (singles (length reached.facts)) [] l reached task) same encodes;
     }
-run_task_of domain problem made grounded reached layers layers' (Err end) is is_ground is_reached are same encodes = tt
+run_task_of made grounded reached layers layers' (Err end) is_ground is_reached are same encodes = tt
 
 -- the text of the task of a run is what the run is to write
-pub text_of_run : (e : Ending) (domain : Domain) (problem : Problem) (task : Task) (result : Result Translation End) → e ≡ Translated domain problem → IsRunTask domain problem task
-    → (IsValid task → Translates domain problem task) → IfOk result (λ t. IsWritten task t.text.items t.summary) → IfOk result (λ t. IsTextWhere e t.text.items t.summary)
-text_of_run e domain problem task (Ok t) is run law written =
-    subst (λ (x : Ending). IsTextWhere x t.text.items t.summary) (sym is) (record { task = task; written = written; is_run_task = run; translates = law written.valid })
-text_of_run e domain problem task (Err why) is run law written = tt
+pub text_of_run : (e : Ending) (domain : Domain) (problem : Problem) (found : Found) (task : Task) (result : Result Translation End) → e ≡ Translated domain problem
+    → IsFound (normal domain problem) most_candidates found → IsRunTask (normal domain problem) task
+    → (IsValid task → Translates domain problem task) → IfOk result (λ t. IsWritten found task t.text.items t.summary) → IfOk result (λ t. IsTextWhere e t.text.items t.summary)
+text_of_run e domain problem found task (Ok t) is is_found run law written =
+    subst (λ (x : Ending). IsTextWhere x t.text.items t.summary) (sym is)
+    (record { task = task; found = found; is_found = is_found; written = written; is_run_task = run; translates = law written.valid })
+text_of_run e domain problem found task (Err why) is is_found run law written = tt
 
 -- a text isn't written only for want of memory
 pub unwritten : (e : Ending) (result : Result Translation End) → IfErr result (λ why. why ≡ NoMemory) → IfErr result (StopsWhere e)

@@ -36,7 +36,7 @@ abbrev pub IsTranslatedInput : Option Contents → Names → Type 0
 IsTranslatedInput files None = ⊥
 IsTranslatedInput files (Some (domain, problem)) = (d : Domain) × ((p : Problem) × ComesTo files domain problem (Translated d p))
 
--- What is written and printed at the end: the text of the task of the files, and the five lines on it.
+-- What is written and printed at the end: the text of the task of the files, and the lines on it and on the invariants that were found.
 pub record IsAllDone (files files_now : Option Contents) (printed printed_now : Option (List ℕ)) (domain problem : List ℕ) : Type 0 where
   pub text : List ℕ
   pub summary : Summary

@@ -27,10 +27,11 @@ unwritable_line = codes "translate: cannot write output.sas\n"
 unfoldable pub fault_line : List ℕ → Fault → List ℕ
 fault_line name fault = codes "translate: " ++ name ++ codes ":" ++ decimal fault.line ++ codes ": " ++ text fault.kind ++ codes "\n"
 
--- the five lines on the written task
+-- the seven lines on the search for invariants and on the written task
 unfoldable pub summary_lines : Summary → List ℕ
 summary_lines summary =
-    codes "Translator variables: " ++ decimal summary.variables ++ codes "\nTranslator facts: " ++ decimal summary.facts
+    codes "Translator candidates: " ++ decimal summary.candidates ++ codes "\nTranslator invariants: " ++ decimal summary.invariants
+    ++ codes "\nTranslator variables: " ++ decimal summary.variables ++ codes "\nTranslator facts: " ++ decimal summary.facts
     ++ codes "\nTranslator mutex groups: " ++ decimal summary.mutex_groups ++ codes "\nTranslator operators: " ++ decimal summary.operators
     ++ codes "\nTranslator axioms: " ++ decimal summary.axioms ++ codes "\n"
 

@@ -12,17 +12,22 @@ use Rattle.pddl_parser.specs.declared.types.Problem.{Problem}
 use Rattle.sas_task.specs.Task.{Task}
 use Rattle.sas_task.specs.Valid.{IsValid}
 use Rattle.sas_task.specs.Output.{text_of}
+use Rattle.normal_task.specs.Normalised.{normal}
+use Rattle.invariant_guess.specs.declared.types.Found.{Found}
+use Rattle.invariant_guess.specs.Trial.{IsFound}
 use Rattle.type_checker.specs.declared.end.Side.{Side}
 use Rattle.translator.specs.declared.outcome.Summary.{Summary}
 use Rattle.translator.specs.declared.outcome.End.{End}
 use Rattle.translator.specs.declared.outcome.End.TheVariants.{NoMemory, CannotRead, CannotWrite, Faulty}
 use Rattle.translator.specs.Outcome.{Outcome}
-use Rattle.translator.specs.RunTask.{IsRunTask}
+use Rattle.translator.specs.RunTask.{IsRunTask, most_candidates}
 use Rattle.translator.specs.Theorem.{Translates}
 use Rattle.translator.specs.Run.{Ending, Absent, Refused, Translated, ending, ComesTo, ComesToIfTold, limit, name_of, output_name}
 
--- the sizes of the task
-pub record IsSummaryOf (task : Task) (summary : Summary) : Type 0 where
+-- how many candidates for invariants were tried and accepted, and the sizes of the task
+pub record IsSummaryOf (found : Found) (task : Task) (summary : Summary) : Type 0 where
+  pub candidates : summary.candidates ≡ found.tried
+  pub invariants : summary.invariants ≡ length found.accepted
   pub variables : summary.variables ≡ length task.variables
   -- the sum of the ranges of all variables
   pub facts : summary.facts ≡ sum_by (λ v. length v.facts) task.variables
@@ -30,17 +35,20 @@ pub record IsSummaryOf (task : Task) (summary : Summary) : Type 0 where
   pub operators : summary.operators ≡ length task.operators
   pub axioms : summary.axioms ≡ length task.rules
 
--- The bytes are the text of the task, which is valid, and the summary has its sizes.
-pub record IsWritten (task : Task) (bytes : List ℕ) (summary : Summary) : Type 0 where
+-- The bytes are the text of the task, which is valid, and the summary has its sizes and those of what was found.
+pub record IsWritten (found : Found) (task : Task) (bytes : List ℕ) (summary : Summary) : Type 0 where
   pub valid : IsValid task
   pub is_text : bytes ≡ text_of task
-  pub sizes : IsSummaryOf task summary
+  pub sizes : IsSummaryOf found task summary
 
--- The bytes are the text of one valid task, which the passes make of the domain and the problem and which translates them; the summary has its sizes.
+-- The bytes are the text of one valid task, which the passes make of the domain and the problem and which translates them; the summary has
+-- its sizes, and what the search for invariants of the normal task found.
 pub record IsTextOf (domain : Domain) (problem : Problem) (bytes : List ℕ) (summary : Summary) : Type 0 where
   pub task : Task
-  pub written : IsWritten task bytes summary
-  pub is_run_task : IsRunTask domain problem task
+  pub found : Found
+  pub is_found : IsFound (normal domain problem) most_candidates found
+  pub written : IsWritten found task bytes summary
+  pub is_run_task : IsRunTask (normal domain problem) task
   pub translates : Translates domain problem task
 
 -- what is to be written where a run comes to this

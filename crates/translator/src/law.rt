@@ -1,6 +1,7 @@
 //! The law over all passes. The function does nothing: its clauses are the law.
 
 ghost use Rattle.type_checker.specs.Checked.{Pair, IsChecked};
+ghost use Rattle.normal_task.specs.Normalised.{normal};
 ghost use Rattle.sas_task.specs.Task.{Task};
 ghost use Rattle.sas_task.specs.Valid.{IsValid};
 ghost use Rattle.translator.specs.RunTask.{IsRunTask};
@@ -12,7 +13,7 @@ use pddl_parser::laws::idle_steps;
 
 /// A valid task that the passes make of a pair without faults translates the pair.
 pub(crate) fn run_task_translates()
-    ensures { (pair : Pair) (task : Task) → IsChecked pair → IsRunTask pair.domain pair.problem task → IsValid task →
+    ensures { (pair : Pair) (task : Task) → IsChecked pair → IsRunTask (normal pair.domain pair.problem) task → IsValid task →
         Translates pair.domain pair.problem task }
 {
     idle_steps();

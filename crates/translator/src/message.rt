@@ -25,6 +25,8 @@ pub(crate) enum Phrase {
     Prefix,
     BeforeLine,
     AfterLine,
+    Candidates,
+    Invariants,
     Variables,
     Facts,
     MutexGroups,
@@ -46,7 +48,9 @@ impl Phrase {
             Phrase::Prefix => b"translate: ",
             Phrase::BeforeLine => b":",
             Phrase::AfterLine => b": ",
-            Phrase::Variables => b"Translator variables: ",
+            Phrase::Candidates => b"Translator candidates: ",
+            Phrase::Invariants => b"\nTranslator invariants: ",
+            Phrase::Variables => b"\nTranslator variables: ",
             Phrase::Facts => b"\nTranslator facts: ",
             Phrase::MutexGroups => b"\nTranslator mutex groups: ",
             Phrase::Operators => b"\nTranslator operators: ",
@@ -121,6 +125,10 @@ fn say_summary<C: Console>(console: &mut C, summary: &Summary) -> Result<(), Fai
     ensures cause { HasCause (C.faults console.old) (C.faults console.new) result }
 {
     let pieces = [
+        Piece::Fixed(Phrase::Candidates),
+        Piece::Number(summary.candidates as u128),
+        Piece::Fixed(Phrase::Invariants),
+        Piece::Number(summary.invariants as u128),
         Piece::Fixed(Phrase::Variables),
         Piece::Number(summary.variables as u128),
         Piece::Fixed(Phrase::Facts),

@@ -60,9 +60,13 @@ impl From<Status> for ExitCode {
     }
 }
 
-/// The sizes of the written task.
+/// How the search for invariants went, and the sizes of the written task.
 #[derive(Clone, Copy, Debug, PartialEq, Eq)]
 pub struct Summary {
+    /// How many candidates were tried.
+    pub candidates: u64,
+    /// How many of them were accepted.
+    pub invariants: u64,
     pub variables: u64,
     /// The sum of the ranges of all variables.
     pub facts: u128,

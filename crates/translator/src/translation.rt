@@ -6,19 +6,24 @@ ghost use Rattle.pddl_lexer.specs.Faults.{tree_faults};
 ghost use Rattle.pddl_parser.specs.Outcome.{Reads, faults_of};
 ghost use Rattle.pddl_parser.specs.Reading.{domain_reading, problem_reading};
 ghost use Rattle.pddl_parser.specs.Spelled.{IsWellSpelled, IsWellSpelledProblem};
+ghost use Rattle.normal_task.specs.Lawful.{IsLawful as IsLawfulNormal};
+ghost use Rattle.normal_task.specs.Normalised.{normal};
+ghost use Rattle.invariant_guess.specs.Trial.{IsFound};
 ghost use Rattle.static_matcher.specs.Lawful.{IsLawful as IsLawfulGround};
 ghost use Rattle.relaxed_reach.specs.Lawful.{IsLawful};
 ghost use Rattle.relaxed_reach.specs.Reachable.{IsReachedTask};
 ghost use Rattle.type_checker.specs.Checked.{IsChecked};
 ghost use Rattle.translator.specs.Run.{of_texts};
-ghost use Rattle.translator.specs.RunTask.{IsRunTask};
+ghost use Rattle.translator.specs.RunTask.{IsRunTask, most_candidates};
 ghost use Rattle.translator.specs.declared.outcome.End.TheVariants.{NoMemory};
 ghost use Rattle.translator.specs.Written.{IsSummaryOf, IsWritten, IsTextWhere, StopsWhere, StopsAt};
 
-use axiom_layers::layers;
 use crate::law::run_task_translates;
 use crate::outcome::{End, Summary};
+use axiom_layers::layers;
 use fdr_encoder::encode;
+use invariant_guess::{Found, find};
+use normal_task::Normal;
 use normal_task::laws::lawful;
 use normaliser::normalise;
 use pddl_lexer::{Tree, TreeEnd, read_tree};
@@ -32,7 +37,10 @@ use std::marker::Brand;
 use std::sync::ledger::{Blank, Ledger};
 use type_checker::{Checked, Side, check};
 
-/// The text of a task, with its sizes.
+/// The most candidates for invariants that are tried.
+const MOST_CANDIDATES: u64 = 100_000;
+
+/// The text of a task, with its sizes and those of the search for invariants.
 #[derive(Debug, Drop)]
 pub(crate) struct Translation {
     pub(crate) text: Vec<u8>,
@@ -53,20 +61,38 @@ pub(crate) fn translate_texts(
     let domain = domain_of(alloc, domain_tree)?;
     let problem = problem_of(alloc, problem_tree)?;
     let checked = check(alloc, domain, problem)?;
-    let task = run_task(alloc, &checked)?;
+    let made = made_of(alloc, &checked)?;
     run_task_translates();
-    written(alloc, task)
+    written(alloc, made)
 }
 
-/// The task of a pair without faults: its normal task, the instances of that, those that can be reached, and the
-/// encoding of these.
-fn run_task(alloc: Global, checked: &Checked) -> Result<SasTask, AllocError>
+/// What the passes make of a pair without faults.
+#[derive(Debug, Drop)]
+struct Made {
+    found: Found,
+    task: SasTask,
+}
+
+/// The invariants of the pair's normal task, and the task to be written.
+fn made_of(alloc: Global, checked: &Checked) -> Result<Made, AllocError>
     requires { IsChecked checked.now }
-    ensures { IfOk result (λ task. IsRunTask checked.now.domain checked.now.problem task) }
+    ensures found { IfOk result (λ made. IsFound (normal checked.now.domain checked.now.problem) most_candidates made.found) }
+    ensures task { IfOk result (λ made. IsRunTask (normal checked.now.domain checked.now.problem) made.task) }
 {
     lawful();
     let normal = normalise(alloc, checked)?;
-    let ground = instances(alloc, &normal)?;
+    Ok(Made {
+        found: find(alloc, &normal, MOST_CANDIDATES)?,
+        task: run_task(alloc, &normal)?,
+    })
+}
+
+/// The task of a normal task: its instances, those that can be reached, and the encoding of these.
+fn run_task(alloc: Global, normal: &Normal) -> Result<SasTask, AllocError>
+    requires lawful { IsLawfulNormal normal.now }
+    ensures { IfOk result (IsRunTask normal.now) }
+{
+    let ground = instances(alloc, normal)?;
     let reached = reached::<Brand>(alloc, &ground, Blank::new(1))?;
     let layers = layers(alloc, &reached)?;
     encode(alloc, &reached, &layers)
@@ -123,22 +149,24 @@ fn problem_of(alloc: Global, tree: Tree<'_>) -> Result<Problem, End>
     }
 }
 
-/// The text of the task and its sizes.
-fn written(alloc: Global, task: SasTask) -> Result<Translation, End>
-    ensures ok { IfOk result (λ t. IsWritten task t.text.items t.summary) }
+/// The text of the task, its sizes, and those of what was found.
+fn written(alloc: Global, made: Made) -> Result<Translation, End>
+    ensures ok { IfOk result (λ t. IsWritten made.found made.task t.text.items t.summary) }
     ensures err { IfErr result (λ end. end ≡ NoMemory) }
 {
-    let text = text_of(alloc, &task)?;
+    let text = text_of(alloc, &made.task)?;
     Ok(Translation {
         text,
-        summary: summary(&task),
+        summary: summary(&made.found, &made.task),
     })
 }
 
-fn summary(task: &SasTask) -> Summary
-    ensures { IsSummaryOf task.now result }
+fn summary(found: &Found, task: &SasTask) -> Summary
+    ensures { IsSummaryOf found.now task.now result }
 {
     Summary {
+        candidates: found.tried,
+        invariants: found.accepted.as_slice().len() as u64,
         variables: task.variables(),
         facts: facts(task),
         mutex_groups: task.groups(),

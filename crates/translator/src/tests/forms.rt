@@ -38,7 +38,9 @@ fn large_domain(alloc: Global) -> Result<String, AllocError> {
     Ok(domain)
 }
 
-const LARGE_SUMMARY: &[u8] = b"Translator variables: 2
+const LARGE_SUMMARY: &[u8] = b"Translator candidates: 3
+Translator invariants: 2
+Translator variables: 2
 Translator facts: 4
 Translator mutex groups: 0
 Translator operators: 3

@@ -188,7 +188,9 @@ fn is_written(
 #[test]
 fn gripper_with_four_balls_has_twenty_facts(rt: HostRuntime) -> Result<(), AllocError> {
     let text = four_balls(rt.alloc())?;
-    let summary = "Translator variables: 20
+    let summary = "Translator candidates: 12
+Translator invariants: 3
+Translator variables: 20
 Translator facts: 40
 Translator mutex groups: 0
 Translator operators: 36
@@ -215,7 +217,9 @@ fn each_alternative_gives_an_operator(rt: HostRuntime) -> Result<(), AllocError>
         "(define (domain switch) (:predicates (on) (off)) (:action flip :precondition (or {parts}) :effect (and (on) (not (off)))))"
     )?;
     let text = flips(rt.alloc(), 4096)?;
-    let summary = "Translator variables: 2
+    let summary = "Translator candidates: 3
+Translator invariants: 2
+Translator variables: 2
 Translator facts: 4
 Translator mutex groups: 0
 Translator operators: 4096

@@ -17,6 +17,8 @@ struct Row {
     goal: &'static str,
     operators: &'static [&'static str],
     rules: &'static [&'static str],
+    /// How many candidates for invariants are tried, and how many of them are accepted.
+    found: (u64, u64),
     /// The numbers of variables, of facts, of operators and of rules.
     sizes: (u64, u64, u64, u64),
 }
@@ -78,9 +80,10 @@ impl Row {
     }
 
     fn summary(&self, alloc: Global) -> Result<String, AllocError> {
+        let (candidates, invariants) = self.found;
         let (variables, facts, operators, rules) = self.sizes;
         format!(in alloc;
-            "Translator variables: {variables}\nTranslator facts: {facts}\nTranslator mutex groups: 0\nTranslator operators: {operators}\nTranslator axioms: {rules}\n"
+            "Translator candidates: {candidates}\nTranslator invariants: {invariants}\nTranslator variables: {variables}\nTranslator facts: {facts}\nTranslator mutex groups: 0\nTranslator operators: {operators}\nTranslator axioms: {rules}\n"
         )
     }
 
@@ -124,6 +127,7 @@ static GROUNDING: [Row; 8] = [
         goal: "1 / 0 0",
         operators: &["go a / 0 / 1 / 0 0 -1 0 / 7"],
         rules: &[],
+        found: (2, 0),
         sizes: (1, 2, 1, 0),
     },
     // Without the metric costs don't count.
@@ -136,6 +140,7 @@ static GROUNDING: [Row; 8] = [
         goal: "1 / 0 0",
         operators: &["go a / 0 / 1 / 0 0 -1 0 / 1", "go b / 0 / 1 / 0 1 -1 0 / 1"],
         rules: &[],
+        found: (2, 0),
         sizes: (2, 4, 2, 0),
     },
     // An argument need not fit the type that its predicate declares.
@@ -148,6 +153,7 @@ static GROUNDING: [Row; 8] = [
         goal: "1 / 0 0",
         operators: &["go b / 0 / 1 / 0 0 -1 0 / 1"],
         rules: &[],
+        found: (1, 0),
         sizes: (1, 2, 1, 0),
     },
     // A goal out of reach is a derived variable without a rule.
@@ -160,6 +166,7 @@ static GROUNDING: [Row; 8] = [
         goal: "1 / 0 0",
         operators: &[],
         rules: &[],
+        found: (1, 0),
         sizes: (1, 2, 0, 0),
     },
     // A static negative literal; an inequality of two parameters, and an equality with a constant: of the nine pairs
@@ -174,6 +181,7 @@ static GROUNDING: [Row; 8] = [
         goal: "1 / 0 0",
         operators: &["unlock a b / 0 / 1 / 0 0 -1 0 / 1"],
         rules: &[],
+        found: (2, 0),
         sizes: (1, 2, 1, 0),
     },
     // A parameter of a type without objects gives no operator.
@@ -187,6 +195,7 @@ static GROUNDING: [Row; 8] = [
         goal: "1 / 0 0",
         operators: &["second / 0 / 1 / 0 0 -1 0 / 1"],
         rules: &[],
+        found: (2, 0),
         sizes: (1, 2, 1, 0),
     },
     // A disjunction gives two operators of one name.
@@ -203,6 +212,7 @@ static GROUNDING: [Row; 8] = [
             "flip / 1 / 1 0 / 1 / 0 0 -1 0 / 1",
         ],
         rules: &[],
+        found: (2, 0),
         sizes: (2, 4, 3, 0),
     },
     // A fact that is reached only once an atom is deleted.
@@ -218,6 +228,7 @@ static GROUNDING: [Row; 8] = [
             "wipe / 0 / 1 / 0 0 0 1 / 1",
         ],
         rules: &[],
+        found: (2, 1),
         sizes: (2, 4, 2, 0),
     },
 ];
@@ -247,6 +258,7 @@ static CONDITIONS: [Row; 9] = [
         goal: "1 / 0 0",
         operators: &["flip / 0 / 2 / 0 0 -1 0 / 0 1 0 1 / 1"],
         rules: &[],
+        found: (3, 2),
         sizes: (2, 4, 1, 0),
     },
     // Some object of such a type: nothing can be done.
@@ -259,6 +271,7 @@ static CONDITIONS: [Row; 9] = [
         goal: "1 / 1 0",
         operators: &[],
         rules: &[],
+        found: (3, 2),
         sizes: (2, 4, 0, 0),
     },
     // A goal out of reach.
@@ -271,6 +284,7 @@ static CONDITIONS: [Row; 9] = [
         goal: "1 / 0 0",
         operators: &[],
         rules: &[],
+        found: (3, 2),
         sizes: (1, 2, 0, 0),
     },
     // A goal without alternatives is false.
@@ -283,6 +297,7 @@ static CONDITIONS: [Row; 9] = [
         goal: "1 / 2 0",
         operators: &["flip / 0 / 2 / 0 0 -1 0 / 0 1 0 1 / 1"],
         rules: &[],
+        found: (3, 2),
         sizes: (3, 6, 1, 0),
     },
     // A goal that holds at once, of an atom that no operator changes any more.
@@ -295,6 +310,7 @@ static CONDITIONS: [Row; 9] = [
         goal: "1 / 0 0",
         operators: &[],
         rules: &[],
+        found: (3, 2),
         sizes: (1, 2, 0, 0),
     },
     // A goal that always holds asks for nothing.
@@ -307,6 +323,7 @@ static CONDITIONS: [Row; 9] = [
         goal: "0",
         operators: &["flip / 0 / 2 / 0 0 -1 0 / 0 1 0 1 / 1"],
         rules: &[],
+        found: (3, 2),
         sizes: (2, 4, 1, 0),
     },
     // A goal of a negative literal.
@@ -319,6 +336,7 @@ static CONDITIONS: [Row; 9] = [
         goal: "1 / 1 1",
         operators: &["flip / 0 / 2 / 0 0 -1 0 / 0 1 0 1 / 1"],
         rules: &[],
+        found: (3, 2),
         sizes: (2, 4, 1, 0),
     },
     // A goal with two alternatives is a derived atom with two rules.
@@ -334,6 +352,7 @@ static CONDITIONS: [Row; 9] = [
             "right / 0 / 1 / 0 1 -1 0 / 1",
         ],
         rules: &["1 / 0 0 / 2 1 0", "1 / 1 1 / 2 1 0"],
+        found: (2, 0),
         sizes: (3, 6, 2, 2),
     },
     // So is one that asks for some object.
@@ -349,6 +368,7 @@ static CONDITIONS: [Row; 9] = [
             "set b / 0 / 1 / 0 1 -1 0 / 1",
         ],
         rules: &["1 / 0 0 / 2 1 0", "1 / 1 0 / 2 1 0"],
+        found: (2, 0),
         sizes: (3, 6, 2, 2),
     },
 ];
@@ -369,6 +389,7 @@ static EFFECTS: [Row; 6] = [
         goal: "1 / 0 1",
         operators: &["wipe / 0 / 1 / 0 0 -1 1 / 1"],
         rules: &[],
+        found: (1, 1),
         sizes: (1, 2, 1, 0),
     },
     // A delete effect yields to an add effect that fires.
@@ -384,6 +405,7 @@ static EFFECTS: [Row; 6] = [
             "touch / 0 / 2 / 1 0 0 1 -1 0 / 2 0 1 1 0 1 -1 1 / 1",
         ],
         rules: &[],
+        found: (2, 1),
         sizes: (2, 4, 2, 0),
     },
     // It fires where either literal of the add effect's condition is false, so there are two effects.
@@ -399,6 +421,7 @@ static EFFECTS: [Row; 6] = [
             "change / 0 / 2 / 0 0 -1 1 / 0 2 -1 0 / 1",
         ],
         rules: &[],
+        found: (3, 1),
         sizes: (3, 6, 2, 0),
     },
     // What is deleted and added is true.
@@ -411,6 +434,7 @@ static EFFECTS: [Row; 6] = [
         goal: "1 / 1 0",
         operators: &["act / 0 / 2 / 0 0 -1 0 / 0 1 -1 0 / 1"],
         rules: &[],
+        found: (2, 0),
         sizes: (2, 4, 1, 0),
     },
     // A derived atom in the goal, in an effect's condition, and negated in an axiom's body, in three layers.
@@ -430,6 +454,7 @@ static EFFECTS: [Row; 6] = [
         goal: "2 / 1 0 / 4 0",
         operators: &["toggle / 0 / 2 / 0 0 -1 0 / 1 3 0 4 -1 0 / 1"],
         rules: &["1 / 0 0 / 1 1 0", "1 / 1 1 / 2 1 0", "1 / 2 0 / 3 1 0"],
+        found: (2, 0),
         sizes: (5, 10, 1, 3),
     },
     // An axiom over all objects rests on a new atom, in a layer below its own.
@@ -456,6 +481,7 @@ static EFFECTS: [Row; 6] = [
             "1 / 0 1 / 4 1 0",
             "1 / 1 1 / 4 1 0",
         ],
+        found: (2, 0),
         sizes: (5, 10, 2, 4),
     },
 ];
@@ -515,6 +541,7 @@ static EVERYTHING: [Row; 1] = [Row {
         "1 / 2 0 / 4 1 0",
         "2 / 0 0 / 2 0 / 5 1 0",
     ],
+    found: (4, 1),
     sizes: (6, 12, 5, 3),
 }];
 

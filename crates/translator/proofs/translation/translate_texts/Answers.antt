@@ -35,21 +35,22 @@ returns-in_err-checked-clause-err c =
     c.in_ok-domain_tree.ensures.tree c.in_ok-problem_tree.ensures.tree c.in_ok-domain.domain c.in_ok-domain.ensures.reading c.in_ok-problem.problem c.in_ok-problem.ensures.reading end c.in_err-checked.ensures in
     made_end (of_texts c.args.domain.now c.args.problem.now) (of_check end) c.from_residual-in_err-checked.result c.from_residual-in_err-checked.ensures.1 stops
 
-pub returns-in_err-task-clause-err : goal.returns-in_err-task-clause-err
-returns-in_err-task-clause-err c =
-    made_end (of_texts c.args.domain.now c.args.problem.now) NoMemory c.from_residual-in_err-task.result c.from_residual-in_err-task.ensures.1 tt
+pub returns-in_err-made-clause-err : goal.returns-in_err-made-clause-err
+returns-in_err-made-clause-err c =
+    made_end (of_texts c.args.domain.now c.args.problem.now) NoMemory c.from_residual-in_err-made.result c.from_residual-in_err-made.ensures.1 tt
 
-pub run_task-requires : goal.run_task-requires
-run_task-requires c = checked_pair c.in_ok-domain.domain c.in_ok-problem.problem c.in_ok-checked.checked c.in_ok-checked.ensures c.in_ok-domain.ensures.spelled c.in_ok-problem.ensures.spelled
+pub made_of-requires : goal.made_of-requires
+made_of-requires c = checked_pair c.in_ok-domain.domain c.in_ok-problem.problem c.in_ok-checked.checked c.in_ok-checked.ensures c.in_ok-domain.ensures.spelled c.in_ok-problem.ensures.spelled
 
 pub returns-clause-ok : goal.returns-clause-ok
 returns-clause-ok c =
     let pair = c.in_ok-checked.checked in
-    let task = c.in_ok-task.task in
+    let made = c.in_ok-made.made in
     let comes = translated c.args.domain.now c.args.problem.now c.in_ok-domain_tree.ensures.faultless c.in_ok-problem_tree.ensures.faultless _ _
     c.in_ok-domain_tree.ensures.tree c.in_ok-problem_tree.ensures.tree c.in_ok-domain.domain c.in_ok-domain.ensures.reading c.in_ok-problem.problem c.in_ok-problem.ensures.reading pair c.in_ok-checked.ensures in
     let is_checked = checked_pair c.in_ok-domain.domain c.in_ok-problem.problem pair c.in_ok-checked.ensures c.in_ok-domain.ensures.spelled c.in_ok-problem.ensures.spelled in
-    text_of_run (of_texts c.args.domain.now c.args.problem.now) pair.domain pair.problem task c.written.result comes c.in_ok-task.ensures (λ valid. c.run_task_translates.ensures pair task is_checked c.in_ok-task.ensures valid) c.written.ensures.ok
+    text_of_run (of_texts c.args.domain.now c.args.problem.now) pair.domain pair.problem made.found made.task c.written.result comes c.in_ok-made.ensures.found c.in_ok-made.ensures.task
+    (λ valid. c.run_task_translates.ensures pair made.task is_checked c.in_ok-made.ensures.task valid) c.written.ensures.ok
 
 pub returns-clause-err : goal.returns-clause-err
 returns-clause-err c = unwritten (of_texts c.args.domain.now c.args.problem.now) c.written.result c.written.ensures.err
