@@ -6,8 +6,10 @@ use Rattle.pddl_parser.specs.declared.types.Domain.{Domain}
 use Rattle.pddl_parser.specs.declared.types.Problem.{Problem}
 use Rattle.normaliser.specs.declared.cut.MadeParts.{MadeParts}
 use Rattle.normaliser.specs.Code.{IsMade}
-use Rattle.normaliser.specs.Parts.{Scope, Part, Fresh, Made, in_turn, all_of, paired, Known, known, parts}
-use Rattle.normaliser.proofs.Scopes.{append-assoc, length-append, map-append}
+use Rattle.normal_task.specs.declared.parts.Part.{Part}
+use Rattle.normal_task.specs.declared.parts.Fresh.{Fresh}
+use Rattle.normal_task.specs.Parts.{Scope, Made, in_turn, all_of, paired, Known, known, parts}
+use Rattle.normal_task.proofs.Scopes.{append-assoc, length-append, map-append}
 use Rattle.normaliser.proofs.LeftToRight.{all_of-more}
 
 turn-more : (makes : List (ℕ → Made Part)) (make : ℕ → Made Part) (next : ℕ) →

@@ -9,11 +9,13 @@ use Rattle.pddl_parser.specs.declared.types.Problem.{Problem}
 use Rattle.pddl_parser.specs.declared.types.Typed.{Typed}
 use Rattle.pddl_parser.proofs.EffectCases.{fold-When, fold-Forall}
 use Rattle.normaliser.specs.declared.effects.Required.{Required}
-use Rattle.normaliser.specs.declared.task.EffectRow.{EffectRow}
+use Rattle.normal_task.specs.declared.task.EffectRow.{EffectRow}
 use Rattle.normaliser.specs.MadeThings.{cut_of, cuts_of}
-use Rattle.normaliser.specs.Normalised.{Rows, row_step, rows_of, row_with_variables, for_each}
-use Rattle.normaliser.specs.Numbers.{ranges_of}
-use Rattle.normaliser.specs.Parts.{Scope, Part, Fresh, Made, parts, scope_inside}
+use Rattle.normal_task.specs.Normalised.{Rows, row_step, rows_of, row_with_variables, for_each}
+use Rattle.normal_task.specs.Numbers.{ranges_of}
+use Rattle.normal_task.specs.declared.parts.Part.{Part}
+use Rattle.normal_task.specs.declared.parts.Fresh.{Fresh}
+use Rattle.normal_task.specs.Parts.{Scope, Made, parts, scope_inside}
 
 module _ (domain : Domain) (problem : Problem) where
   abbrev rows : Effect → Rows domain problem

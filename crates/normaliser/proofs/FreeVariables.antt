@@ -13,8 +13,9 @@ use Rattle.pddl_parser.specs.declared.types.Typed.{Typed}
 use Rattle.pddl_parser.specs.Words.{Name, is_same}
 use Rattle.pddl_parser.proofs.ConditionCases as c
 use Rattle.normaliser.specs.Code.{is_asked}
-use Rattle.normaliser.specs.Parts.{Slot, Scope, Part, Made, Known, known_step, known, cut_step, parts, with_slot, slots_for, renumbered, is_listed, none_inside}
-use Rattle.normaliser.proofs.Scopes.{append-assoc, renumbered-more}
+use Rattle.normal_task.specs.declared.parts.Part.{Part}
+use Rattle.normal_task.specs.Parts.{Slot, Scope, Made, Known, known_step, known, cut_step, parts, with_slot, slots_for, renumbered, is_listed, none_inside}
+use Rattle.normal_task.proofs.Scopes.{append-assoc, renumbered-more}
 
 pub one-less : (left : ℕ) → 0 < left → left - 1 + 1 ≡ left
 one-less left some = omega (arith, some)

@@ -3,8 +3,8 @@ use Rattle.std.proofs.Common.{◌≡◌, ℕ, suc, ◌+◌, ◌<◌, List, [], �
 use Rattle.pddl_parser.specs.declared.types.Domain.{Domain}
 use Rattle.pddl_parser.specs.declared.types.Problem.{Problem}
 use Rattle.pddl_parser.specs.declared.types.Typed.{Typed}
-use Rattle.normaliser.specs.Numbers.{range_of}
-use Rattle.normaliser.specs.Parts.{Slot, Scope, scope_inside}
+use Rattle.normal_task.specs.Numbers.{range_of}
+use Rattle.normal_task.specs.Parts.{Slot, Scope, scope_inside}
 
 module _ (domain : Domain) (problem : Problem) where
   -- what stands outside stays behind

@@ -11,7 +11,7 @@ use Rattle.pddl_parser.specs.declared.types.Problem.{Problem}
 use Rattle.pddl_parser.specs.declared.types.Typed.{Typed}
 use Rattle.type_checker.specs.Faults.{check_faults}
 use Rattle.type_checker.proofs.Once.{predicates_once, functions_once, objects_once}
-use Rattle.normaliser.specs.Numbers.{head_names}
+use Rattle.normal_task.specs.Numbers.{head_names}
 
 -- the first name differs from one behind it
 behind : (first name : Name) (between more : List Name) → AllByRecursion (λ other. is_same first other ≡ false) (between ++ name ∷ more) → is_same first name ≡ false

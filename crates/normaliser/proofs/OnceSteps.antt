@@ -6,7 +6,7 @@ use Rattle.lists.proofs.Items.{any_map, same_any}
 use Rattle.names.specs.Names.{is_same}
 use Rattle.pddl_parser.specs.declared.types.Domain.{Domain}
 use Rattle.pddl_parser.specs.declared.types.Problem.{Problem}
-use Rattle.normaliser.specs.Normalised.{once_after}
+use Rattle.normal_task.specs.Normalised.{once_after}
 
 module _ (domain : Domain) (problem : Problem) {A : Type 0} (same : A → A → Bool) where
   abbrev once : List A → List A → List A

@@ -5,13 +5,15 @@ use Rattle.lists.proofs.LoopSteps.{take_next}
 use Rattle.pddl_parser.specs.declared.types.Action.{Action}
 use Rattle.pddl_parser.specs.declared.types.Domain.{Domain}
 use Rattle.pddl_parser.specs.declared.types.Problem.{Problem}
-use Rattle.normaliser.specs.declared.task.AxiomRow.{AxiomRow}
-use Rattle.normaliser.specs.declared.task.EffectRow.{EffectRow}
-use Rattle.normaliser.specs.declared.task.Schema.{Schema}
+use Rattle.normal_task.specs.declared.task.AxiomRow.{AxiomRow}
+use Rattle.normal_task.specs.declared.task.EffectRow.{EffectRow}
+use Rattle.normal_task.specs.declared.task.Schema.{Schema}
 use Rattle.normaliser.specs.MadeThings.{cost_of}
-use Rattle.normaliser.specs.Normalised.{parameter_scope, precondition_parts, effect_rows, moved_row, schema, schemas, rows_of, axiom_row, fresh_rows}
-use Rattle.normaliser.specs.Numbers.{ranges_of}
-use Rattle.normaliser.specs.Parts.{Scope, Part, Fresh, Made, parts, fresh_number}
+use Rattle.normal_task.specs.Normalised.{parameter_scope, precondition_parts, effect_rows, moved_row, schema, schemas, rows_of, axiom_row, fresh_rows}
+use Rattle.normal_task.specs.Numbers.{ranges_of}
+use Rattle.normal_task.specs.declared.parts.Part.{Part}
+use Rattle.normal_task.specs.declared.parts.Fresh.{Fresh}
+use Rattle.normal_task.specs.Parts.{Scope, Made, parts, fresh_number}
 
 module _ (domain : Domain) (problem : Problem) where
   abbrev pub schema_from : Action → Scope → List (List ℕ) → List EffectRow → Part → Schema

@@ -2,9 +2,11 @@
 use Rattle.std.proofs.Common.{append-nil, append_assoc, ◌≡◌, ℕ, ◌+◌, ◌<◌, List, [], ◌∷◌, ◌++◌, map, take, length, get_or, sym, ap, ◌∙◌, arith}
 use Rattle.std.proofs.lemmas.List.{map-append}
 use Rattle.lists.proofs.LoopSteps.{map_next}
-use Rattle.normaliser.specs.Parts.{Part, Fresh, Made, in_turn, all_of, paired}
+use Rattle.normal_task.specs.declared.parts.Part.{Part}
+use Rattle.normal_task.specs.declared.parts.Fresh.{Fresh}
+use Rattle.normal_task.specs.Parts.{Made, in_turn, all_of, paired}
 use Rattle.normaliser.proofs.LeftToRight.{all_of-more}
-use Rattle.normaliser.proofs.Scopes.{length-append}
+use Rattle.normal_task.proofs.Scopes.{length-append}
 
 -- a list mapped twice, with one item more
 pub twice-next : {X Y Z : Type 0} (g : Y → Z) (f : X → Y) (xs : List X) (i : ℕ) (x : X) → i < length xs → x ≡ get_or xs i x → map g (map f (take (i + 1) xs)) ≡ map g (map f (take i xs)) ++ g (f x) ∷ []

@@ -11,7 +11,7 @@ use Rattle.pddl_parser.specs.Words.{Name, is_same}
 use Rattle.pddl_parser.specs.Objects.{root, leads, has_type, has_listed_type}
 use Rattle.normaliser.specs.declared.numbering.OfType.{OfType}
 use Rattle.normaliser.specs.Below.{has, leads_to, has_type_among, is_any, objects_of_type, range_of_types}
-use Rattle.normaliser.specs.Numbers.{object_number}
+use Rattle.normal_task.specs.Numbers.{object_number}
 use Rattle.normaliser.proofs.Ranges.{ranged}
 
 four : (a b c d : Bool) → ((a || b) || (c || d)) ≡ ((a || c) || (b || d))

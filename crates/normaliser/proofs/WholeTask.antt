@@ -8,18 +8,20 @@ use Rattle.pddl_parser.specs.declared.types.Domain.{Domain}
 use Rattle.pddl_parser.specs.declared.types.Init.{Init}
 use Rattle.pddl_parser.specs.declared.types.Problem.{Problem}
 use Rattle.pddl_parser.specs.Words.{Name}
-use Rattle.normaliser.specs.declared.task.AxiomRow.{AxiomRow}
-use Rattle.normaliser.specs.declared.task.GroundAtom.{GroundAtom}
-use Rattle.normaliser.specs.declared.task.Literal.{Literal}
-use Rattle.normaliser.specs.declared.task.Normal.{Normal}
-use Rattle.normaliser.specs.declared.task.PredicateRow.{PredicateRow}
-use Rattle.normaliser.specs.declared.task.Schema.{Schema}
-use Rattle.normaliser.specs.declared.task.ValueRow.{ValueRow}
-use Rattle.normaliser.specs.Meaning.{is_same_atom}
-use Rattle.normaliser.specs.Numbers.{object_names}
+use Rattle.normal_task.specs.declared.task.AxiomRow.{AxiomRow}
+use Rattle.normal_task.specs.declared.task.GroundAtom.{GroundAtom}
+use Rattle.normal_task.specs.declared.task.Literal.{Literal}
+use Rattle.normal_task.specs.declared.task.Normal.{Normal}
+use Rattle.normal_task.specs.declared.task.PredicateRow.{PredicateRow}
+use Rattle.normal_task.specs.declared.task.Schema.{Schema}
+use Rattle.normal_task.specs.declared.task.ValueRow.{ValueRow}
+use Rattle.normal_task.specs.Meaning.{is_same_atom}
+use Rattle.normal_task.specs.Numbers.{object_names}
 use Rattle.normaliser.specs.MadeThings.{IsMadeAll}
-use Rattle.normaliser.specs.Normalised.{schemas, axiom_rows, made_schemas, made_axioms, after_schemas, after_axioms, goal_parts, goal_of, made_goal, all_fresh, declared_row, fresh_predicates, fresh_rows, once_after, stated, value_row, is_same_value, normal}
-use Rattle.normaliser.specs.Parts.{Part, Fresh, Made, in_turn, parts}
+use Rattle.normal_task.specs.Normalised.{schemas, axiom_rows, made_schemas, made_axioms, after_schemas, after_axioms, goal_parts, goal_of, made_goal, all_fresh, declared_row, fresh_predicates, fresh_rows, once_after, stated, value_row, is_same_value, normal}
+use Rattle.normal_task.specs.declared.parts.Part.{Part}
+use Rattle.normal_task.specs.declared.parts.Fresh.{Fresh}
+use Rattle.normal_task.specs.Parts.{Made, in_turn, parts}
 
 module _ (domain : Domain) (problem : Problem) where
   pub made-all : (actions : List Action) → actions ≡ domain.actions → (schema_items : List Schema) (schema_fresh : List Fresh) →

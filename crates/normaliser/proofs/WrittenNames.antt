@@ -22,11 +22,11 @@ use Rattle.std.proofs.lemmas.List.{length-take-le}
 use Rattle.lists.proofs.LoopSteps.{take_next}
 use Rattle.type_checker.specs.Arguments.{AreThose}
 use Rattle.type_checker.specs.Mentions.{Mention, written_predicates, in_condition, condition_step, in_cost, in_effect, effect_step}
-use Rattle.normaliser.specs.declared.parts.Fresh.{Fresh}
-use Rattle.normaliser.specs.declared.task.PredicateRow.{PredicateRow}
+use Rattle.normal_task.specs.declared.parts.Fresh.{Fresh}
+use Rattle.normal_task.specs.declared.task.PredicateRow.{PredicateRow}
 use Rattle.normaliser.specs.Code.{row_of}
 use Rattle.normaliser.specs.IsWritten.{is_written, is_written_step}
-use Rattle.normaliser.specs.Normalised.{is_changed, declared_row, fresh_predicates}
+use Rattle.normal_task.specs.Normalised.{is_changed, declared_row, fresh_predicates}
 
 neither : (a b : Bool) → a ≡ false → b ≡ false → (a || b) ≡ false
 neither a b not_a not_b = ap (λ x. x || b) not_a ∙ not_b

@@ -7,7 +7,7 @@ use Rattle.pddl_parser.specs.declared.types.Problem.{Problem}
 use Rattle.pddl_parser.specs.declared.types.Typed.{Typed}
 use Rattle.pddl_parser.specs.Words.{Name, is_same}
 use Rattle.pddl_parser.specs.Objects.{root, leads, has_listed_type, objects}
-use Rattle.normaliser.specs.Numbers.{object_number}
+use Rattle.normal_task.specs.Numbers.{object_number}
 
 -- the type is found
 abbrev pub has : List Name → Name → Bool

@@ -7,9 +7,10 @@ use Rattle.pddl_parser.specs.declared.types.Typed.{Typed}
 use Rattle.pddl_parser.specs.Words.{Name, is_same}
 use Rattle.std.specs.Prelude.{◌≡◌, Bool, List, [], ◌∷◌, Option, Some, None, not, ◌&&◌, length}
 use Rattle.pddl_parser.specs.declared.types.Head.{Head}
-use Rattle.normaliser.specs.declared.task.PredicateRow.{PredicateRow}
+use Rattle.normal_task.specs.declared.task.PredicateRow.{PredicateRow}
 use Rattle.normaliser.specs.declared.cut.MadeParts.{MadeParts}
-use Rattle.normaliser.specs.Parts.{Part, Made, Slot, known, is_listed}
+use Rattle.normal_task.specs.declared.parts.Part.{Part}
+use Rattle.normal_task.specs.Parts.{Made, Slot, known, is_listed}
 
 -- the parts and the new predicates are those wanted
 abbrev pub IsMade : Made Part → MadeParts → Type 0

@@ -1,11 +1,4 @@
-pub mod Meaning
-pub mod Numbers
-pub mod Parts
-pub mod Normalised
-pub mod Lawful
 pub mod Code
 pub mod Below
-pub mod Within
-pub mod Same
 pub mod IsWritten
 pub mod MadeThings

@@ -9,15 +9,14 @@ use Rattle.normaliser.specs.declared.effects.Required.{Required}
 use Rattle.normaliser.specs.declared.made.Made as made
 use Rattle.normaliser.specs.declared.normal.MadeAll.{MadeAll}
 use Rattle.normaliser.specs.declared.schemas.Shared.{Shared}
-use Rattle.normaliser.specs.declared.task.CostRow.{CostRow}
-use Rattle.normaliser.specs.declared.task.CostRow.TheVariants as costs
-use Rattle.normaliser.specs.declared.task.EffectRow.{EffectRow}
-use Rattle.normaliser.specs.declared.task.GroundAtom.{GroundAtom}
-use Rattle.normaliser.specs.declared.task.Literal.{Literal}
-use Rattle.normaliser.specs.declared.task.Schema.{Schema}
-use Rattle.normaliser.specs.declared.task.ValueRow.{ValueRow}
-use Rattle.normaliser.specs.Normalised.{increase_row, moved_row, made_schemas, made_axioms, made_goal, all_fresh}
-use Rattle.normaliser.specs.Parts.{Scope, Part, Made, parts}
+use Rattle.normal_task.specs.declared.task.CostRow.{CostRow}
+use Rattle.normal_task.specs.declared.task.CostRow.TheVariants as costs
+use Rattle.normal_task.specs.declared.task.EffectRow.{EffectRow}
+use Rattle.normal_task.specs.declared.task.Literal.{Literal}
+use Rattle.normal_task.specs.declared.task.Schema.{Schema}
+use Rattle.normal_task.specs.Normalised.{increase_row, moved_row, made_schemas, made_axioms, made_goal, all_fresh}
+use Rattle.normal_task.specs.declared.parts.Part.{Part}
+use Rattle.normal_task.specs.Parts.{Scope, Made, parts}
 
 -- what is made is what is wanted
 abbrev pub IsMadeOf : {A : Type 0} → Made A → made.Made A → Type 0
@@ -56,13 +55,6 @@ abbrev pub plain : List Part → Option (List Literal)
 plain [] = None
 plain (part ∷ []) = if length part.variables == 0 then Some part.literals else None
 plain (part ∷ other ∷ more) = None
-
--- an atom, and a function with its objects, as keys
-abbrev pub atom_key : GroundAtom → List ℕ
-atom_key atom = atom.predicate ∷ atom.objects
-
-abbrev pub value_key : ValueRow → List ℕ
-value_key row = row.function ∷ row.objects
 
 -- what comes of the actions, the axioms and the goal
 pub record IsMadeAll (domain : Domain) (problem : Problem) (all : MadeAll) : Type 0 where

@@ -1,18 +1,17 @@
 // The axioms of the files and of new predicates.
 ghost use Rattle.std.specs.Prelude.{◌≡◌, ◌++◌, ◌∷◌, [], map, length, true, IfOk, OnOk};
 ghost use Rattle.normaliser.specs.MadeThings.{IsMadeOf};
-ghost use Rattle.normaliser.specs.Normalised as spec;
-ghost use Rattle.normaliser.specs.Parts as parts;
+ghost use Rattle.normal_task.specs.Normalised as spec;
+ghost use Rattle.normal_task.specs.Parts as parts;
 
 use crate::cut::cut;
 use crate::made::Made;
 use crate::moved::sum;
 use crate::numbering::Numbering;
-use crate::parts::Fresh;
 use crate::rows::push_axioms;
 use crate::scope::scope_inside;
-use crate::task::AxiomRow;
 use lists::List;
+use normal_task::{AxiomRow, Fresh};
 use pddl_parser::Derived;
 use std::alloc::{AllocError, Global};
 

@@ -1,18 +1,18 @@
 // How a condition is cut into parts.
 ghost use Rattle.std.specs.Prelude.{◌≡◌, ◌++◌, ◌+◌, ◌∷◌, [], map, length, true, false, IfOk, OnOk};
-ghost use Rattle.normaliser.specs.declared.task.Literal.TheVariants.{Holds, Equal};
-ghost use Rattle.normaliser.specs.Numbers.{predicate_number, ranges_of};
-ghost use Rattle.normaliser.specs.Parts as spec;
+ghost use Rattle.normal_task.specs.declared.task.Literal.TheVariants.{Holds, Equal};
+ghost use Rattle.normal_task.specs.Numbers.{predicate_number, ranges_of};
+ghost use Rattle.normal_task.specs.Parts as spec;
 ghost use Rattle.normaliser.specs.Code.{IsMade};
 
 use crate::moved::sum;
 use crate::numbering::Numbering;
-use crate::parts::{Fresh, Part, extended, joined, with_variables};
+use crate::parts::{extended, joined, with_variables};
 use crate::scope::{place_of, places_of, scope_inside};
 use crate::slots::{free_slots, ranges_of, renumbered, variables_of};
-use crate::task::Literal;
 use crate::variable::Variable;
 use lists::List;
+use normal_task::{Fresh, Literal, Part};
 use pddl_parser::{Atom, Condition, Term, Typed};
 use std::alloc::{AllocError, Global};
 

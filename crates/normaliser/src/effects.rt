@@ -2,19 +2,19 @@
 ghost use Rattle.std.specs.Prelude.{◌≡◌, ◌++◌, ◌∷◌, [], map, IfOk, OnOk};
 ghost use Rattle.normaliser.specs.Code.{IsMade};
 ghost use Rattle.normaliser.specs.MadeThings.{IsMadeOf, changed_row, cuts_of};
-ghost use Rattle.normaliser.specs.Normalised as spec;
-ghost use Rattle.normaliser.specs.Parts as parts;
+ghost use Rattle.normal_task.specs.Normalised as spec;
+ghost use Rattle.normal_task.specs.Parts as parts;
 
 use crate::cut::{MadeParts, cut, paired, truth};
 use crate::made::Made;
 use crate::moved::sum;
 use crate::numbering::Numbering;
-use crate::parts::{Part, copied_places};
+use crate::parts::copied_places;
 use crate::rows::joined_ranges;
 use crate::scope::{places_of, scope_inside};
-use crate::task::{EffectRow, Place};
 use crate::variable::Variable;
 use lists::List;
+use normal_task::{EffectRow, Part, Place};
 use pddl_parser::{Atom, Condition, Effect};
 use std::alloc::{AllocError, Global};
 

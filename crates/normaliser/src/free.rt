@@ -1,7 +1,7 @@
 // The free variables of conditions.
 ghost use Rattle.std.specs.Prelude.{◌≡◌, map};
 ghost use Rattle.std.specs.List.{list_any};
-ghost use Rattle.normaliser.specs.Parts as spec;
+ghost use Rattle.normal_task.specs.Parts as spec;
 
 use crate::numbering::Numbering;
 use pddl_parser::{Condition, Term, Typed};

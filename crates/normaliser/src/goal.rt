@@ -1,17 +1,16 @@
 // The goal.
 ghost use Rattle.std.specs.Prelude.{◌≡◌, ◌++◌, ◌∷◌, [], map, length, true, IfOk, OnOk};
 ghost use Rattle.normaliser.specs.MadeThings.{IsMadeOf, plain};
-ghost use Rattle.normaliser.specs.Normalised as spec;
+ghost use Rattle.normal_task.specs.Normalised as spec;
 
 use crate::axioms::fresh_number;
 use crate::cut::MadeParts;
 use crate::made::Made;
 use crate::moved::sum;
 use crate::numbering::Numbering;
-use crate::parts::{Fresh, Part};
 use crate::rows::copied_literals;
-use crate::task::Literal;
 use lists::List;
+use normal_task::{Fresh, Literal, Part};
 use std::alloc::{AllocError, Global};
 
 /// The literals of the only part, if it has no variables.

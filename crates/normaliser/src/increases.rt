@@ -5,12 +5,12 @@ ghost use Rattle.std.specs.Option.{option_map};
 ghost use Rattle.pddl_parser.specs.Step.{increases};
 ghost use Rattle.normaliser.specs.Code.{first};
 ghost use Rattle.normaliser.specs.MadeThings.{cost_of};
-ghost use Rattle.normaliser.specs.Normalised as spec;
+ghost use Rattle.normal_task.specs.Normalised as spec;
 
 use crate::numbering::Numbering;
 use crate::scope::places_of;
-use crate::task::CostRow;
 use crate::variable::Variable;
+use normal_task::CostRow;
 use pddl_parser::{Action, Cost, Effect};
 use std::alloc::{AllocError, Global};
 

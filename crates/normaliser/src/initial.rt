@@ -3,17 +3,17 @@ ghost use Rattle.std.specs.Prelude.{◌≡◌, ◌++◌, ◌∷◌, [], List as 
 ghost use Rattle.std.specs.List.{list_any, flat_map};
 ghost use Rattle.pddl_parser.specs.Holds as pddl;
 ghost use Rattle.names.specs.Names.{is_same};
-ghost use Rattle.normaliser.specs.declared.task.GroundAtom as atom_type;
-ghost use Rattle.normaliser.specs.declared.task.ValueRow as row_type;
-ghost use Rattle.normaliser.specs.MadeThings.{atom_key, value_key};
-ghost use Rattle.normaliser.specs.Meaning.{is_same_atom};
-ghost use Rattle.normaliser.specs.Normalised as spec;
-ghost use Rattle.normaliser.specs.Numbers.{function_number, object_number};
+ghost use Rattle.normal_task.specs.declared.task.GroundAtom as atom_type;
+ghost use Rattle.normal_task.specs.declared.task.ValueRow as row_type;
+ghost use Rattle.normal_task.specs.Keys.{atom_key, value_key};
+ghost use Rattle.normal_task.specs.Meaning.{is_same_atom};
+ghost use Rattle.normal_task.specs.Normalised as spec;
+ghost use Rattle.normal_task.specs.Numbers.{function_number, object_number};
 
 use crate::keys::Keys;
 use crate::numbering::Numbering;
-use crate::task::{GroundAtom, ValueRow};
 use lists::List;
+use normal_task::{GroundAtom, ValueRow};
 use pddl_parser::{Atom, Init, Term};
 use std::alloc::{AllocError, Global};
 

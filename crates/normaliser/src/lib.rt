@@ -11,7 +11,6 @@ mod goal;
 mod increases;
 mod initial;
 mod keys;
-pub mod laws;
 mod made;
 mod moved;
 mod normal;
@@ -22,11 +21,6 @@ mod rows;
 mod schemas;
 mod scope;
 mod slots;
-mod task;
 mod variable;
 
 pub use normal::normalise;
-pub use task::{
-    AxiomRow, CostRow, EffectRow, GroundAtom, Literal, Normal, Place, PredicateRow, Schema,
-    ValueRow,
-};

@@ -1,6 +1,6 @@
 // Things that are made, with the new predicates that they need.
-use crate::parts::Fresh;
 use lists::List;
+use normal_task::Fresh;
 
 /// What comes of something, and the new predicates that it needs, in the order of their numbers.
 #[derive(Drop)]

@@ -2,8 +2,8 @@
 ghost use Rattle.std.specs.Prelude.{◌≡◌, ◌++◌, ◌∷◌, [], map, length, true, IfOk, OnOk};
 ghost use Rattle.pddl_parser.specs.Objects.{objects};
 ghost use Rattle.normaliser.specs.MadeThings.{IsMadeAll};
-ghost use Rattle.normaliser.specs.Normalised as spec;
-ghost use Rattle.normaliser.specs.Numbers as numbers;
+ghost use Rattle.normal_task.specs.Normalised as spec;
+ghost use Rattle.normal_task.specs.Numbers as numbers;
 
 use crate::axioms::{axioms_of, push_fresh_axioms};
 use crate::cut::cut;
@@ -11,11 +11,10 @@ use crate::goal::goal_of;
 use crate::initial::{stated_atoms, stated_values};
 use crate::moved::sum;
 use crate::numbering::Numbering;
-use crate::parts::Fresh;
 use crate::predicates::predicate_rows;
 use crate::schemas::{joined_fresh, schemas_of};
-use crate::task::{AxiomRow, Literal, Normal, Schema};
 use lists::{List, Text};
+use normal_task::{AxiomRow, Fresh, Literal, Normal, Schema};
 use pddl_parser::Typed;
 use std::alloc::{AllocError, Global};
 use type_checker::Checked;

@@ -7,7 +7,7 @@ ghost use Rattle.pddl_parser.specs.declared.types.Problem.{Problem};
 ghost use Rattle.pddl_parser.specs.Objects as typing;
 ghost use Rattle.normaliser.specs.Below.{has_type_among, objects_of_type, range_of_types};
 ghost use Rattle.normaliser.specs.Below as spec_below;
-ghost use Rattle.normaliser.specs.Numbers as spec;
+ghost use Rattle.normal_task.specs.Numbers as spec;
 
 use crate::asked::asked_types;
 use crate::below::{Hierarchy, has_some};
@@ -49,7 +49,7 @@ impl<'a> Model for Numbering<'a> {
     ghost use Rattle.type_checker.specs.Checked.{Pair};
     ghost use Rattle.std.specs.Prelude.{map};
     ghost use Rattle.normaliser.specs.Below.{objects_of_type};
-    ghost use Rattle.normaliser.specs.Numbers.{object_names, head_names};
+    ghost use Rattle.normal_task.specs.Numbers.{object_names, head_names};
 
     ghost Value = { Pair };
 

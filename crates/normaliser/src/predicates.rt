@@ -7,12 +7,11 @@ ghost use Rattle.pddl_parser.specs.Words.{Name, is_same};
 ghost use Rattle.type_checker.specs.Arguments.{AreThose};
 ghost use Rattle.normaliser.specs.Code.{row_of};
 ghost use Rattle.normaliser.specs.IsWritten.{is_written};
-ghost use Rattle.normaliser.specs.Normalised as spec;
+ghost use Rattle.normal_task.specs.Normalised as spec;
 
-use crate::parts::Fresh;
-use crate::task::PredicateRow;
 use lists::{List, Text};
 use names::Names;
+use normal_task::{Fresh, PredicateRow};
 use pddl_parser::{Action, Derived, Domain, Effect, Head};
 use std::alloc::{AllocError, Global};
 

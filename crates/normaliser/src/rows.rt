@@ -1,11 +1,11 @@
 // The rows of a normal task, made of parts.
 ghost use Rattle.std.specs.Prelude.{◌≡◌, ◌++◌, ◌∷◌, [], map, length, IfOk, OnOk};
-ghost use Rattle.normaliser.specs.Parts as spec;
+ghost use Rattle.normal_task.specs.Parts as spec;
 
 use crate::moved::moved_places;
-use crate::parts::{Part, push_copied, push_moved, push_ranges};
-use crate::task::{AxiomRow, EffectRow, Literal};
+use crate::parts::{push_copied, push_moved, push_ranges};
 use lists::List;
+use normal_task::{AxiomRow, EffectRow, Literal, Part};
 use std::alloc::{AllocError, Global};
 
 /// The first list, and the second behind it.

@@ -1,8 +1,8 @@
 // The schemas of actions.
 ghost use Rattle.std.specs.Prelude.{◌≡◌, ◌++◌, ◌∷◌, [], map, length, IfOk, OnOk};
 ghost use Rattle.normaliser.specs.MadeThings.{IsMadeOf, shared_schema};
-ghost use Rattle.normaliser.specs.Normalised as spec;
-ghost use Rattle.normaliser.specs.Parts as parts;
+ghost use Rattle.normal_task.specs.Normalised as spec;
+ghost use Rattle.normal_task.specs.Parts as parts;
 
 use crate::cut::cut;
 use crate::effects::{Around, rows_of};
@@ -10,12 +10,11 @@ use crate::increases::action_cost;
 use crate::made::Made;
 use crate::moved::sum;
 use crate::numbering::Numbering;
-use crate::parts::{Fresh, Part};
 use crate::rows::{joined_ranges, moved_rows};
 use crate::scope::scope_inside;
-use crate::task::{EffectRow, Schema};
 use crate::variable::Variable;
 use lists::{List, Text};
+use normal_task::{EffectRow, Fresh, Part, Schema};
 use pddl_parser::Action;
 use std::alloc::{AllocError, Global};
 

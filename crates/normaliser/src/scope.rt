@@ -1,14 +1,14 @@
 // The variables in scope.
 ghost use Rattle.std.specs.Prelude.{◌≡◌, ◌++◌, ◌∷◌, map, unwrap_or, IfOk, OnOk};
 ghost use Rattle.std.specs.Option.{option_map};
-ghost use Rattle.normaliser.specs.Numbers as numbers;
-ghost use Rattle.normaliser.specs.Parts as spec;
+ghost use Rattle.normal_task.specs.Numbers as numbers;
+ghost use Rattle.normal_task.specs.Parts as spec;
 
 use crate::moved::sum;
 use crate::numbering::Numbering;
-use crate::task::Place;
 use crate::variable::Variable;
 use lists::List;
+use normal_task::Place;
 use pddl_parser::{Term, Typed};
 use std::alloc::{AllocError, Global};
 

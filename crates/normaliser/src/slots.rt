@@ -2,15 +2,15 @@
 ghost use Rattle.std.specs.Prelude.{◌≡◌, ◌++◌, ◌∷◌, [], map, IfOk, OnOk, if◌then◌else◌};
 ghost use Rattle.std.specs.List.{list_any};
 ghost use Rattle.pddl_parser.specs.Words.{is_same};
-ghost use Rattle.normaliser.specs.declared.task.Place.TheVariants as place;
+ghost use Rattle.normal_task.specs.declared.task.Place.TheVariants as place;
 ghost use Rattle.normaliser.specs.Code.{is_asked};
-ghost use Rattle.normaliser.specs.Parts as spec;
+ghost use Rattle.normal_task.specs.Parts as spec;
 
 use crate::free::{is_free, is_listed};
 use crate::numbering::Numbering;
-use crate::task::Place;
 use crate::variable::Variable;
 use lists::List;
+use normal_task::Place;
 use pddl_parser::{Condition, Typed};
 use std::alloc::{AllocError, Global};
 

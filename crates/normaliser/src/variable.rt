@@ -1,6 +1,6 @@
 // A variable in scope.
 ghost use Rattle.std.specs.Prelude.{◌≡◌, IfOk};
-ghost use Rattle.normaliser.specs.Numbers.{range_of};
+ghost use Rattle.normal_task.specs.Numbers.{range_of};
 
 use crate::numbering::Numbering;
 use lists::List;
@@ -18,8 +18,8 @@ pub(crate) struct Variable<'n, 'a> {
 }
 
 impl<'n, 'a> Model for Variable<'n, 'a> {
-    ghost use Rattle.normaliser.specs.Numbers.{range_of};
-    ghost use Rattle.normaliser.specs.Parts.{Slot};
+    ghost use Rattle.normal_task.specs.Numbers.{range_of};
+    ghost use Rattle.normal_task.specs.Parts.{Slot};
 
     ghost Value = { Slot };
 

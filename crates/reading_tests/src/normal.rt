@@ -4,7 +4,8 @@ ghost use Rattle.pddl_parser.specs.Spelled.{IsWellSpelled, IsWellSpelledProblem}
 
 use crate::reading::{domain_of, problem_of};
 use crate::shown::{costs, shown, stated};
-use normaliser::{Normal, normalise};
+use normal_task::Normal;
+use normaliser::normalise;
 use pddl_parser::{Domain, Problem};
 use std::alloc::{AllocError, Global};
 use std::test::*;

@@ -5,7 +5,7 @@
 //! ranges over.
 
 use lists::{List, Text};
-use normaliser::{
+use normal_task::{
     AxiomRow, CostRow, EffectRow, GroundAtom, Literal, Normal, Place, PredicateRow, Schema,
     ValueRow,
 };

@@ -6,8 +6,8 @@ use Rattle.std.specs.Ordering.{is_lt}
 use Rattle.std.proofs.lemmas.List.{map_push, length-map, get_or-map, take_all}
 use Rattle.std.proofs.lemmas.Simd.{map-map}
 use Rattle.lists.proofs.Items.{any_map}
-use Rattle.normaliser.specs.declared.task.GroundAtom.{GroundAtom}
-use Rattle.normaliser.specs.Meaning.{is_same_atom}
+use Rattle.normal_task.specs.declared.task.GroundAtom.{GroundAtom}
+use Rattle.normal_task.specs.Meaning.{is_same_atom}
 use Rattle.relaxed_reach.specs.AtomKeys.{Key, atom_of}
 use Rattle.relaxed_reach.specs.Reachable.{is_among, number_of, fact_cmp}
 use Rattle.relaxed_reach.specs.Rounds.{added}

@@ -5,9 +5,9 @@ use Rattle.std.specs.Option.{option_map, option_map_or, unwrap_or}
 use Rattle.std.proofs.lemmas.Bool.{and_parts, true≢false, not-true, leb-true, ltb-true, eqb-true}
 use Rattle.std.proofs.lemmas.Option.{slice_get_within, get_or_from_slice_get}
 use Rattle.lists.proofs.Items.{Among, among_contains, among_at, map_source, all_passes}
-use Rattle.normaliser.specs.declared.task.GroundAtom.{GroundAtom}
-use Rattle.normaliser.specs.declared.task.PredicateRow.{PredicateRow}
-use Rattle.normaliser.specs.Lawful.{most, is_word}
+use Rattle.normal_task.specs.declared.task.GroundAtom.{GroundAtom}
+use Rattle.normal_task.specs.declared.task.PredicateRow.{PredicateRow}
+use Rattle.normal_task.specs.Lawful.{most, is_word}
 use Rattle.static_matcher.specs.declared.types.Ground.{Ground}
 use Rattle.static_matcher.specs.declared.types.GroundAction.{GroundAction}
 use Rattle.static_matcher.specs.declared.types.GroundAxiom.{GroundAxiom}

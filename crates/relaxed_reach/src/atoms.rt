@@ -6,7 +6,7 @@ ghost use Rattle.relaxed_reach.specs.Reachable.{is_among, number_of, fact_cmp};
 ghost use Rattle.relaxed_reach.specs.Rounds.{added};
 
 use indexmap::IndexSet;
-use normaliser::GroundAtom;
+use normal_task::GroundAtom;
 use std::alloc::{AllocError, Global};
 use std::marker::Model;
 
@@ -19,7 +19,7 @@ pub(crate) struct Atoms<'a> {
 
 impl<'a> Model for Atoms<'a> {
     ghost use Rattle.std.specs.Prelude.{List, map};
-    ghost use Rattle.normaliser.specs.declared.task.GroundAtom.{GroundAtom as Atom};
+    ghost use Rattle.normal_task.specs.declared.task.GroundAtom.{GroundAtom as Atom};
     ghost use Rattle.relaxed_reach.specs.AtomKeys.{atom_of};
 
     ghost Value = { List Atom };

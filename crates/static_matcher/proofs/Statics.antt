@@ -19,19 +19,19 @@ use Rattle.pddl_parser.proofs.Steps.{name_same}
 use Rattle.type_checker.specs.Faults.{check_faults}
 use Rattle.type_checker.specs.Mentions.{Mention, Variables, Derives, Asked, Written, Function, Compared, written_predicates, in_condition, in_effect, effect_step, in_action}
 use Rattle.lists.proofs.Items.{Among, among_at, among_left, among_right, among_which, map_source, all_passes, any_passes}
-use Rattle.normaliser.specs.declared.task.EffectRow.{EffectRow}
-use Rattle.normaliser.specs.declared.task.PredicateRow.{PredicateRow}
-use Rattle.normaliser.specs.declared.task.Schema.{Schema}
-use Rattle.normaliser.specs.Numbers.{head_names, number_in, predicate_number, ranges_of}
-use Rattle.normaliser.specs.declared.parts.Fresh.{Fresh}
-use Rattle.normaliser.specs.declared.parts.Part.{Part}
-use Rattle.normaliser.specs.Parts.{Scope, Made, in_turn}
-use Rattle.normaliser.specs.Normalised.{Rows, effect_row, written, row_with_variables, row_step, rows_of, moved_row, schema, precondition_parts, effect_rows, schemas, fresh_predicates, declared_row, is_changed, all_fresh, normal}
-use Rattle.normaliser.specs.Same.{is_among}
-use Rattle.normaliser.proofs.Mentioned.{is_declared, is_known_mention}
-use Rattle.normaliser.proofs.FourFolds.{by_folds}
-use Rattle.normaliser.proofs.Full.{within-left, heads-length, number-below}
-use Rattle.normaliser.proofs.Faultless.{action_mentioned}
+use Rattle.normal_task.specs.declared.task.EffectRow.{EffectRow}
+use Rattle.normal_task.specs.declared.task.PredicateRow.{PredicateRow}
+use Rattle.normal_task.specs.declared.task.Schema.{Schema}
+use Rattle.normal_task.specs.Numbers.{head_names, number_in, predicate_number, ranges_of}
+use Rattle.normal_task.specs.declared.parts.Fresh.{Fresh}
+use Rattle.normal_task.specs.declared.parts.Part.{Part}
+use Rattle.normal_task.specs.Parts.{Scope, Made, in_turn}
+use Rattle.normal_task.specs.Normalised.{Rows, effect_row, written, row_with_variables, row_step, rows_of, moved_row, schema, precondition_parts, effect_rows, schemas, fresh_predicates, declared_row, is_changed, all_fresh, normal}
+use Rattle.normal_task.specs.Same.{is_among}
+use Rattle.normal_task.proofs.Mentioned.{is_declared, is_known_mention}
+use Rattle.normal_task.proofs.FourFolds.{by_folds}
+use Rattle.normal_task.proofs.Full.{within-left, heads-length, number-below}
+use Rattle.normal_task.proofs.Faultless.{action_mentioned}
 use Rattle.static_matcher.specs.GroundTask.{is_fixed}
 use Rattle.static_matcher.specs.Law.{KeepsStatics}
 

@@ -4,7 +4,7 @@ ghost use Rattle.static_matcher.specs.GroundTask.{is_fixed};
 ghost use Rattle.static_matcher.specs.Tables.{HoldsAtoms, HoldsValues, has_atom, value_at};
 
 use indexmap::{IndexMap, IndexSet};
-use normaliser::{GroundAtom, Normal, ValueRow};
+use normal_task::{GroundAtom, Normal, ValueRow};
 use std::alloc::{AllocError, Global};
 use std::marker::Model;
 
@@ -19,7 +19,7 @@ pub(crate) struct Tables<'a> {
 
 impl<'a> Model for Tables<'a> {
     ghost use Rattle.std.specs.Prelude.{map};
-    ghost use Rattle.normaliser.specs.declared.task.Normal.{Normal as NormalTask};
+    ghost use Rattle.normal_task.specs.declared.task.Normal.{Normal as NormalTask};
     ghost use Rattle.static_matcher.specs.Tables.{HoldsAtoms, HoldsValues};
 
     ghost Value = { NormalTask };

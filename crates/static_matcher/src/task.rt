@@ -1,6 +1,6 @@
 // The ground task of a normal task.
 ghost use Rattle.std.specs.Prelude.{◌≡◌, IfOk, filter};
-ghost use Rattle.normaliser.specs.Lawful.{IsLawful as IsLawfulNormal};
+ghost use Rattle.normal_task.specs.Lawful.{IsLawful as IsLawfulNormal};
 ghost use Rattle.static_matcher.specs.Instances.{instance_task, static_settling, IsGroundTask};
 ghost use Rattle.static_matcher.specs.Lawful.{IsLawful};
 ghost use Rattle.static_matcher.specs.Settled.{kept_goal};
@@ -10,7 +10,7 @@ use crate::literals::condition;
 use crate::tables::Tables;
 use crate::types::{GoalRow, Ground};
 use lists::{List, Text};
-use normaliser::{GroundAtom, Normal, PredicateRow};
+use normal_task::{GroundAtom, Normal, PredicateRow};
 use std::alloc::{AllocError, Global};
 
 /// A text of its own.

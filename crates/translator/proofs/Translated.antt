@@ -8,9 +8,9 @@ use Rattle.pddl_parser.specs.declared.types.Domain.{Domain}
 use Rattle.pddl_parser.specs.declared.types.Problem.{Problem}
 use Rattle.pddl_parser.specs.Words.{Name}
 use Rattle.pddl_parser.specs.Plan.{pddl_task, HasPlan, HasBusyPlan}
-use Rattle.normaliser.specs.declared.task.Normal.{Normal}
-use Rattle.normaliser.specs.Normalised.{normal}
-use Rattle.normaliser.specs.Same.{SameTask}
+use Rattle.normal_task.specs.declared.task.Normal.{Normal}
+use Rattle.normal_task.specs.Normalised.{normal}
+use Rattle.normal_task.specs.Same.{SameTask}
 use Rattle.static_matcher.specs.declared.types.Ground.{Ground}
 use Rattle.static_matcher.specs.Instances.{IsGroundTask}
 use Rattle.static_matcher.specs.Law as matcher

@@ -7,7 +7,7 @@ ghost use Rattle.translator.specs.RunTask.{IsRunTask};
 ghost use Rattle.translator.specs.Theorem.{Translates};
 
 use fdr_encoder::laws::{covers, in_any_order, simulation};
-use normaliser::laws::same_task;
+use normal_task::laws::same_task;
 use pddl_parser::laws::idle_steps;
 
 /// A valid task that the passes make of a pair without faults translates the pair.
@@ -17,7 +17,7 @@ pub(crate) fn run_task_translates()
 {
     idle_steps();
     same_task();
-    normaliser::laws::lawful();
+    normal_task::laws::lawful();
     static_matcher::laws::lawful();
     relaxed_reach::laws::lawful();
     static_matcher::laws::same_meaning();

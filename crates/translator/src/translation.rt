@@ -15,11 +15,11 @@ ghost use Rattle.translator.specs.RunTask.{IsRunTask};
 ghost use Rattle.translator.specs.declared.outcome.End.TheVariants.{NoMemory};
 ghost use Rattle.translator.specs.Written.{IsSummaryOf, IsWritten, IsTextWhere, StopsWhere, StopsAt};
 
+use axiom_layers::layers;
 use crate::law::run_task_translates;
 use crate::outcome::{End, Summary};
-use axiom_layers::layers;
 use fdr_encoder::encode;
-use normaliser::laws::lawful;
+use normal_task::laws::lawful;
 use normaliser::normalise;
 use pddl_lexer::{Tree, TreeEnd, read_tree};
 use pddl_parser::{Domain, ParseEnd, Problem, parse_domain, parse_problem};

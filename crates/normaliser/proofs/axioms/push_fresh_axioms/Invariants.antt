@@ -1,5 +1,5 @@
 use Rattle.std.proofs.Common.{◌≡◌, ◌++◌, take}
-use Rattle.normaliser.specs.Normalised as spec
+use Rattle.normal_task.specs.Normalised as spec
 use Rattle.normaliser.proofs.axioms.push_fresh_axioms.Given as goal
 
 abbrev pub invariant-loop-number : goal.invariant-loop-number

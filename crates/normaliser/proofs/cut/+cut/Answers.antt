@@ -1,7 +1,8 @@
 use Rattle.std.proofs.Common.{refl, ◌∙◌, subst}
 use Rattle.std.specs.Prelude.{IfOk}
 use Rattle.normaliser.specs.Code.{IsMade}
-use Rattle.normaliser.specs.Parts.{Part, Made}
+use Rattle.normal_task.specs.declared.parts.Part.{Part}
+use Rattle.normal_task.specs.Parts.{Made}
 use Rattle.normaliser.proofs.FreeVariables.{none-forall, none-exists}
 use Rattle.normaliser.proofs.CutSteps.{listed-after, paired-after}
 use Rattle.normaliser.proofs.cut.+cut.Goals as goal

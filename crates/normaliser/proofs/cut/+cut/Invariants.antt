@@ -1,5 +1,5 @@
 use Rattle.std.proofs.Common.{map, take}
-use Rattle.normaliser.specs.Parts as spec
+use Rattle.normal_task.specs.Parts as spec
 use Rattle.normaliser.specs.Code.{IsMade}
 use Rattle.normaliser.proofs.cut.+cut.Given as goal
 

@@ -1,5 +1,5 @@
 use Rattle.std.proofs.Common.{◌≡◌, map}
-use Rattle.normaliser.specs.Parts as spec
+use Rattle.normal_task.specs.Parts as spec
 use Rattle.normaliser.proofs.cut.all_extended.Given as goal
 
 abbrev pub invariant-loop-first : goal.invariant-loop-first

@@ -1,6 +1,6 @@
 use Rattle.std.proofs.Common.{◌≡◌, List, subst}
 use Rattle.std.specs.Prelude.{IfOk}
-use Rattle.normaliser.specs.Parts.{Part}
+use Rattle.normal_task.specs.declared.parts.Part.{Part}
 use Rattle.normaliser.proofs.LeftToRight.{only_second}
 use Rattle.normaliser.proofs.cut.paired.Goals as goal
 

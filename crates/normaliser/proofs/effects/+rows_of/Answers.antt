@@ -2,11 +2,12 @@ use Rattle.std.proofs.Common.{List, ◌++◌, ◌+◌, ℕ, map, take, length, r
 use Rattle.std.specs.Prelude.{IfOk}
 use Rattle.pddl_parser.specs.declared.types.Effect.{Effect}
 use Rattle.pddl_parser.specs.declared.types.Typed.{Typed}
-use Rattle.normaliser.specs.declared.task.EffectRow.{EffectRow}
+use Rattle.normal_task.specs.declared.task.EffectRow.{EffectRow}
 use Rattle.normaliser.specs.MadeThings.{IsMadeOf, cuts_of}
-use Rattle.normaliser.specs.Normalised.{Rows, rows_of}
-use Rattle.normaliser.specs.Numbers.{ranges_of}
-use Rattle.normaliser.specs.Parts.{Fresh, Made, scope_inside}
+use Rattle.normal_task.specs.Normalised.{Rows, rows_of}
+use Rattle.normal_task.specs.Numbers.{ranges_of}
+use Rattle.normal_task.specs.declared.parts.Fresh.{Fresh}
+use Rattle.normal_task.specs.Parts.{Made, scope_inside}
 use Rattle.normaliser.proofs.EffectRows.{when-is, forall-is}
 use Rattle.normaliser.proofs.TurnSteps.{twice-next, turn-more}
 use Rattle.normaliser.proofs.effects.+rows_of.Goals as goal

@@ -1,7 +1,7 @@
 use Rattle.std.proofs.Common.{◌≡◌, map, take}
 use Rattle.normaliser.specs.MadeThings.{cuts_of}
-use Rattle.normaliser.specs.Normalised as spec
-use Rattle.normaliser.specs.Parts.{in_turn}
+use Rattle.normal_task.specs.Normalised as spec
+use Rattle.normal_task.specs.Parts.{in_turn}
 use Rattle.normaliser.proofs.effects.+rows_of.Given as goal
 
 abbrev pub invariant-rows_of_all-loop-member : goal.invariant-rows_of_all-loop-member

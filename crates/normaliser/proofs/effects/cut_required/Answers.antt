@@ -1,6 +1,8 @@
 use Rattle.std.proofs.Common.{List, ◌++◌, ap, ◌∙◌, map, take, ◌+◌, ℕ}
 use Rattle.normaliser.specs.MadeThings.{cut_of, cuts_of}
-use Rattle.normaliser.specs.Parts.{Part, Fresh, Made, paired}
+use Rattle.normal_task.specs.declared.parts.Part.{Part}
+use Rattle.normal_task.specs.declared.parts.Fresh.{Fresh}
+use Rattle.normal_task.specs.Parts.{Made, paired}
 use Rattle.normaliser.proofs.TurnSteps.{twice-next, pairs-more}
 use Rattle.normaliser.proofs.effects.cut_required.Goals as goal
 

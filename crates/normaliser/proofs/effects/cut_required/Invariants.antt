@@ -1,7 +1,7 @@
 use Rattle.std.proofs.Common.{map, take}
 use Rattle.normaliser.specs.Code.{IsMade}
 use Rattle.normaliser.specs.MadeThings.{cuts_of}
-use Rattle.normaliser.specs.Parts.{all_of}
+use Rattle.normal_task.specs.Parts.{all_of}
 use Rattle.normaliser.proofs.effects.cut_required.Given as goal
 
 abbrev pub invariant-loop-one : goal.invariant-loop-one

@@ -1,6 +1,6 @@
 use Rattle.std.proofs.Common.{◌≡◌, drop, map}
 use Rattle.std.specs.List.{list_any}
-use Rattle.normaliser.specs.Parts as spec
+use Rattle.normal_task.specs.Parts as spec
 use Rattle.normaliser.proofs.free.+is_free.Given as goal
 
 abbrev pub invariant-is_free_in_some-loop-member : goal.invariant-is_free_in_some-loop-member

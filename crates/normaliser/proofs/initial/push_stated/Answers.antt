@@ -1,9 +1,9 @@
 use Rattle.std.proofs.Common.{◌≡◌, [], ◌∷◌, ◌++◌, refl, sym, ap, ◌∙◌}
 use Rattle.std.proofs.lemmas.Result.{on_ok_weaker}
 use Rattle.pddl_parser.specs.declared.types.Init.{Init}
-use Rattle.normaliser.specs.MadeThings.{atom_key}
-use Rattle.normaliser.specs.Meaning.{is_same_atom}
-use Rattle.normaliser.specs.Normalised.{once_after, stated}
+use Rattle.normal_task.specs.Keys.{atom_key}
+use Rattle.normal_task.specs.Meaning.{is_same_atom}
+use Rattle.normal_task.specs.Normalised.{once_after, stated}
 use Rattle.normaliser.proofs.OnceSteps.{once-step}
 use Rattle.normaliser.proofs.initial.push_stated.Goals as goal
 

@@ -2,10 +2,10 @@ use Rattle.std.proofs.Common.{◌≡◌, ℕ, List, [], ◌∷◌, ◌++◌, map
 use Rattle.std.proofs.lemmas.Result.{on_ok_weaker}
 use Rattle.pddl_parser.specs.Holds as pddl
 use Rattle.pddl_parser.specs.Words.{is_same}
-use Rattle.normaliser.specs.declared.task.ValueRow.{ValueRow}
-use Rattle.normaliser.specs.MadeThings.{value_key}
-use Rattle.normaliser.specs.Normalised.{once_after, value_row, is_same_value}
-use Rattle.normaliser.specs.Numbers.{function_number, object_number}
+use Rattle.normal_task.specs.declared.task.ValueRow.{ValueRow}
+use Rattle.normal_task.specs.Keys.{value_key}
+use Rattle.normal_task.specs.Normalised.{once_after, value_row, is_same_value}
+use Rattle.normal_task.specs.Numbers.{function_number, object_number}
 use Rattle.normaliser.proofs.OnceSteps.{once-step}
 use Rattle.normaliser.proofs.initial.push_value.Goals as goal
 

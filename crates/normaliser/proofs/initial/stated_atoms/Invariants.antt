@@ -1,8 +1,8 @@
 use Rattle.std.proofs.Common.{◌≡◌, [], map, take}
 use Rattle.std.specs.List.{flat_map}
-use Rattle.normaliser.specs.MadeThings.{atom_key}
-use Rattle.normaliser.specs.Meaning.{is_same_atom}
-use Rattle.normaliser.specs.Normalised as spec
+use Rattle.normal_task.specs.Keys.{atom_key}
+use Rattle.normal_task.specs.Meaning.{is_same_atom}
+use Rattle.normal_task.specs.Normalised as spec
 use Rattle.normaliser.proofs.initial.stated_atoms.Given as goal
 
 abbrev pub invariant-loop-entry : goal.invariant-loop-entry

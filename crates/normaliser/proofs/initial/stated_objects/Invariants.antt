@@ -1,6 +1,6 @@
 use Rattle.std.proofs.Common.{◌≡◌, [], map, take}
 use Rattle.pddl_parser.specs.Holds as pddl
-use Rattle.normaliser.specs.Numbers.{object_number}
+use Rattle.normal_task.specs.Numbers.{object_number}
 use Rattle.normaliser.proofs.initial.stated_objects.Given as goal
 
 abbrev pub invariant-loop-term : goal.invariant-loop-term

@@ -1,7 +1,7 @@
 use Rattle.std.proofs.Common.{◌≡◌, [], map, take}
 use Rattle.std.specs.List.{flat_map}
-use Rattle.normaliser.specs.MadeThings.{value_key}
-use Rattle.normaliser.specs.Normalised as spec
+use Rattle.normal_task.specs.Keys.{value_key}
+use Rattle.normal_task.specs.Normalised as spec
 use Rattle.normaliser.proofs.initial.stated_values.Given as goal
 
 abbrev pub invariant-loop-entry : goal.invariant-loop-entry

@@ -1,7 +1,7 @@
 use Rattle.std.proofs.Common.{◌≡◌, subst}
 use Rattle.std.specs.Prelude.{IfOk}
 use Rattle.type_checker.specs.Checked.{Pair}
-use Rattle.normaliser.specs.Normalised as spec
+use Rattle.normal_task.specs.Normalised as spec
 use Rattle.normaliser.proofs.normal.normalise.Goals as goal
 
 pub returns : goal.returns

@@ -1,5 +1,5 @@
 use Rattle.std.proofs.Common.{◌≡◌, take}
-use Rattle.normaliser.specs.Numbers as spec
+use Rattle.normal_task.specs.Numbers as spec
 use Rattle.normaliser.proofs.numbering.names_of.Given as goal
 
 abbrev pub invariant-loop-head : goal.invariant-loop-head

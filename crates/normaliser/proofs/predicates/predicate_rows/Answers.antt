@@ -1,5 +1,5 @@
 use Rattle.std.proofs.Common.{◌∙◌}
-use Rattle.normaliser.specs.Normalised as spec
+use Rattle.normal_task.specs.Normalised as spec
 use Rattle.normaliser.proofs.WrittenNames.{rows-are}
 use Rattle.normaliser.proofs.predicates.predicate_rows.Goals as goal
 

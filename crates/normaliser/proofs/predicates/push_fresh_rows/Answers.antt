@@ -1,7 +1,7 @@
 use Rattle.std.proofs.Common.{List, ◌++◌, ap, ◌∙◌, arith}
 use Rattle.std.proofs.lemmas.List.{take_all}
-use Rattle.normaliser.specs.declared.parts.Fresh.{Fresh}
-use Rattle.normaliser.specs.Normalised.{fresh_predicates}
+use Rattle.normal_task.specs.declared.parts.Fresh.{Fresh}
+use Rattle.normal_task.specs.Normalised.{fresh_predicates}
 use Rattle.normaliser.proofs.WrittenNames.{fresh-more}
 use Rattle.normaliser.proofs.predicates.push_fresh_rows.Goals as goal
 

@@ -1,7 +1,7 @@
 use Rattle.std.proofs.Common.{◌≡◌, ◌++◌, take}
 use Rattle.pddl_parser.specs.declared.types.Domain.{Domain}
 use Rattle.pddl_parser.specs.declared.types.Problem.{Problem}
-use Rattle.normaliser.specs.Normalised as spec
+use Rattle.normal_task.specs.Normalised as spec
 use Rattle.normaliser.proofs.predicates.push_fresh_rows.Given as goal
 
 abbrev pub invariant-loop-number : goal.invariant-loop-number

@@ -1,7 +1,8 @@
 use Rattle.std.proofs.Common.{List, [], ◌+◌, length, refl, ap, ◌∙◌}
 use Rattle.pddl_parser.specs.declared.types.Typed.{Typed}
-use Rattle.normaliser.specs.Numbers.{ranges_of}
-use Rattle.normaliser.specs.Parts.{Fresh, scope_inside}
+use Rattle.normal_task.specs.Numbers.{ranges_of}
+use Rattle.normal_task.specs.declared.parts.Fresh.{Fresh}
+use Rattle.normal_task.specs.Parts.{scope_inside}
 use Rattle.normaliser.proofs.SchemaRows.{schemas-are}
 use Rattle.normaliser.proofs.schemas.schemas.Goals as goal
 

@@ -1,8 +1,8 @@
 use Rattle.std.proofs.Common.{List, ◌++◌, ◌+◌, ℕ, map, take, ap, ◌∙◌}
 use Rattle.lists.proofs.LoopSteps.{map_next}
-use Rattle.normaliser.specs.declared.task.Schema.{Schema}
-use Rattle.normaliser.specs.Normalised as spec
-use Rattle.normaliser.specs.Parts.{Fresh}
+use Rattle.normal_task.specs.declared.task.Schema.{Schema}
+use Rattle.normal_task.specs.Normalised as spec
+use Rattle.normal_task.specs.declared.parts.Fresh.{Fresh}
 use Rattle.normaliser.proofs.TurnSteps.{turn-more}
 use Rattle.normaliser.proofs.schemas.schemas_of.Goals as goal
 

@@ -1,6 +1,6 @@
 use Rattle.std.proofs.Common.{◌≡◌, map, take}
-use Rattle.normaliser.specs.Normalised as spec
-use Rattle.normaliser.specs.Parts.{in_turn}
+use Rattle.normal_task.specs.Normalised as spec
+use Rattle.normal_task.specs.Parts.{in_turn}
 use Rattle.normaliser.proofs.schemas.schemas_of.Given as goal
 
 abbrev pub invariant-loop-action : goal.invariant-loop-action

@@ -1,5 +1,5 @@
 use Rattle.std.proofs.Common.{◌≡◌, take}
-use Rattle.normaliser.specs.Parts as spec
+use Rattle.normal_task.specs.Parts as spec
 use Rattle.normaliser.proofs.scope.places_of.Given as goal
 
 abbrev pub invariant-loop-term : goal.invariant-loop-term

@@ -1,6 +1,6 @@
 use Rattle.std.proofs.Common.{◌≡◌, ℕ, ◌+◌, ◌-◌, [], drop, length, sym, ap, ◌∙◌, arith}
-use Rattle.normaliser.specs.Numbers.{range_of}
-use Rattle.normaliser.specs.Parts.{Slot, scope_inside}
+use Rattle.normal_task.specs.Numbers.{range_of}
+use Rattle.normal_task.specs.Parts.{Slot, scope_inside}
 use Rattle.normaliser.proofs.FreeVariables.{one-less}
 use Rattle.normaliser.proofs.InnerScopes.{one_more, all_inside, none_inside_yet}
 use Rattle.normaliser.proofs.scope.scope_inside.Goals as goal

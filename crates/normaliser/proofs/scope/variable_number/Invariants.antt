@@ -1,5 +1,5 @@
 use Rattle.std.proofs.Common.{◌≡◌, drop}
-use Rattle.normaliser.specs.Parts as spec
+use Rattle.normal_task.specs.Parts as spec
 use Rattle.normaliser.proofs.scope.variable_number.Given as goal
 
 abbrev pub invariant-loop-variable : goal.invariant-loop-variable

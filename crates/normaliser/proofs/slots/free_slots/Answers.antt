@@ -1,6 +1,6 @@
 use Rattle.std.proofs.Common.{◌-◌, take, drop, refl, ap, ◌∙◌, sym, arith}
 use Rattle.normaliser.specs.Code.{is_asked}
-use Rattle.normaliser.specs.Parts.{slots_for}
+use Rattle.normal_task.specs.Parts.{slots_for}
 use Rattle.normaliser.proofs.FreeVariables.{asked-step, one-less}
 use Rattle.normaliser.proofs.slots.free_slots.Goals as goal
 

@@ -1,6 +1,6 @@
 use Rattle.std.proofs.Common.{◌≡◌, ◌≤◌, length, take, drop}
 use Rattle.normaliser.specs.Code.{is_asked}
-use Rattle.normaliser.specs.Parts.{slots_for}
+use Rattle.normal_task.specs.Parts.{slots_for}
 use Rattle.normaliser.proofs.slots.free_slots.Given as goal
 
 abbrev pub decreases-loop-left : goal.decreases-loop-left

@@ -1,5 +1,5 @@
 use Rattle.std.proofs.Common.{◌++◌, ◌-◌, [], take, ap, ◌∙◌, arith}
-use Rattle.normaliser.specs.Parts as spec
+use Rattle.normal_task.specs.Parts as spec
 use Rattle.normaliser.proofs.FreeVariables.{renumbered-step, one-less}
 use Rattle.normaliser.proofs.slots.renumbered.Goals as goal
 

@@ -1,5 +1,5 @@
 use Rattle.std.proofs.Common.{◌≡◌, ◌++◌, ◌≤◌, [], length, take}
-use Rattle.normaliser.specs.Parts as spec
+use Rattle.normal_task.specs.Parts as spec
 use Rattle.normaliser.proofs.slots.renumbered.Given as goal
 
 abbrev pub decreases-loop-left : goal.decreases-loop-left

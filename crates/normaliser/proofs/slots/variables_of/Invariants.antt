@@ -1,5 +1,5 @@
 use Rattle.std.proofs.Common.{◌≡◌, map, take}
-use Rattle.normaliser.specs.declared.task.Place.TheVariants as place
+use Rattle.normal_task.specs.declared.task.Place.TheVariants as place
 use Rattle.normaliser.proofs.slots.variables_of.Given as goal
 
 abbrev pub invariant-loop-variable : goal.invariant-loop-variable

@@ -1,6 +1,6 @@
 use Rattle.std.proofs.Common.{◌≡◌, ◌++◌, map, take}
 use Rattle.std.specs.Prelude.{filter}
-use Rattle.normaliser.specs.Meaning.{choices}
+use Rattle.normal_task.specs.Meaning.{choices}
 use Rattle.static_matcher.specs.Matching.{may_match}
 use Rattle.static_matcher.proofs.matching.matches.Given as goal
 

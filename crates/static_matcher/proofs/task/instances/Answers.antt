@@ -1,8 +1,8 @@
 use Rattle.std.proofs.Common.{subst, Ok, Err, Result}
 use Rattle.std.specs.Prelude.{IfOk}
 use Rattle.std.specs.declared.alloc.AllocError.{AllocError}
-use Rattle.normaliser.specs.declared.task.Normal.{Normal}
-use Rattle.normaliser.specs.Lawful.{IsLawful as IsLawfulNormal}
+use Rattle.normal_task.specs.declared.task.Normal.{Normal}
+use Rattle.normal_task.specs.Lawful.{IsLawful as IsLawfulNormal}
 use Rattle.static_matcher.specs.declared.types.Ground.{Ground}
 use Rattle.static_matcher.specs.Instances.{IsGroundTask}
 use Rattle.static_matcher.specs.Lawful.{IsLawful}

@@ -1,5 +1,5 @@
 use Rattle.std.proofs.Common.{[], length}
-use Rattle.normaliser.specs.Normalised.{normal}
+use Rattle.normal_task.specs.Normalised.{normal}
 use Rattle.fdr_encoder.specs.Covers.{singles}
 use Rattle.translator.proofs.Translated.{no_groups, translates}
 use Rattle.translator.proofs.law.run_task_translates.Goals as goal

@@ -1,5 +1,5 @@
 use Rattle.std.proofs.Common.{sym, subst}
-use Rattle.normaliser.specs.Lawful.{IsLawful}
+use Rattle.normal_task.specs.Lawful.{IsLawful}
 use Rattle.translator.proofs.Translated.{run_task_of}
 use Rattle.translator.proofs.translation.run_task.Goals as goal
 

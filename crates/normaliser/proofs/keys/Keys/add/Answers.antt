@@ -2,7 +2,7 @@ use Rattle.std.proofs.Common.{◌≡◌, not, sym, subst}
 use Rattle.std.specs.Prelude.{IfOk}
 use Rattle.std.proofs.lemmas.Result.{on_ok_weaker}
 use Rattle.names.specs.Names.{is_same}
-use Rattle.normaliser.proofs.KeyTables.{same_any, keys_after}
+use Rattle.normal_task.proofs.KeyTables.{same_any, keys_after}
 use Rattle.normaliser.proofs.keys.Keys.add.Goals as goal
 
 pub returns-clause-is_new : goal.returns-clause-is_new

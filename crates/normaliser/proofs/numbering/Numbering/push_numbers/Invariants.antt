@@ -1,7 +1,7 @@
 use Rattle.std.proofs.Common.{◌≡◌, ◌++◌, map, take}
 use Rattle.std.specs.List.{filter}
 use Rattle.normaliser.specs.Below.{has_type_among}
-use Rattle.normaliser.specs.Numbers as spec
+use Rattle.normal_task.specs.Numbers as spec
 use Rattle.normaliser.proofs.numbering.Numbering.push_numbers.Given as goal
 
 abbrev pub invariant-loop-object : goal.invariant-loop-object

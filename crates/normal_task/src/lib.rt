@@ -1,0 +1,12 @@
+//! Normal tasks: what they are, what they mean, and the laws of the normal task of a pair of files.
+#![tactic(auto)]
+
+pub mod laws;
+mod parts;
+mod task;
+
+pub use parts::{Fresh, Part};
+pub use task::{
+    AxiomRow, CostRow, EffectRow, GroundAtom, Literal, Normal, Place, PredicateRow, Schema,
+    ValueRow,
+};
