@@ -1,0 +1,133 @@
+-- One set more in each round, until no group has two uncovered facts.
+use Rattle.std.proofs.Common.{◌≡◌, ℕ, ◌+◌, ◌<◌, ◌≤◌, Bool, true, false, not, ◌||◌, ◌⊎◌, List, [], ◌∷◌, ◌++◌, append_assoc, append-nil, map, length, inl, inr, refl, sym, ap, ◌∙◌, subst, arith, nat_eq, nat_lt}
+use Rattle.std.specs.List.{list_any, filter, range_with_len}
+use Rattle.std.proofs.lemmas.List.{map-append}
+use Rattle.std.proofs.lemmas.List.Elements.{filter-append}
+use Rattle.lists.proofs.LoopSteps.{range_next}
+use Rattle.std.proofs.lemmas.Bool.{true≢false, cases_Bool, or_left, or_right, or_parts, or_from, not_from_true, ltb-true, lt-ltb, eq-eqb, false_from_ne_true}
+use Rattle.lists.proofs.Items.{Among, among_contains, among_filter, any_append, any_passes, filter_yes, filter_no}
+use Rattle.group_cover.specs.Cover.{is_covered, uncovered, count, single, is_before, IsBest, IsPart, AreParts, NoneIsLeft}
+
+-- the facts of one set more are covered too
+pub covered-more : (sets : List (List ℕ)) (set : List ℕ) (fact : ℕ) → is_covered (sets ++ set ∷ []) fact ≡ (is_covered sets fact || list_any (nat_eq fact) set)
+covered-more sets set fact = any_append (list_any (nat_eq fact)) sets (set ∷ []) ∙ ap (λ b. is_covered sets fact || b) (or_none (list_any (nat_eq fact) set))
+  where
+    or_none : (b : Bool) → (b || false) ≡ b
+    or_none true = refl
+    or_none false = refl
+
+-- a stronger test keeps at most as many
+keeps-fewer : (test other : ℕ → Bool) (xs : List ℕ) → ((x : ℕ) → test x ≡ true → other x ≡ true) → length (filter test xs) ≤ length (filter other xs)
+keeps-fewer test other [] stronger = omega arith
+keeps-fewer test other (x ∷ xs) stronger = by (cases_Bool (test x)) (cases_Bool (other x)) (keeps-fewer test other xs stronger)
+  where
+    by : (test x ≡ true) ⊎ (test x ≡ false) → (other x ≡ true) ⊎ (other x ≡ false) → length (filter test xs) ≤ length (filter other xs) → length (filter test (x ∷ xs)) ≤ length (filter other (x ∷ xs))
+    by (inl yes') (inl there) rest =
+        let a = ap (λ (l : List ℕ). length l) (filter_yes test x xs yes') in
+        let b = ap (λ (l : List ℕ). length l) (filter_yes other x xs there) in
+        omega (arith, a, b, rest)
+    by (inl yes') (inr not-there) rest = absurd (true≢false (sym (stronger x yes') ∙ not-there))
+    by (inr no') (inl there) rest =
+        let a = ap (λ (l : List ℕ). length l) (filter_no test x xs no') in
+        let b = ap (λ (l : List ℕ). length l) (filter_yes other x xs there) in
+        omega (arith, a, b, rest)
+    by (inr no') (inr not-there) rest =
+        let a = ap (λ (l : List ℕ). length l) (filter_no test x xs no') in
+        let b = ap (λ (l : List ℕ). length l) (filter_no other x xs not-there) in
+        omega (arith, a, b, rest)
+
+-- a test that nothing passes keeps nothing
+keeps-none : (test : ℕ → Bool) (xs : List ℕ) → ((x : ℕ) → Among x xs → test x ≡ false) → filter test xs ≡ []
+keeps-none test [] none = refl
+keeps-none test (x ∷ xs) none = filter_no test x xs (none x (inl refl)) ∙ keeps-none test xs (λ y there. none y (inr there))
+
+count-falls : (sets : List (List ℕ)) (set group : List ℕ) → count (sets ++ set ∷ []) group ≤ count sets group
+count-falls sets set group = keeps-fewer (λ fact. not (is_covered (sets ++ set ∷ []) fact)) (λ fact. not (is_covered sets fact)) group still
+  where
+    open_before : (before more : Bool) → not (before || more) ≡ true → not before ≡ true
+    open_before false more is = refl
+    open_before true more is = is
+
+    still : (fact : ℕ) → not (is_covered (sets ++ set ∷ []) fact) ≡ true → not (is_covered sets fact) ≡ true
+    still fact is = open_before (is_covered sets fact) (list_any (nat_eq fact) set) (sym (ap not (covered-more sets set fact)) ∙ is)
+
+-- a group whose uncovered part is added has none
+part-closes : (sets : List (List ℕ)) (group : List ℕ) → count (sets ++ uncovered sets group ∷ []) group ≡ 0
+part-closes sets group = ap (λ (l : List ℕ). length l) (keeps-none (λ fact. not (is_covered (sets ++ uncovered sets group ∷ []) fact)) group closed)
+  where
+    closed : (fact : ℕ) → Among fact group → not (is_covered (sets ++ uncovered sets group ∷ []) fact) ≡ false
+    closed fact there = elim (cases_Bool (is_covered sets fact)) [
+      | inl is ↦ not_from_true _ (covered-more sets (uncovered sets group) fact ∙ or_left (is_covered sets fact) (list_any (nat_eq fact) (uncovered sets group)) is)
+      | inr isnt ↦
+          let added = among_filter (λ fact. not (is_covered sets fact)) fact group there (ap not isnt) in
+          not_from_true _ (covered-more sets (uncovered sets group) fact ∙ or_right (is_covered sets fact) (list_any (nat_eq fact) (uncovered sets group)) (any_passes (nat_eq fact) fact (uncovered sets group) added (eq-itself fact)))
+    ]
+      where
+        eq-itself : (n : ℕ) → nat_eq n n ≡ true
+        eq-itself n = eq-eqb n n refl
+
+-- how many facts of groups are uncovered, in all
+abbrev pub all_open : List (List ℕ) → List (List ℕ) → ℕ
+all_open sets [] = 0
+all_open sets (group ∷ groups) = count sets group + all_open sets groups
+
+all-fall : (sets : List (List ℕ)) (set : List ℕ) (groups : List (List ℕ)) → all_open (sets ++ set ∷ []) groups ≤ all_open sets groups
+all-fall sets set [] = omega arith
+all-fall sets set (group ∷ groups) = let here = count-falls sets set group in let rest = all-fall sets set groups in omega (arith, here, rest)
+
+fewer-open : (sets : List (List ℕ)) (group : List ℕ) → 0 < count sets group → (groups : List (List ℕ)) → Among group groups → all_open (sets ++ uncovered sets group ∷ []) groups < all_open sets groups
+fewer-open sets group some [] none = absurd none
+fewer-open sets group some (first ∷ groups) (inl here) =
+    let closed = ap (λ g. count (sets ++ uncovered sets group ∷ []) g) here ∙ part-closes sets group in
+    let same = ap (count sets) here in
+    let rest = all-fall sets (uncovered sets group) groups in
+    omega (arith, closed, same, rest, some)
+fewer-open sets group some (first ∷ groups) (inr there) =
+    let here = count-falls sets (uncovered sets group) first in
+    let rest = fewer-open sets group some groups there in
+    omega (arith, here, rest)
+
+pub round-closes : (groups sets : List (List ℕ)) (group set : List ℕ) (after : List (List ℕ)) → IsBest groups sets group → set ≡ uncovered sets group → after ≡ sets ++ set ∷ [] → all_open after groups < all_open sets groups
+round-closes groups sets group set after best part made =
+    let several = best.several in
+    subst (λ s. all_open s groups < all_open sets groups) (sym (made ∙ ap (λ s. sets ++ s ∷ []) part)) (fewer-open sets group (omega (arith, several)) groups (among_contains groups group best.of_groups))
+
+-- ---- sets in turn
+
+parts-more : (groups before sets : List (List ℕ)) (set : List ℕ) → AreParts groups before sets → IsPart groups (before ++ sets) set → AreParts groups before (sets ++ set ∷ [])
+parts-more groups before [] set parts part = (subst (λ s. IsPart groups s set) (append-nil before) part, tt)
+parts-more groups before (first ∷ sets) set parts part =
+    (parts.0, parts-more groups (before ++ first ∷ []) sets set parts.1 (subst (λ s. IsPart groups s set) (sym (append_assoc before (first ∷ []) sets)) part))
+
+pub round-goes : (groups sets : List (List ℕ)) (group set : List ℕ) (after : List (List ℕ)) → AreParts groups [] sets → IsBest groups sets group → set ≡ uncovered sets group → after ≡ sets ++ set ∷ [] → AreParts groups [] after
+round-goes groups sets group set after parts best part made =
+    subst (AreParts groups []) (sym made) (parts-more groups [] sets set parts (record { group = group; best = best; part = part }))
+
+-- where the best group has fewer than two uncovered facts, each has
+pub none-left : (sets groups : List (List ℕ)) (best : List ℕ) → list_any (λ other. is_before sets other best) groups ≡ false → count sets best < 2 → NoneIsLeft groups sets
+none-left sets [] best none few = refl
+none-left sets (group ∷ groups) best none few =
+    let parts = or_parts (is_before sets group best) (list_any (λ other. is_before sets other best) groups) none in
+    or_from (nat_lt 1 (count sets group)) (list_any (λ group. nat_lt 1 (count sets group)) groups)
+    (false_from_ne_true (nat_lt 1 (count sets group)) (λ is.
+    let more = ltb-true 1 (count sets group) is in
+    true≢false (sym (or_left (nat_lt (count sets best) (count sets group)) _ (lt-ltb (count sets best) (count sets group) (omega (arith, more, few)))) ∙ parts.0)))
+    (none-left sets groups best parts.1 few)
+
+-- ---- a set for each fact that is left
+
+module _ (sets : List (List ℕ)) (fact : ℕ) where
+  next : uncovered sets (range_with_len 0 (fact + 1)) ≡ uncovered sets (range_with_len 0 fact) ++ uncovered sets (fact ∷ [])
+  next =
+      let e : 0 + fact ≡ fact = omega arith in
+      ap (uncovered sets) (range_next 0 fact ∙ ap (λ (n : ℕ). range_with_len 0 fact ++ n ∷ []) e) ∙ filter-append (λ f. not (is_covered sets f)) (range_with_len 0 fact) (fact ∷ [])
+
+  pub single-taken : (before after : List (List ℕ)) → before ≡ map single (uncovered sets (range_with_len 0 fact)) → is_covered sets fact ≡ false → after ≡ before ++ single fact ∷ [] →
+      after ≡ map single (uncovered sets (range_with_len 0 (fact + 1)))
+  single-taken before after held isnt made =
+      made ∙ ap (λ b. b ++ single fact ∷ []) held ∙ sym (map-append single (uncovered sets (range_with_len 0 fact)) (fact ∷ []))
+      ∙ ap (map single) (ap (λ (l : List ℕ). uncovered sets (range_with_len 0 fact) ++ l) (sym (filter_yes (λ f. not (is_covered sets f)) fact [] (ap not isnt))) ∙ sym next)
+
+  pub single-left : (before : List (List ℕ)) → before ≡ map single (uncovered sets (range_with_len 0 fact)) → is_covered sets fact ≡ true → before ≡ map single (uncovered sets (range_with_len 0 (fact + 1)))
+  single-left before held is =
+      held ∙ ap (map single) (sym (append-nil (uncovered sets (range_with_len 0 fact))) ∙ ap (λ (l : List ℕ). uncovered sets (range_with_len 0 fact) ++ l) (sym (filter_no (λ f. not (is_covered sets f)) fact [] (ap not is))) ∙ sym next)

@@ -1,0 +1,6 @@
+-- laws, which other crates may cite
+pub mod Exclusive
+-- lemmas of this crate
+mod KeyTables
+mod Covered
+mod Giving

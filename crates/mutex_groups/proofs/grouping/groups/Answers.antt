@@ -1,0 +1,19 @@
+use Rattle.std.proofs.Common.{◌≡◌, ◌∙◌, ℕ, List, sym, ap, subst, nat_eq}
+use Rattle.std.specs.List.{list_any, IsDistinct}
+use Rattle.std.specs.Cmp.Lexicographic.{pointwise}
+use Rattle.names.specs.Names.{is_same}
+use Rattle.normal_task.specs.declared.task.GroundAtom.{GroundAtom}
+use Rattle.relaxed_reach.specs.declared.types.Fact.{Fact}
+use Rattle.mutex_groups.specs.Found.{has_group}
+use Rattle.mutex_groups.proofs.Giving.{all-differ, all-groups}
+use Rattle.mutex_groups.proofs.grouping.groups.Goals as goal
+
+pub all_groups-requires : goal.all_groups-requires
+all_groups-requires c = all-differ c.args.normal.now c.args.candidates.now c.args.reached.now c.requires.lawful c.requires.well_formed
+
+pub returns : goal.returns
+returns c =
+    all-groups c.args.normal.now c.args.candidates.now c.args.reached.now c.requires.lawful c.requires.well_formed c.in_ok-into_list.field-0
+    (λ group. ap (list_any (is_same group)) c.in_ok-into_list.ensures.lists ∙ c.in_ok-groups.ensures group
+    ∙ ap (λ (l : List GroundAtom). list_any (has_group l c.as_slice-2.result.now group) c.args.candidates.now) c.as_slice.ensures ∙ ap (λ (l : List Fact). list_any (has_group c.args.normal.now.init l group) c.args.candidates.now) c.as_slice-2.ensures)
+    c.in_ok-into_list.ensures.once

@@ -1,0 +1,4 @@
+pub mod Groups
+pub mod WellFormed
+pub mod Exclusive
+pub mod Found
