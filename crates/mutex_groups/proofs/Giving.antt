@@ -21,7 +21,7 @@ use Rattle.relaxed_reach.specs.declared.types.Reached.{Reached}
 use Rattle.invariant_check.specs.declared.types.Candidate.{Candidate}
 use Rattle.invariant_check.specs.declared.types.Part.{Part}
 use Rattle.invariant_check.specs.Candidates.{at_positions, covers}
-use Rattle.invariant_check.specs.Repairs.{is_changing, arity_of}
+use Rattle.invariant_check.specs.Extensions.{is_changing, arity_of}
 use Rattle.mutex_groups.specs.declared.tables.Weight.{Weight}
 use Rattle.mutex_groups.specs.Groups.{weight_among, covered_facts, IsInstance, IsGroup, AreGroups}
 use Rattle.mutex_groups.specs.WellFormed.{is_part, parts_differ, is_candidate}

@@ -1,4 +1,4 @@
 pub mod Groups
 pub mod WellFormed
-pub mod Exclusive
+pub mod Laws
 pub mod Found

@@ -5,7 +5,7 @@ use Rattle.normal_task.specs.declared.task.Normal.{Normal}
 use Rattle.normal_task.specs.Lawful.{differ}
 use Rattle.invariant_check.specs.declared.types.Candidate.{Candidate}
 use Rattle.invariant_check.specs.declared.types.Part.{Part}
-use Rattle.invariant_check.specs.Repairs.{is_changing, arity_of}
+use Rattle.invariant_check.specs.Extensions.{is_changing, arity_of}
 
 -- the part is of a predicate that effects change, and each parameter has a position of it
 abbrev pub is_part : Normal → ℕ → Part → Bool

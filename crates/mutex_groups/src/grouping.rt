@@ -4,6 +4,7 @@ ghost use Rattle.std.specs.List.{list_any, list_all};
 ghost use Rattle.names.specs.Names.{is_same};
 ghost use Rattle.normal_task.specs.Lawful.{IsLawful};
 ghost use Rattle.mutex_groups.specs.Groups.{AreGroups};
+ghost use Rattle.mutex_groups.specs.Laws.{AreExclusive};
 ghost use Rattle.mutex_groups.specs.WellFormed.{is_candidate, parts_differ};
 ghost use Rattle.mutex_groups.specs.Found.{AddsGroup, covers_just, has_group};
 
@@ -97,7 +98,8 @@ pub fn groups(
 ) -> Result<Groups, AllocError>
     requires lawful { IsLawful normal.now }
     requires well_formed { list_all (is_candidate normal.now) candidates.now ≡ true }
-    ensures { IfOk result (λ groups. AreGroups normal.now candidates.now reached.now groups.groups) }
+    ensures groups { IfOk result (λ groups. AreGroups normal.now candidates.now reached.now groups.groups) }
+    ensures exclusive { IfOk result (λ groups. AreExclusive normal.now candidates.now reached.now groups.groups) }
 {
     let groups = all_groups(
         alloc,

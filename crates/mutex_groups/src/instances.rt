@@ -3,7 +3,6 @@ ghost use Rattle.std.specs.Prelude.{◌≡◌, ◌++◌, ◌∷◌, [], ℕ, Lis
 ghost use Rattle.std.specs.List.{find};
 ghost use Rattle.std.specs.Option.{option_map, option_copied};
 ghost use Rattle.invariant_check.specs.Candidates.{at_positions, covers};
-
 ghost use Rattle.mutex_groups.specs.WellFormed.{parts_differ};
 ghost use Rattle.mutex_groups.specs.Found as spec;
 
@@ -39,11 +38,7 @@ pub(crate) fn instance_of(
     ensures { IfOk result (λ instance. option_map (λ objects. objects.items) instance ≡ spec.instance_of candidate.now atom.now) }
 {
     match part_of(candidate.parts.as_slice(), atom) {
-        Some(part) => Ok(Some(objects_at(
-            alloc,
-            part.places.as_slice(),
-            atom.objects.as_slice(),
-        )?)),
+        Some(part) => Ok(Some(objects_at(alloc, part.places.as_slice(), atom.objects.as_slice())?)),
         None => Ok(None),
     }
 }
