@@ -141,9 +141,9 @@ module _ (task : Normal) (parameters : ℕ) (first : Part) (is : IsPartFor task 
           as_many = many;
           all = omega (arith, many, old, all-new, all-old, all);
           within = λ place there. part_is.within place (elim (among_which place new counted there) [
-              | inl front ↦ among_left place part.places counted (kept_place place front)
-              | inr last ↦ among_right place part.places counted last
-            ]);
+            | inl front ↦ among_left place part.places counted (kept_place place front)
+            | inr last ↦ among_right place part.places counted last
+          ]);
           once = once_append new counted renamed-once (once_behind part.places counted part_is.once) (λ place front last. once_apart part.places counted part_is.once place (kept_place place front) last);
         }
 
@@ -205,9 +205,9 @@ rising_put part (first ∷ more) new is = by (nat_lt part.predicate first.predic
     below not-before other there =
         let from = map_source (λ (p : Part). p.predicate) (put_in part more) other there in
         subst (λ n. first.predicate < n) from.gives (elim (put_among part more from.source from.among) [
-            | inl new-one ↦ subst (λ (p : Part). first.predicate < p.predicate) new-one (before-part (ltb-false part.predicate first.predicate not-before))
-            | inr old ↦ below_rising first.predicate (predicates more) is from.source.predicate (among_map (λ (p : Part). p.predicate) from.source more old)
-          ])
+          | inl new-one ↦ subst (λ (p : Part). first.predicate < p.predicate) new-one (before-part (ltb-false part.predicate first.predicate not-before))
+          | inr old ↦ below_rising first.predicate (predicates more) is from.source.predicate (among_map (λ (p : Part). p.predicate) from.source more old)
+        ])
       where
         before-part : first.predicate ≤ part.predicate → first.predicate < part.predicate
         before-part low = let differ = apart in omega (arith, low, differ)
@@ -360,9 +360,9 @@ module _ (task : Normal) (candidate : Candidate) (formed : is_well_formed task c
   once_new_parts =
       once_flat_map (parts_of task candidate.parameters) (filter is_new (changing task)) (once_filter is_new (changing task) (once_changing task)) (λ predicate there. once_parts task candidate.parameters predicate)
       (λ x y part in-x in-y of-x of-y.
-          let kept-x = filter_among is_new x (changing task) in-x in
-          let kept-y = filter_among is_new y (changing task) in-y in
-          sym (parts_facts task candidate.parameters x part (changing_facts task x kept-x.0) of-x).1 ∙ (parts_facts task candidate.parameters y part (changing_facts task y kept-y.0) of-y).1)
+      let kept-x = filter_among is_new x (changing task) in-x in
+      let kept-y = filter_among is_new y (changing task) in-y in
+      sym (parts_facts task candidate.parameters x part (changing_facts task x kept-x.0) of-x).1 ∙ (parts_facts task candidate.parameters y part (changing_facts task y kept-y.0) of-y).1)
 
   extensions-are : extensions task candidate ≡ map (with_part task candidate) new_parts
   unfolding is_new new_parts
@@ -466,9 +466,9 @@ pub few_parts : (task : Normal) (candidate : Candidate) → is_well_formed task 
 few_parts task candidate formed =
     let facts = formed_facts task candidate formed in
     let fewer = no_longer (predicates candidate.parts) (range_with_len 0 (length task.predicates)) (once_rising (predicates candidate.parts) facts.by_predicate) (λ predicate there.
-        let from = map_source (λ (part : Part). part.predicate) candidate.parts predicate there in
-        let below = subst (λ p. p < length task.predicates) from.gives (changing_below task from.source.predicate (facts.each from.source from.among).changes) in
-        range_among 0 (length task.predicates) predicate (omega arith) (omega (arith, below))) in
+    let from = map_source (λ (part : Part). part.predicate) candidate.parts predicate there in
+    let below = subst (λ p. p < length task.predicates) from.gives (changing_below task from.source.predicate (facts.each from.source from.among).changes) in
+    range_among 0 (length task.predicates) predicate (omega arith) (omega (arith, below))) in
     let many = length-map candidate.parts (λ (part : Part). part.predicate) in
     let all = length-range 0 (length task.predicates) in
     omega (arith, fewer, many, all)

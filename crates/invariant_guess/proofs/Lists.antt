@@ -29,9 +29,10 @@ once_filter test (x ∷ xs) once = by (cases_Bool (test x)) (once_filter test xs
 
 pub once_map : {X Y : Type 0} (f : X → Y) (xs : List X) → ((x y : X) → Among x xs → Among y xs → f x ≡ f y → x ≡ y) → Once xs → Once (map f xs)
 once_map f [] apart once = tt
-once_map f (x ∷ xs) apart once =
-    (λ there. let from = map_source f xs (f x) there in once.0 (subst (λ y. Among y xs) (sym (apart x from.source (inl refl) (inr from.among) (sym from.gives))) from.among),
-        once_map f xs (λ a b in-a in-b. apart a b (inr in-a) (inr in-b)) once.1)
+once_map f (x ∷ xs) apart once = (
+  λ there. let from = map_source f xs (f x) there in once.0 (subst (λ y. Among y xs) (sym (apart x from.source (inl refl) (inr from.among) (sym from.gives))) from.among),
+  once_map f xs (λ a b in-a in-b. apart a b (inr in-a) (inr in-b)) once.1,
+)
 
 pub once_flat_map : {X Y : Type 0} (f : X → List Y) (xs : List X) → Once xs → ((x : X) → Among x xs → Once (f x)) →
     ((x y : X) (item : Y) → Among x xs → Among y xs → Among item (f x) → Among item (f y) → x ≡ y) → Once (flat_map f xs)
@@ -39,7 +40,7 @@ once_flat_map f [] once each apart = tt
 once_flat_map f (x ∷ xs) once each apart =
     once_append (f x) (flat_map f xs) (each x (inl refl)) (once_flat_map f xs once.1 (λ y there. each y (inr there)) (λ a b item in-a in-b. apart a b item (inr in-a) (inr in-b)))
     (λ item here behind. let piece = flat_map_piece f xs item behind in
-        once.0 (subst (λ y. Among y xs) (sym (apart x piece.source item (inl refl) (inr piece.among) here piece.inside)) piece.among))
+    once.0 (subst (λ y. Among y xs) (sym (apart x piece.source item (inl refl) (inr piece.among) here piece.inside)) piece.among))
 
 -- tests that say the same of each item keep the same items
 pub same_filter : {X : Type 0} (test other : X → Bool) (xs : List X) → ((x : X) → Among x xs → test x ≡ other x) → filter test xs ≡ filter other xs

@@ -88,12 +88,12 @@ once_orders places zero once = (λ none. none, tt)
 once_orders places (suc count) once =
     once_flat_map (λ place. map (λ others. place ∷ others) (orders (without place places) count)) places once
     (λ place there. once_map (λ others. place ∷ others) (orders (without place places) count) (λ x y in-x in-y same. let tails : x ≡ y = cc same in tails)
-        (once_orders (without place places) count (once_filter (λ o. not (nat_eq o place)) places once)))
+    (once_orders (without place places) count (once_filter (λ o. not (nat_eq o place)) places once)))
     (λ x y item in-x in-y of-x of-y.
-        let from-x = map_source (λ others. x ∷ others) (orders (without x places) count) item of-x in
-        let from-y = map_source (λ others. y ∷ others) (orders (without y places) count) item of-y in
-        let both : x ∷ from-x.source ≡ y ∷ from-y.source = from-x.gives ∙ sym from-y.gives in
-        let heads : x ≡ y = cc both in heads)
+    let from-x = map_source (λ others. x ∷ others) (orders (without x places) count) item of-x in
+    let from-y = map_source (λ others. y ∷ others) (orders (without y places) count) item of-y in
+    let both : x ∷ from-x.source ≡ y ∷ from-y.source = from-x.gives ∙ sym from-y.gives in
+    let heads : x ≡ y = cc both in heads)
 
 -- ---- the places that are left
 
@@ -176,9 +176,9 @@ counting_part task predicate parameters counted part changes among counting =
       as_many = counting.order.as_many;
       all = omega (arith, many, as_many, left, all, arity_is);
       within = λ place there. subst (λ a. place < a) (sym arity_is) (elim (among_which place part.places (option_to_list counted) (subst (Among place) used there)) [
-          | inl first ↦ left_below arity counted place (counting.order.among place first)
-          | inr last ↦ counted_below arity counted place among last
-        ]);
+        | inl first ↦ left_below arity counted place (counting.order.among place first)
+        | inr last ↦ counted_below arity counted place among last
+      ]);
       once = subst Once (sym used) (once_append part.places (option_to_list counted) counting.order.once (once_list counted) (λ place first last. left_apart arity counted place (counting.order.among place first) last));
     }
 
@@ -209,9 +209,10 @@ module _ (predicate arity parameters : ℕ) (counted : Option ℕ) where
       by false = tt
 
 once_countings : (arity : ℕ) → Once (countings arity)
-once_countings arity =
-    (λ there. let from = map_source (λ (n : ℕ). Some n) (range_with_len 0 arity) None there in let same = from.gives in cc same,
-        once_map (λ (n : ℕ). Some n) (range_with_len 0 arity) (λ x y in-x in-y same. let is : x ≡ y = cc same in is) (once_range 0 arity))
+once_countings arity = (
+  λ there. let from = map_source (λ (n : ℕ). Some n) (range_with_len 0 arity) None there in let same = from.gives in cc same,
+  once_map (λ (n : ℕ). Some n) (range_with_len 0 arity) (λ x y in-x in-y same. let is : x ≡ y = cc same in is) (once_range 0 arity),
+)
 
 pub parts_facts : (task : Normal) (parameters predicate : ℕ) (part : Part) → is_changing task predicate ≡ true → Among part (parts_of task parameters predicate) → IsPartFor task parameters part × (part.predicate ≡ predicate)
 parts_facts task parameters predicate part changes there =
@@ -268,11 +269,11 @@ unfolding first_part
 once_one_predicate task =
     once_flat_map (λ predicate. map (with_one predicate (arity_of task predicate)) (countings (arity_of task predicate))) (changing task) (once_changing task)
     (λ predicate there. once_map (with_one predicate (arity_of task predicate)) (countings (arity_of task predicate))
-        (λ x y in-x in-y same. ap (λ (part : Part). part.counted) (firsts predicate predicate x y same)) (once_countings (arity_of task predicate)))
+    (λ x y in-x in-y same. ap (λ (part : Part). part.counted) (firsts predicate predicate x y same)) (once_countings (arity_of task predicate)))
     (λ x y item in-x in-y of-x of-y.
-        let from-x = map_source (with_one x (arity_of task x)) (countings (arity_of task x)) item of-x in
-        let from-y = map_source (with_one y (arity_of task y)) (countings (arity_of task y)) item of-y in
-        ap (λ (part : Part). part.predicate) (firsts x y from-x.source from-y.source (from-x.gives ∙ sym from-y.gives)))
+    let from-x = map_source (with_one x (arity_of task x)) (countings (arity_of task x)) item of-x in
+    let from-y = map_source (with_one y (arity_of task y)) (countings (arity_of task y)) item of-y in
+    ap (λ (part : Part). part.predicate) (firsts x y from-x.source from-y.source (from-x.gives ∙ sym from-y.gives)))
   where
     firsts : (x y : ℕ) (a b : Option ℕ) → with_one x (arity_of task x) a ≡ with_one y (arity_of task y) b → only_part task x a ≡ only_part task y b
     firsts x y a b same = ap (λ (c : Candidate). first_part (only_part task x a) c.parts) same

@@ -41,9 +41,9 @@ module _ (task : Normal) where
       let new = new_to queue (repairs task candidate) in
       record {
         formed = λ other there. elim (among_which other queue new there) [
-            | inl old ↦ is.formed other old
-            | inr added ↦ repair_formed task candidate formed other (filter_among (λ (c : Candidate). not (is_among queue c)) other (repairs task candidate) added).0
-          ];
+          | inl old ↦ is.formed other old
+          | inr added ↦ repair_formed task candidate formed other (filter_among (λ (c : Candidate). not (is_among queue c)) other (repairs task candidate) added).0
+        ];
         once = once_append queue new is.once (once_filter (λ (c : Candidate). not (is_among queue c)) (repairs task candidate) (once_repairs task candidate formed)) (λ c old added. not_in queue (repairs task candidate) c added old);
       }
 
@@ -233,10 +233,10 @@ module _ (task : Normal) where
   unfolding all_grown
   no_more number =
       no_longer (turn task number) all_grown (turn_queue number).once (λ candidate there.
-          let is = turn_grown number candidate there in
-          let few = few_parts task candidate ((turn_queue number).formed candidate there) in
-          let many = is.many in
-          among_flat_map grown is.more candidate (range_with_len 0 (length task.predicates)) (range_among 0 (length task.predicates) is.more (omega arith) (omega (arith, few, many))) is.among)
+      let is = turn_grown number candidate there in
+      let few = few_parts task candidate ((turn_queue number).formed candidate there) in
+      let many = is.many in
+      among_flat_map grown is.more candidate (range_with_len 0 (length task.predicates)) (range_among 0 (length task.predicates) is.more (omega arith) (omega (arith, few, many))) is.among)
 
   pub some_order : (order : List Candidate) × IsTrialOrder task order
   some_order =
@@ -286,9 +286,9 @@ module _ (task : Normal) where
       after before (Some candidate) at =
           let here = all_passes test candidate (turn task number) (slice_among (turn task number) number candidate at) before in
           each_passes test (turn task number ++ new_to (turn task number) (repairs task candidate)) (λ other in'. elim (among_which other (turn task number) (new_to (turn task number) (repairs task candidate)) in') [
-              | inl old ↦ all_passes test other (turn task number) old before
-              | inr new ↦ all_passes test other (repairs task candidate) (filter_among (λ (c : Candidate). not (is_among (turn task number) c)) other (repairs task candidate) new).0 (each candidate here)
-            ])
+            | inl old ↦ all_passes test other (turn task number) old before
+            | inr new ↦ all_passes test other (repairs task candidate) (filter_among (λ (c : Candidate). not (is_among (turn task number) c)) other (repairs task candidate) new).0 (each candidate here)
+          ])
 
   -- ---- what is found
 
@@ -297,7 +297,7 @@ module _ (task : Normal) where
       let tried = turn task found.tried in
       subst (λ (l : List Candidate). list_all (is_well_formed task) l ≡ true) (sym is.accepted)
       (each_passes (is_well_formed task) (filter (is_accepted task) (take found.tried tried)) (λ candidate in'.
-          (turn_queue found.tried).formed candidate (among_take found.tried tried candidate (filter_among (is_accepted task) candidate (take found.tried tried) in').0)))
+      (turn_queue found.tried).formed candidate (among_take found.tried tried candidate (filter_among (is_accepted task) candidate (take found.tried tried) in').0)))
 
   pub found_accepted : (max : ℕ) (found : Found) → IsFound task max found → list_all (is_accepted task) found.accepted ≡ true
   found_accepted max found is =

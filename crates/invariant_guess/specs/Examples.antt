@@ -54,7 +54,7 @@ abbrev pub back : Normal
 back =
     task (codes "a" ∷ codes "b" ∷ []) (predicate (codes "p") 1 ∷ predicate (codes "q") 1 ∷ [])
     (schema (codes "act") ((0 ∷ 1 ∷ []) ∷ (0 ∷ 1 ∷ []) ∷ []) (Holds true 1 (Variable 0 ∷ []) ∷ [])
-        (effect true 0 (Variable 0 ∷ []) ∷ effect false 1 (Variable 0 ∷ []) ∷ effect true 1 (Variable 1 ∷ []) ∷ []) ∷ [])
+    (effect true 0 (Variable 0 ∷ []) ∷ effect false 1 (Variable 0 ∷ []) ∷ effect true 1 (Variable 1 ∷ []) ∷ []) ∷ [])
 
 -- one `q` at a time
 abbrev pub one_q : Candidate
@@ -65,7 +65,7 @@ abbrev pub bell : Normal
 bell =
     task (codes "l1" ∷ codes "l2" ∷ codes "l3" ∷ codes "l4" ∷ []) (predicate (codes "at") 1 ∷ predicate (codes "rung") 0 ∷ [])
     (schema (codes "move") ((0 ∷ 1 ∷ 2 ∷ 3 ∷ []) ∷ (0 ∷ 1 ∷ 2 ∷ 3 ∷ []) ∷ []) (Holds true 0 (Variable 0 ∷ []) ∷ []) (effect false 0 (Variable 0 ∷ []) ∷ effect true 0 (Variable 1 ∷ []) ∷ [])
-        ∷ schema (codes "ring") [] (Holds false 0 (Object 0 ∷ []) ∷ []) (effect true 1 [] ∷ []) ∷ [])
+    ∷ schema (codes "ring") [] (Holds false 0 (Object 0 ∷ []) ∷ []) (effect true 1 [] ∷ []) ∷ [])
 
 -- one place at a time
 abbrev pub one_place : Candidate
@@ -88,11 +88,11 @@ abbrev pub blocks : Normal
 blocks =
     task (codes "a" ∷ codes "b" ∷ codes "c" ∷ []) (predicate (codes "on") 2 ∷ predicate (codes "ontable") 1 ∷ predicate (codes "clear") 1 ∷ predicate (codes "handempty") 0 ∷ predicate (codes "holding") 1 ∷ [])
     (schema (codes "pick-up") (any_block ∷ []) (Holds true 2 x ∷ Holds true 1 x ∷ Holds true 3 [] ∷ []) (effect false 1 x ∷ effect false 2 x ∷ effect false 3 [] ∷ effect true 4 x ∷ [])
-        ∷ schema (codes "put-down") (any_block ∷ []) (Holds true 4 x ∷ []) (effect false 4 x ∷ effect true 2 x ∷ effect true 3 [] ∷ effect true 1 x ∷ [])
-        ∷ schema (codes "stack") (any_block ∷ any_block ∷ []) (Holds true 4 x ∷ Holds true 2 y ∷ []) (effect false 4 x ∷ effect false 2 y ∷ effect true 2 x ∷ effect true 3 [] ∷ effect true 0 x_and_y ∷ [])
-        ∷ schema (codes "unstack") (any_block ∷ any_block ∷ []) (Holds true 0 x_and_y ∷ Holds true 2 x ∷ Holds true 3 [] ∷ [])
-            (effect true 4 x ∷ effect true 2 y ∷ effect false 2 x ∷ effect false 3 [] ∷ effect false 0 x_and_y ∷ [])
-        ∷ [])
+    ∷ schema (codes "put-down") (any_block ∷ []) (Holds true 4 x ∷ []) (effect false 4 x ∷ effect true 2 x ∷ effect true 3 [] ∷ effect true 1 x ∷ [])
+    ∷ schema (codes "stack") (any_block ∷ any_block ∷ []) (Holds true 4 x ∷ Holds true 2 y ∷ []) (effect false 4 x ∷ effect false 2 y ∷ effect true 2 x ∷ effect true 3 [] ∷ effect true 0 x_and_y ∷ [])
+    ∷ schema (codes "unstack") (any_block ∷ any_block ∷ []) (Holds true 0 x_and_y ∷ Holds true 2 x ∷ Holds true 3 [] ∷ [])
+    (effect true 4 x ∷ effect true 2 y ∷ effect false 2 x ∷ effect false 3 [] ∷ effect false 0 x_and_y ∷ [])
+    ∷ [])
 
 -- the hand is empty or holds a block
 abbrev pub hand : Candidate

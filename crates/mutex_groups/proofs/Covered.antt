@@ -1,13 +1,13 @@
 -- The instance that covers an atom, weights and members as they are counted.
-use Rattle.std.proofs.Common.{◌≡◌, ℕ, zero, suc, ◌+◌, ◌<◌, Bool, true, false, not, ◌&&◌, ◌||◌, ◌++◌, List, [], ◌∷◌, Option, Some, None, map, take, length, nat_eq, get_or, refl, sym, ap, ◌∙◌, subst, arith, if◌then◌else◌, ◌⊎◌, inl, inr, append-nil}
+use Rattle.std.proofs.Common.{◌≡◌, ℕ, zero, suc, ◌+◌, ◌<◌, Bool, true, false, not, ◌&&◌, ◌||◌, ◌++◌, List, [], ◌∷◌, Option, Some, None, take, length, nat_eq, get_or, refl, sym, ap, ◌∙◌, subst, arith, if◌then◌else◌, append-nil}
 use Rattle.std.specs.List.{list_any, filter, find, range_with_len, slice_get}
 use Rattle.std.specs.Option.{option_map, option_map_or}
 use Rattle.std.specs.Cmp.Lexicographic.{pointwise}
-use Rattle.std.proofs.lemmas.Bool.{cases_Bool, true≢false, and_parts, not-true, eqb-true, eq-eqb, false_from_ne_true}
+use Rattle.std.proofs.lemmas.Bool.{true≢false, and_parts, not-true, eqb-true, eq-eqb}
 use Rattle.std.proofs.lemmas.List.{length-append}
 use Rattle.std.proofs.lemmas.List.Elements.{filter-append}
 use Rattle.std.proofs.lemmas.Cmp.{nat_list_eq_equiv}
-use Rattle.lists.proofs.Items.{Among, none_passes, any_passes, filter_yes, filter_no}
+use Rattle.lists.proofs.Items.{none_passes, any_passes, filter_yes, filter_no}
 use Rattle.lists.proofs.LoopSteps.{filter_next_kept, filter_next_left, range_next}
 use Rattle.names.specs.Names.{is_same}
 use Rattle.normal_task.specs.declared.task.GroundAtom.{GroundAtom}
@@ -16,11 +16,9 @@ use Rattle.relaxed_reach.specs.declared.types.Fact.{Fact}
 use Rattle.invariant_check.specs.declared.types.Candidate.{Candidate}
 use Rattle.invariant_check.specs.declared.types.Part.{Part}
 use Rattle.invariant_check.specs.Candidates.{at_positions, part_covers, covers}
-use Rattle.mutex_groups.specs.declared.tables.Weight.{Weight}
-use Rattle.mutex_groups.specs.declared.tables.Weight.TheVariants.{One, Several}
 use Rattle.mutex_groups.specs.Groups.{covers_fact, weight_among}
 use Rattle.mutex_groups.specs.WellFormed.{parts_differ}
-use Rattle.mutex_groups.specs.Found.{part_of, instance_of, told, told_more}
+use Rattle.mutex_groups.specs.Found.{instance_of, told, told_more}
 
 -- ---- the instance that covers an atom
 

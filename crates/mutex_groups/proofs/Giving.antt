@@ -1,20 +1,19 @@
 -- The groups that initial atoms give are all groups.
-use Rattle.std.proofs.Common.{◌≡◌, ℕ, zero, suc, ◌+◌, ◌<◌, Bool, true, false, not, ◌&&◌, ◌||◌, ◌++◌, List, [], ◌∷◌, Option, Some, None, map, take, length, nat_eq, nat_lt, get_or, refl, sym, ap, ◌∙◌, subst, arith, if◌then◌else◌, ◌⊎◌, inl, inr}
-use Rattle.std.specs.Prelude.{replicate, ◌↔◌}
+use Rattle.std.proofs.Common.{◌≡◌, ℕ, zero, suc, ◌<◌, Bool, true, false, not, ◌&&◌, ◌||◌, List, [], ◌∷◌, Option, Some, None, map, length, nat_eq, nat_lt, get_or, refl, sym, ap, ◌∙◌, subst, arith, if◌then◌else◌, inl, inr}
+use Rattle.std.specs.Prelude.{replicate}
 use Rattle.std.specs.List.{list_any, list_all, filter, find, range_with_len, slice_get, Contains, IsDistinct}
 use Rattle.std.specs.Option.{option_map, option_map_or}
-use Rattle.std.proofs.lemmas.Bool.{cases_Bool, true≢false, and_parts, and_from, eqb-true, eq-eqb, ne_eqb, ltb-true}
-use Rattle.std.proofs.lemmas.List.{length-map, take_all}
+use Rattle.std.proofs.lemmas.Bool.{true≢false, and_parts, and_from, eqb-true, eq-eqb, ne_eqb, ltb-true}
+use Rattle.std.proofs.lemmas.List.{length-map}
 use Rattle.std.proofs.lemmas.List.FromFn.{length-range_with_len, get_or-range_with_len}
 use Rattle.std.proofs.lemmas.Cmp.{nat_list_eq_equiv}
 use Rattle.lists.proofs.Items.{Among, among_at, among_contains, contains_among, among_map, among_flat_map, map_source, filter_among, any_passes, passing, Passing, all_passes, each_passes}
-use Rattle.lists.proofs.LoopSteps.{any_turn, any_last}
 use Rattle.names.specs.Names.{is_same}
 use Rattle.names.proofs.SameNames.{same_name}
 use Rattle.normal_task.specs.declared.task.GroundAtom.{GroundAtom}
 use Rattle.normal_task.specs.declared.task.Normal.{Normal}
 use Rattle.normal_task.specs.declared.task.PredicateRow.{PredicateRow}
-use Rattle.normal_task.specs.Lawful.{IsLawful, is_init, is_object, has_arity, has_row}
+use Rattle.normal_task.specs.Lawful.{IsLawful, is_init, is_object, has_row}
 use Rattle.normal_task.specs.Meaning.{choices}
 use Rattle.relaxed_reach.specs.declared.types.Fact.{Fact}
 use Rattle.relaxed_reach.specs.declared.types.Reached.{Reached}
@@ -25,8 +24,8 @@ use Rattle.invariant_check.specs.Extensions.{is_changing, arity_of}
 use Rattle.mutex_groups.specs.declared.tables.Weight.{Weight}
 use Rattle.mutex_groups.specs.Groups.{weight_among, covered_facts, IsInstance, IsGroup, AreGroups}
 use Rattle.mutex_groups.specs.WellFormed.{is_part, parts_differ, is_candidate}
-use Rattle.mutex_groups.specs.Found.{instance_of, told, is_one, weight_in, numbers_in, gives, covers_just, has_group, HoldsWeights, HoldsNumbers, AddsGroup}
-use Rattle.mutex_groups.proofs.Covered.{covers-is, covers-some}
+use Rattle.mutex_groups.specs.Found.{instance_of, told, is_one, numbers_in, gives, covers_just, has_group, HoldsWeights, HoldsNumbers, AddsGroup}
+use Rattle.mutex_groups.proofs.Covered.{covers-is}
 
 -- ---- what an atom gives
 

@@ -1,17 +1,15 @@
 -- Tables whose keys hold lists of numbers, after one key has got a value.
-use Rattle.std.proofs.Common.{◌≡◌, ℕ, Bool, true, false, ◌||◌, ◌++◌, List, [], ◌∷◌, Option, Some, None, map, refl, sym, ap, ◌∙◌, subst, if◌then◌else◌, ◌⊎◌, inl, inr}
+use Rattle.std.proofs.Common.{◌≡◌, ℕ, Bool, true, false, ◌||◌, ◌++◌, List, [], ◌∷◌, Option, Some, None, map, refl, sym, ap, ◌∙◌, subst, if◌then◌else◌}
 use Rattle.std.specs.Prelude.{unwrap_or}
 use Rattle.std.specs.List.{list_any, IsDistinct, AllByRecursion}
-use Rattle.std.specs.Option.{option_map, is_some}
+use Rattle.std.specs.Option.{option_map}
 use Rattle.std.specs.Map.{lookup, IsKeyTest, AreApart, KeepsOthers}
-use Rattle.std.proofs.lemmas.Bool.{cases_Bool, true≢false}
 use Rattle.std.proofs.lemmas.Cmp.{nat_list_eq_equiv}
 use Rattle.std.proofs.lemmas.List.{map_push}
 use Rattle.lists.proofs.Items.{any_map, any_append}
 use Rattle.names.specs.Names.{is_same}
 use Rattle.names.proofs.SameNames.{same_name}
 use Rattle.mutex_groups.specs.declared.tables.Weight.{Weight}
-use Rattle.mutex_groups.specs.declared.tables.Weight.TheVariants.{One, Several}
 use Rattle.mutex_groups.specs.Found.{told_more, weight_in, numbers_in}
 
 module _ {Key Value Told : Type 0} (held : Key → List ℕ) (tells : Value → Told) where

@@ -5,9 +5,7 @@ use Rattle.std.specs.List.{list_any, find}
 use Rattle.std.specs.Option.{option_map, option_map_or}
 use Rattle.names.specs.Names.{is_same}
 use Rattle.normal_task.specs.declared.task.GroundAtom.{GroundAtom}
-use Rattle.normal_task.specs.declared.task.Normal.{Normal}
 use Rattle.relaxed_reach.specs.declared.types.Fact.{Fact}
-use Rattle.relaxed_reach.specs.declared.types.Reached.{Reached}
 use Rattle.invariant_check.specs.declared.types.Candidate.{Candidate}
 use Rattle.invariant_check.specs.declared.types.Part.{Part}
 use Rattle.invariant_check.specs.Candidates.{at_positions}

@@ -21,6 +21,6 @@ pub returns : goal.returns
 returns c =
     found c.args.normal.now c.args.max c.loop-tried.queue.keys c.loop-tried.tried c.loop-tried.accepted.items c.from_vec.result c.loop-tried.invariant
     (λ more. elim c.loop-tried-test.branch [
-        | then-loop-tried-test+else-tried-len w ↦ omega (arith, w.len.ensures.len, w.if-tried-len.false)
-        | else-loop-tried-test w ↦ absurd (omega (arith, w.loop-tried-test.false, more))
-      ]) c.from_vec.ensures
+      | then-loop-tried-test+else-tried-len w ↦ omega (arith, w.len.ensures.len, w.if-tried-len.false)
+      | else-loop-tried-test w ↦ absurd (omega (arith, w.loop-tried-test.false, more))
+    ]) c.from_vec.ensures

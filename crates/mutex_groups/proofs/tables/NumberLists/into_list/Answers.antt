@@ -1,4 +1,4 @@
-use Rattle.std.proofs.Common.{◌≡◌, ◌∙◌, sym, ap, subst, nat_eq, rules}
+use Rattle.std.proofs.Common.{◌≡◌, ◌∙◌, sym, subst, nat_eq, rules}
 use Rattle.std.specs.List.{IsDistinct}
 use Rattle.std.specs.Cmp.Lexicographic.{pointwise}
 use Rattle.mutex_groups.proofs.KeyTables.{distinct-held}

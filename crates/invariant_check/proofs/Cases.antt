@@ -1,0 +1,89 @@
+-- A case that is built is the one of the definition.
+use Rattle.std.proofs.Common.{◌≡◌, ℕ, Bool, true, false, not, ◌&&◌, ◌||◌, List, [], ◌∷◌, ◌++◌, map, length, Result, refl, sym, ap, ◌∙◌, subst}
+use Rattle.std.specs.Prelude.{nat_eq, zip, IfOk}
+use Rattle.std.specs.List.{list_all}
+use Rattle.std.proofs.lemmas.Bool.{eq-eqb}
+use Rattle.normal_task.specs.declared.task.EffectRow.{EffectRow}
+use Rattle.normal_task.specs.declared.task.Literal.{Literal}
+use Rattle.normal_task.specs.declared.task.Literal.TheVariants.{Holds}
+use Rattle.normal_task.specs.declared.task.Normal.{Normal}
+use Rattle.normal_task.specs.declared.task.Place.{Place}
+use Rattle.normal_task.specs.declared.task.Place.TheVariants.{Object}
+use Rattle.normal_task.specs.declared.task.Schema.{Schema}
+use Rattle.normal_task.specs.Parts.{moved, moved_place}
+use Rattle.invariant_check.specs.declared.terms.Pair.{Pair}
+use Rattle.invariant_check.specs.declared.types.Candidate.{Candidate}
+use Rattle.invariant_check.specs.declared.types.Part.{Part}
+use Rattle.invariant_check.specs.Accepted.{denied, ranges_with, instance_of, is_light_beside, part_passes, is_listed, apart_from, with_terms, literal_with}
+use Rattle.invariant_check.specs.Attempts.{are_one_or_apart, leaves_deleted, is_at_instance, are_fitting, balances_given}
+use Rattle.invariant_check.specs.Candidates.{at_positions}
+use Rattle.invariant_check.specs.Contradictory.{is_contradictory, are_same_terms, has_contradiction, in_one_class, all_pairs, standing}
+use Rattle.invariant_check.specs.Merges.{as_pair, pair_of}
+use Rattle.invariant_check.specs.Renamings.{denied_atom}
+
+-- the answer to one test is that to another, where they are equal
+pub answers_too : {E : Type 0} (result : Result Bool E) (test other : Bool) → test ≡ other → IfOk result (λ answer. answer ≡ test) → IfOk result (λ answer. answer ≡ other)
+answers_too result test other same answer = subst (λ b. IfOk result (λ answer. answer ≡ b)) same answer
+
+pub pairs_zipped : (pairs : List (Place × Place)) → map as_pair (map pair_of pairs) ≡ pairs
+pairs_zipped [] = refl
+pairs_zipped (pair ∷ pairs) = ap (λ more. pair ∷ more) (pairs_zipped pairs)
+
+-- the pairs that were made of two lists of terms
+pub equated_is : (equated : List Pair) (left right : List Place) → equated ≡ map pair_of (zip left right) → map as_pair equated ≡ zip left right
+equated_is equated left right made = ap (map as_pair) made ∙ pairs_zipped (zip left right)
+
+pub same_case : (candidate : Candidate) (ranges ranges' : List (List ℕ)) (literals literals' : List Literal) (pairs pairs' : List (Place × Place)) (instance instance' : List Place) →
+    ranges ≡ ranges' → literals ≡ literals' → pairs ≡ pairs' → instance ≡ instance' → is_contradictory candidate ranges literals pairs instance ≡ is_contradictory candidate ranges' literals' pairs' instance'
+same_case candidate ranges ranges' literals literals' pairs pairs' instance instance' r l p i =
+    ap (λ ranges. is_contradictory candidate ranges literals pairs instance) r ∙ ap (λ literals. is_contradictory candidate ranges' literals pairs instance) l
+    ∙ ap (λ pairs. is_contradictory candidate ranges' literals' pairs instance) p ∙ ap (λ instance. is_contradictory candidate ranges' literals' pairs' instance) i
+
+-- by merges, or by the classes that they tell
+pub by_classes : (candidate : Candidate) (ranges : List (List ℕ)) (literals : List Literal) (pairs : List (Place × Place)) (instance : List Place) (same : Place → Place → Bool) →
+    same ≡ in_one_class (all_pairs literals pairs) → has_contradiction same candidate ranges literals (standing literals pairs instance) instance ≡ is_contradictory candidate ranges literals pairs instance
+by_classes candidate ranges literals pairs instance same tells = ap (λ same. has_contradiction same candidate ranges literals (standing literals pairs instance) instance) tells
+
+pub apart_by_classes : (candidate : Candidate) (ranges : List (List ℕ)) (literals : List Literal) (pairs : List (Place × Place)) (instance : List Place) (predicate : ℕ) (places : List Place) (other : ℕ) (others : List Place) (same : Place → Place → Bool) →
+    same ≡ in_one_class (all_pairs literals pairs) → (nat_eq predicate other && are_same_terms same places others) ≡ false →
+    has_contradiction same candidate ranges literals (standing literals pairs instance) instance ≡ are_one_or_apart candidate ranges literals pairs instance predicate places other others
+apart_by_classes candidate ranges literals pairs instance predicate places other others same tells two =
+    ap (λ b. b || has_contradiction same candidate ranges literals (standing literals pairs instance) instance) (sym two)
+    ∙ ap (λ same. nat_eq predicate other && are_same_terms same places others || has_contradiction same candidate ranges literals (standing literals pairs instance) instance) tells
+
+-- ---- two add effects
+
+module _ (candidate : Candidate) (schema : Schema) (part : Part) (e : EffectRow) (other : Part) (f : EffectRow) where
+  pub of_its_predicate : other.predicate ≡ f.predicate → is_light_beside candidate schema part e other f ≡ part_passes (is_light_beside candidate schema part e) f other
+  of_its_predicate same = ap (λ b. not b || is_light_beside candidate schema part e other f) (sym (eq-eqb other.predicate f.predicate same))
+
+  pub two_adds : (ranges : List (List ℕ)) (literals condition : List Literal) (pairs : List (Place × Place)) (instance second places : List Place) →
+      ranges ≡ ranges_with schema e f → condition ≡ map (moved (length schema.parameters) (length e.variables)) f.condition → places ≡ map (moved_place (length schema.parameters) (length e.variables)) f.places →
+      literals ≡ schema.condition ++ (e.condition ++ (condition ++ denied e ∷ denied_atom f.predicate places ∷ [])) → instance ≡ instance_of part e → second ≡ at_positions (Object 0) other.places places → pairs ≡ zip instance second →
+      are_one_or_apart candidate ranges literals pairs instance e.predicate e.places f.predicate places ≡ is_light_beside candidate schema part e other f
+  two_adds ranges literals condition pairs instance second places r c p l i s z =
+      ap (λ ranges. are_one_or_apart candidate ranges literals pairs instance e.predicate e.places f.predicate places) r
+      ∙ ap (λ literals. are_one_or_apart candidate (ranges_with schema e f) literals pairs instance e.predicate e.places f.predicate places) (l ∙ ap (λ condition. schema.condition ++ (e.condition ++ (condition ++ denied e ∷ denied_atom f.predicate places ∷ []))) c)
+      ∙ ap (λ pairs. of_pairs pairs instance places) (z ∙ ap (λ second. zip instance second) s)
+      ∙ ap (λ instance. of_pairs (zip instance (at_positions (Object 0) other.places places)) instance places) i
+      ∙ ap (λ places. of_pairs (zip (instance_of part e) (at_positions (Object 0) other.places places)) (instance_of part e) places) p
+    where
+      of_pairs : List (Place × Place) → List Place → List Place → Bool
+      of_pairs pairs instance places =
+          are_one_or_apart candidate (ranges_with schema e f) (schema.condition ++ (e.condition ++ (map (moved (length schema.parameters) (length e.variables)) f.condition ++ denied e ∷ denied_atom f.predicate places ∷ []))) pairs instance e.predicate e.places f.predicate places
+
+-- ---- a delete effect with terms for its own variables
+
+module _ (task : Normal) (candidate : Candidate) (schema : Schema) (e : EffectRow) (required : List Literal) (instance : List Place) (d : EffectRow) (given : List Place) where
+  abbrev can_balance : List Place → List Literal → Bool
+  can_balance places condition =
+      is_at_instance candidate instance d.predicate places && is_listed required (Holds true d.predicate places) && list_all (is_listed required) condition && are_fitting task (schema.parameters ++ e.variables) given d.variables
+
+  abbrev left_deleted : List Place → Bool
+  left_deleted places = list_all (λ a. leaves_deleted candidate schema e required instance d.predicate places (apart_from schema e a)) schema.effects
+
+  pub with_given : (places : List Place) (condition : List Literal) (can : Bool) → places ≡ map (with_terms (length schema.parameters) given) d.places → condition ≡ map (literal_with (length schema.parameters) given) d.condition →
+      can ≡ can_balance places condition → can ≡ true → left_deleted places ≡ balances_given task candidate schema e required instance d given
+  with_given places condition can p c is yes' =
+      ap (λ b. b && left_deleted places) (sym yes' ∙ is) ∙ ap (λ places. can_balance places condition && left_deleted places) p
+      ∙ ap (λ condition. can_balance (map (with_terms (length schema.parameters) given) d.places) condition && left_deleted (map (with_terms (length schema.parameters) given) d.places)) c

@@ -1,0 +1,13 @@
+pub mod Candidates
+pub mod Contradictory
+pub mod Accepted
+pub mod Extensions
+pub mod WellFormed
+pub mod Repairs
+pub mod Law
+pub mod Merges
+pub mod Renamings
+pub mod FirstFrom
+pub mod Common
+pub mod Attempts
+pub mod Examples

@@ -1,0 +1,452 @@
+// When a candidate is balanced: each add effect's atom is true already, or an atom of the same instance is deleted.
+ghost use Rattle.std.specs.Prelude.{◌≡◌, ◌++◌, ◌∷◌, [], ◌&&◌, not, nat_eq, true, drop, zip, length, IfOk};
+ghost use Rattle.std.specs.Cmp.Lexicographic.{pointwise};
+ghost use Rattle.std.specs.List.{list_all, list_any};
+ghost use Rattle.normal_task.specs.declared.task.Literal.TheVariants.{Holds};
+ghost use Rattle.normal_task.specs.declared.task.Place.TheVariants.{Object};
+ghost use Rattle.invariant_check.specs.Accepted as spec;
+ghost use Rattle.invariant_check.specs.Attempts as words;
+ghost use Rattle.invariant_check.specs.Candidates.{at_positions};
+ghost use Rattle.invariant_check.specs.Contradictory as terms;
+ghost use Rattle.invariant_check.specs.Merges.{as_pair, all_ranges};
+
+use crate::contradictory::{Case, is_contradictory, terms_at, zipped};
+use crate::light::{apart, ranges_of};
+use crate::ranges::Ranges;
+use crate::renaming::{Renamed, Renaming, push_denied, push_renamed, renamed_row};
+use crate::terms::{copy, is_same_place};
+use crate::tried::{are_fitting, tried};
+use crate::types::{Candidate, Part};
+use lists::List;
+use normal_task::{EffectRow, Literal, Normal, Place, Schema};
+use std::alloc::{AllocError, Global};
+
+/// An add effect of a schema: the literals that are required where it adds, and the terms of its instance.
+#[derive(Clone, Copy)]
+struct Add<'a> {
+    schema: &'a Schema,
+    row: &'a EffectRow,
+    required: &'a [Literal],
+    instance: &'a [Place],
+}
+
+// ---- literals that are required
+
+fn are_same_places(xs: &[Place], ys: &[Place]) -> bool
+    ensures { result ≡ pointwise terms.is_same_place xs.now ys.now }
+{
+    if xs.is_empty() {
+        ys.is_empty()
+    } else if ys.is_empty() {
+        false
+    } else {
+        is_same_place(&xs[0], &ys[0]) && are_same_places(&xs[1..], &ys[1..])
+    }
+}
+
+fn is_same_literal(one: &Literal, other: &Literal) -> bool
+    ensures { result ≡ spec.is_same_literal one.now other.now }
+{
+    match one {
+        Literal::Holds(positive, predicate, places) => match other {
+            Literal::Holds(other_positive, other, other_places) => {
+                *positive == *other_positive
+                    && *predicate == *other
+                    && are_same_places(places.as_slice(), other_places.as_slice())
+            }
+            Literal::Equal(_, _, _) => false,
+        },
+        Literal::Equal(positive, left, right) => match other {
+            Literal::Holds(_, _, _) => false,
+            Literal::Equal(other_positive, other_left, other_right) => {
+                *positive == *other_positive
+                    && is_same_place(left, other_left)
+                    && is_same_place(right, other_right)
+            }
+        },
+    }
+}
+
+fn is_listed(literals: &[Literal], literal: &Literal) -> bool
+    ensures { result ≡ spec.is_listed literals.now literal.now }
+{
+    literals.iter().any(|other| is_same_literal(literal, other))
+}
+
+fn are_listed(literals: &[Literal], some: &[Literal]) -> bool
+    ensures { result ≡ list_all (spec.is_listed literals.now) some.now }
+{
+    some.iter().all(|literal| is_listed(literals, literal))
+}
+
+/// The literal says that the atom of the predicate with these places is true.
+fn states(predicate: u64, places: &[Place], literal: &Literal) -> bool
+    ensures { result ≡ spec.is_same_literal (Holds true predicate places.now) literal.now }
+{
+    match literal {
+        Literal::Holds(positive, other, other_places) => {
+            *positive && predicate == *other && are_same_places(places, other_places.as_slice())
+        }
+        Literal::Equal(_, _, _) => false,
+    }
+}
+
+fn is_stated(literals: &[Literal], predicate: u64, places: &[Place]) -> bool
+    ensures { result ≡ spec.is_listed literals.now (Holds true predicate places.now) }
+{
+    literals
+        .iter()
+        .any(|literal| states(predicate, places, literal))
+}
+
+// ---- atoms of the instance
+
+/// The atom's places of the part are those of the instance.
+fn is_at(positions: &[u64], places: &[Place], instance: &[Place]) -> bool
+    ensures { result ≡ pointwise terms.is_same_place (at_positions (Object 0) positions.now places.now) instance.now }
+{
+    if positions.is_empty() {
+        instance.is_empty()
+    } else if instance.is_empty() {
+        false
+    } else {
+        is_same_place(&crate::terms::term_at(positions[0], places), &instance[0])
+            && is_at(&positions[1..], places, &instance[1..])
+    }
+}
+
+fn is_at_instance(
+    candidate: &Candidate,
+    instance: &[Place],
+    predicate: u64,
+    places: &[Place],
+) -> bool
+    ensures { result ≡ words.is_at_instance candidate.now instance.now predicate places.now }
+{
+    candidate.parts.as_slice().iter().any(|part| part.predicate == predicate
+        && is_at(part.places.as_slice(), places, instance))
+}
+
+fn has_predicate(candidate: &Candidate, predicate: u64) -> bool
+    ensures { result ≡ list_any (λ part. nat_eq part.predicate predicate) candidate.now.parts }
+{
+    candidate
+        .parts
+        .as_slice()
+        .iter()
+        .any(|part| part.predicate == predicate)
+}
+
+// ---- add effects that restore what is deleted
+
+/// What is required, the other effect's condition, and the negated atom of the add effect.
+fn added_beside(
+    alloc: Global,
+    add: &Add<'_>,
+    condition: &[Literal],
+) -> Result<Vec<Literal>, AllocError>
+    ensures { IfOk result (λ literals. literals.items ≡ add.now.required.now ++ (condition.now ++ spec.denied add.now.row.now ∷ [])) }
+{
+    let mut literals = Vec::new(alloc);
+    push_renamed(alloc, &mut literals, &Renaming::Kept, add.required)?;
+    push_renamed(alloc, &mut literals, &Renaming::Kept, condition)?;
+    push_denied(
+        alloc,
+        &mut literals,
+        add.row.predicate,
+        add.row.places.as_slice(),
+    )?;
+    Ok(literals)
+}
+
+/// The effect doesn't add the atom of the predicate with these places where the other adds.
+fn leaves_deleted(
+    alloc: Global,
+    candidate: &Candidate,
+    add: &Add<'_>,
+    predicate: u64,
+    places: &[Place],
+    row: &EffectRow,
+) -> Result<bool, AllocError>
+    ensures { IfOk result (λ answer. answer ≡ words.leaves_deleted candidate.now add.now.schema.now add.now.row.now add.now.required.now add.now.instance.now predicate places.now
+        (spec.apart_from add.now.schema.now add.now.row.now row.now)) }
+{
+    if !row.adds || row.predicate != predicate {
+        return Ok(true);
+    }
+    is_never_added(alloc, candidate, add, places, row)
+}
+
+/// The add effect never adds the atom of its predicate with these places where the other adds.
+fn is_never_added(
+    alloc: Global,
+    candidate: &Candidate,
+    add: &Add<'_>,
+    places: &[Place],
+    row: &EffectRow,
+) -> Result<bool, AllocError>
+    ensures { IfOk result (λ answer. answer ≡ terms.is_contradictory candidate.now (spec.ranges_with add.now.schema.now add.now.row.now row.now)
+        (add.now.required.now ++ ((spec.apart_from add.now.schema.now add.now.row.now row.now).condition ++ spec.denied add.now.row.now ∷ []))
+        (zip (spec.apart_from add.now.schema.now add.now.row.now row.now).places places.now) add.now.instance.now) }
+{
+    let beside = renamed_row(alloc, &apart(add.schema, add.row), row)?;
+    let literals = added_beside(alloc, add, beside.condition.as_slice())?;
+    let equated = zipped(alloc, beside.places.as_slice(), places)?;
+    let case = Case {
+        ranges: ranges_of(add.schema, add.row, row),
+        literals: literals.as_slice(),
+        equated: equated.as_slice(),
+        instance: add.instance,
+    };
+    is_contradictory(alloc, candidate, &case)
+}
+
+/// No effect of the schema restores the atom of the predicate with these places.
+fn is_left_deleted(
+    alloc: Global,
+    candidate: &Candidate,
+    add: &Add<'_>,
+    predicate: u64,
+    places: &[Place],
+) -> Result<bool, AllocError>
+    ensures { IfOk result (λ answer. answer ≡ list_all (λ a. words.leaves_deleted candidate.now add.now.schema.now add.now.row.now add.now.required.now add.now.instance.now predicate places.now
+        (spec.apart_from add.now.schema.now add.now.row.now a)) add.now.schema.now.effects) }
+{
+    for row in add.schema.effects.as_slice() {
+        if !leaves_deleted(alloc, candidate, add, predicate, places, row)? {
+            return Ok(false);
+        }
+    }
+    Ok(true)
+}
+
+// ---- delete effects
+
+/// The renamed delete effect is on an atom of the instance, it and its condition are required, and the terms fit.
+fn is_required(
+    normal: &Normal,
+    candidate: &Candidate,
+    add: &Add<'_>,
+    delete: &EffectRow,
+    given: &[Place],
+    row: &Renamed,
+) -> bool
+    ensures { result ≡ (words.is_at_instance candidate.now add.now.instance.now delete.now.predicate row.now.places && spec.is_listed add.now.required.now (Holds true delete.now.predicate row.now.places)
+        && list_all (spec.is_listed add.now.required.now) row.now.condition.items && words.are_fitting normal.now (add.now.schema.now.parameters ++ add.now.row.now.variables) given.now delete.now.variables) }
+{
+    is_at_instance(
+        candidate,
+        add.instance,
+        delete.predicate,
+        row.places.as_slice(),
+    ) && is_stated(add.required, delete.predicate, row.places.as_slice())
+        && are_listed(add.required, row.condition.as_slice())
+        && are_fitting(
+            normal,
+            &ranges_of_add(add),
+            given,
+            delete.variables.as_slice(),
+        )
+}
+
+/// The delete effect, with these terms for its own variables, balances the add effect.
+fn balances_given(
+    alloc: Global,
+    normal: &Normal,
+    candidate: &Candidate,
+    add: &Add<'_>,
+    delete: &EffectRow,
+    given: &[Place],
+) -> Result<bool, AllocError>
+    ensures { IfOk result (λ answer. answer ≡ words.balances_given normal.now candidate.now add.now.schema.now add.now.row.now add.now.required.now add.now.instance.now delete.now given.now) }
+{
+    let parameters = add.schema.parameters.as_slice().len() as u64;
+    let row = renamed_row(alloc, &Renaming::Given(parameters, given), delete)?;
+    if !is_required(normal, candidate, add, delete, given, &row) {
+        return Ok(false);
+    }
+    is_left_deleted(
+        alloc,
+        candidate,
+        add,
+        delete.predicate,
+        row.places.as_slice(),
+    )
+}
+
+/// The ranges of the parameters and of the add effect's variables.
+fn ranges_of_add<'a>(add: &Add<'a>) -> Ranges<'a>
+    ensures ranges { all_ranges result ≡ add.now.schema.now.parameters ++ add.now.row.now.variables }
+    ensures parameters { result.parameters.now ≡ add.now.schema.now.parameters }
+{
+    Ranges {
+        parameters: add.schema.parameters.as_slice(),
+        first: add.row.variables.as_slice(),
+        second: &[],
+    }
+}
+
+/// The terms with one more.
+fn with_term(alloc: Global, given: &[Place], term: &Place) -> Result<Vec<Place>, AllocError>
+    ensures { IfOk result (λ longer. longer.items ≡ given.now ++ term.now ∷ []) }
+{
+    let mut longer = Vec::new(alloc);
+    crate::contradictory::push_copies(&mut longer, given)?;
+    longer.push(copy(term))?;
+    Ok(longer)
+}
+
+/// The delete effect balances the add effect with these terms for so many of its variables, and some of those that are
+/// tried for the others.
+fn balances_from(
+    alloc: Global,
+    normal: &Normal,
+    candidate: &Candidate,
+    add: &Add<'_>,
+    delete: &EffectRow,
+    given: &[Place],
+    tried: &[List<Place>],
+    variable: usize,
+) -> Result<bool, AllocError>
+    ensures { IfOk result (λ answer. answer ≡ list_any (λ others. words.balances_given normal.now candidate.now add.now.schema.now add.now.row.now add.now.required.now add.now.instance.now delete.now (given.now ++ others))
+        (spec.each_choice (drop variable tried.now))) }
+{
+    if variable >= tried.len() {
+        return balances_given(alloc, normal, candidate, add, delete, given);
+    }
+    for term in tried[variable].as_slice() {
+        let longer = with_term(alloc, given, term)?;
+        if balances_from(
+            alloc,
+            normal,
+            candidate,
+            add,
+            delete,
+            longer.as_slice(),
+            tried,
+            variable + 1,
+        )? {
+            return Ok(true);
+        }
+    }
+    Ok(false)
+}
+
+/// The effect deletes an atom of the candidate's predicates, and balances the add effect.
+fn balances(
+    alloc: Global,
+    normal: &Normal,
+    candidate: &Candidate,
+    add: &Add<'_>,
+    row: &EffectRow,
+) -> Result<bool, AllocError>
+    ensures { IfOk result (λ answer. answer ≡ words.balances_somehow normal.now candidate.now add.now.schema.now add.now.row.now add.now.required.now add.now.instance.now row.now) }
+{
+    if row.adds || !has_predicate(candidate, row.predicate) {
+        return Ok(false);
+    }
+    let tried = tried(alloc, normal, &ranges_of_add(add), add.required, row)?;
+    balances_from(alloc, normal, candidate, add, row, &[], tried.as_slice(), 0)
+}
+
+fn some_balances(
+    alloc: Global,
+    normal: &Normal,
+    candidate: &Candidate,
+    add: &Add<'_>,
+) -> Result<bool, AllocError>
+    ensures { IfOk result (λ answer. answer ≡ list_any (words.balances_somehow normal.now candidate.now add.now.schema.now add.now.row.now add.now.required.now add.now.instance.now) add.now.schema.now.effects) }
+{
+    for row in add.schema.effects.as_slice() {
+        if balances(alloc, normal, candidate, add, row)? {
+            return Ok(true);
+        }
+    }
+    Ok(false)
+}
+
+// ---- add effects
+
+/// The precondition joined with the effect's condition.
+fn required(alloc: Global, schema: &Schema, row: &EffectRow) -> Result<Vec<Literal>, AllocError>
+    ensures { IfOk result (λ literals. literals.items ≡ spec.required schema.now row.now) }
+{
+    let mut literals = Vec::new(alloc);
+    push_renamed(
+        alloc,
+        &mut literals,
+        &Renaming::Kept,
+        schema.condition.as_slice(),
+    )?;
+    push_renamed(
+        alloc,
+        &mut literals,
+        &Renaming::Kept,
+        row.condition.as_slice(),
+    )?;
+    Ok(literals)
+}
+
+/// Some delete effect balances the add effect.
+pub(crate) fn has_balance(
+    alloc: Global,
+    normal: &Normal,
+    candidate: &Candidate,
+    schema: &Schema,
+    part: &Part,
+    row: &EffectRow,
+) -> Result<bool, AllocError>
+    ensures { IfOk result (λ answer. answer ≡ spec.has_balance normal.now candidate.now schema.now part.now row.now) }
+{
+    let required = required(alloc, schema, row)?;
+    let instance = terms_at(alloc, part.places.as_slice(), row.places.as_slice())?;
+    let add = Add {
+        schema,
+        row,
+        required: required.as_slice(),
+        instance: instance.as_slice(),
+    };
+    some_balances(alloc, normal, candidate, &add)
+}
+
+/// The add effect never adds a false atom.
+fn is_never_new(
+    alloc: Global,
+    candidate: &Candidate,
+    schema: &Schema,
+    part: &Part,
+    row: &EffectRow,
+) -> Result<bool, AllocError>
+    ensures { IfOk result (λ answer. answer ≡ terms.is_contradictory candidate.now (schema.now.parameters ++ row.now.variables) (spec.required schema.now row.now ++ spec.denied row.now ∷ []) [] (spec.instance_of part.now row.now)) }
+{
+    let mut literals = required(alloc, schema, row)?;
+    push_denied(alloc, &mut literals, row.predicate, row.places.as_slice())?;
+    let instance = terms_at(alloc, part.places.as_slice(), row.places.as_slice())?;
+    let case = Case {
+        ranges: Ranges {
+            parameters: schema.parameters.as_slice(),
+            first: row.variables.as_slice(),
+            second: &[],
+        },
+        literals: literals.as_slice(),
+        equated: &[],
+        instance: instance.as_slice(),
+    };
+    is_contradictory(alloc, candidate, &case)
+}
+
+pub(crate) fn is_balanced_at(
+    alloc: Global,
+    normal: &Normal,
+    candidate: &Candidate,
+    schema: &Schema,
+    part: &Part,
+    row: &EffectRow,
+) -> Result<bool, AllocError>
+    ensures { IfOk result (λ answer. answer ≡ spec.is_balanced_at normal.now candidate.now schema.now part.now row.now) }
+{
+    if is_never_new(alloc, candidate, schema, part, row)? {
+        return Ok(true);
+    }
+    has_balance(alloc, normal, candidate, schema, part, row)
+}

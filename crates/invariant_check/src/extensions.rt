@@ -1,0 +1,364 @@
+// Candidates with one part, and those with one part more than a candidate.
+ghost use Rattle.std.specs.Prelude.{◌≡◌, ◌++◌, ◌∷◌, ◌≤◌, ◌-◌, [], not, nat_eq, nat_lt, length, map, get_or, take, IfOk, OnOk};
+ghost use Rattle.std.specs.List.{IsDistinct, filter, list_any, flat_map, range_with_len, position, position_or_len};
+ghost use Rattle.std.specs.Vec.{vec_len};
+ghost use Rattle.itertools.specs.Odometer.{ways};
+ghost use Rattle.itertools.specs.Pool.{permutation_can, permutation_left};
+ghost use Rattle.invariant_check.specs.Extensions as spec;
+
+use crate::types::{Candidate, Part, copies};
+use itertools::{Itertools, Permutations};
+use lists::List;
+use normal_task::Normal;
+use std::alloc::{AllocError, Global};
+
+/// Whether effects change the predicate: it is basic and not static.
+fn is_changing(normal: &Normal, predicate: u64) -> bool
+    ensures { result ≡ spec.is_changing normal.now predicate }
+{
+    match normal.predicates.as_slice().get(predicate as usize) {
+        Some(row) => !row.derived && !row.fixed,
+        None => false,
+    }
+}
+
+fn arity_of(normal: &Normal, predicate: u64) -> u64
+    ensures { result ≡ spec.arity_of normal.now predicate }
+{
+    match normal.predicates.as_slice().get(predicate as usize) {
+        Some(row) => row.arity,
+        None => 0,
+    }
+}
+
+/// The predicates that effects change, in their order.
+fn changing(alloc: Global, normal: &Normal) -> Result<Vec<u64>, AllocError>
+    ensures { IfOk result (λ predicates. predicates.items ≡ spec.changing normal.now) }
+{
+    let count = normal.predicates.as_slice().len() as u64;
+    (0..count)
+        .filter(|predicate| is_changing(normal, *predicate))
+        .collect(alloc)
+}
+
+fn is_counted(counted: Option<u64>, position: u64) -> bool
+    ensures { result ≡ spec.is_counted counted position }
+{
+    match counted {
+        Some(own) => position == own,
+        None => false,
+    }
+}
+
+/// The argument positions that are left to the parameters: all but the counted one.
+fn left_by(alloc: Global, arity: u64, counted: Option<u64>) -> Result<Vec<u64>, AllocError>
+    ensures { IfOk result (λ positions. positions.items ≡ spec.left_by arity counted) }
+{
+    (0..arity)
+        .filter(|position| !is_counted(counted, *position))
+        .collect(alloc)
+}
+
+/// The candidate with one part, each position but the counted one a parameter in its turn.
+fn with_one(
+    alloc: Global,
+    predicate: u64,
+    arity: u64,
+    counted: Option<u64>,
+) -> Result<Candidate, AllocError>
+    ensures { IfOk result (λ candidate. candidate ≡ spec.with_one predicate arity counted) }
+{
+    let places = left_by(alloc, arity, counted)?;
+    let parameters = places.len() as u64;
+    let mut parts = Vec::new(alloc);
+    parts.push(Part {
+        predicate,
+        places: List::from_vec(places),
+        counted,
+    })?;
+    Ok(Candidate {
+        parameters,
+        parts: List::from_vec(parts),
+    })
+}
+
+/// The candidates of one predicate: with no counted position, and then by the counted one.
+fn push_candidates(
+    alloc: Global,
+    candidates: &mut Vec<Candidate>,
+    predicate: u64,
+    arity: u64,
+) -> Result<(), AllocError>
+    ensures { OnOk result (candidates.new.items ≡ candidates.old.items ++ map (spec.with_one predicate arity) (spec.countings arity)) }
+{
+    candidates.push(with_one(alloc, predicate, arity, None)?)?;
+    for position in 0..arity {
+        candidates.push(with_one(alloc, predicate, arity, Some(position))?)?;
+    }
+    Ok(())
+}
+
+/// The candidates with one predicate, by predicate. Of one predicate, the one without a counted position comes first,
+/// and the others follow by counted position.
+pub fn one_predicate(alloc: Global, normal: &Normal) -> Result<List<Candidate>, AllocError>
+    ensures { IfOk result (λ candidates. candidates ≡ spec.one_predicate normal.now) }
+{
+    let predicates = changing(alloc, normal)?;
+    let mut candidates = Vec::new(alloc);
+    for predicate in predicates.as_slice() {
+        push_candidates(
+            alloc,
+            &mut candidates,
+            *predicate,
+            arity_of(normal, *predicate),
+        )?;
+    }
+    Ok(List::from_vec(candidates))
+}
+
+/// The orders of all the positions, compared from left to right.
+fn orders(alloc: Global, positions: &[u64]) -> Result<Permutations<u64, Global>, AllocError>
+    ensures can { IfOk result permutation_can }
+    ensures pool { IfOk result (λ made. made.pool.items ≡ positions.now) }
+    ensures places { IfOk result (λ made. permutation_left made ≡ ways (λ _. 0) (λ chosen. vec_len made.pool - length chosen) (length positions.now) []) }
+{
+    positions
+        .iter()
+        .copied()
+        .permutations(alloc, positions.len())
+}
+
+/// The parts of a predicate that have the parameters at these positions, in every order.
+fn push_orders(
+    alloc: Global,
+    parts: &mut Vec<Part>,
+    predicate: u64,
+    counted: Option<u64>,
+    positions: &[u64],
+) -> Result<(), AllocError>
+    requires { IsDistinct nat_eq positions.now }
+    ensures { OnOk result (parts.new.items ≡ parts.old.items ++ map (spec.part_at predicate counted) (spec.orders positions.now (length positions.now))) }
+{
+    for places in orders(alloc, positions)? {
+        parts.push(Part {
+            predicate,
+            places: List::from_vec(places?),
+            counted,
+        })?;
+    }
+    Ok(())
+}
+
+/// The parts of a predicate with this counted, for so many parameters.
+fn push_parts_counting(
+    alloc: Global,
+    parts: &mut Vec<Part>,
+    predicate: u64,
+    arity: u64,
+    parameters: u64,
+    counted: Option<u64>,
+) -> Result<(), AllocError>
+    ensures { OnOk result (parts.new.items ≡ parts.old.items ++ spec.parts_counting predicate arity parameters counted) }
+{
+    let positions = left_by(alloc, arity, counted)?;
+    if positions.len() as u64 == parameters {
+        push_orders(alloc, parts, predicate, counted, positions.as_slice())?;
+    }
+    Ok(())
+}
+
+/// The parts of a predicate for so many parameters.
+fn push_parts(
+    alloc: Global,
+    parts: &mut Vec<Part>,
+    normal: &Normal,
+    parameters: u64,
+    predicate: u64,
+) -> Result<(), AllocError>
+    ensures { OnOk result (parts.new.items ≡ parts.old.items ++ spec.parts_of normal.now parameters predicate) }
+{
+    let arity = arity_of(normal, predicate);
+    push_parts_counting(alloc, parts, predicate, arity, parameters, None)?;
+    for position in 0..arity {
+        push_parts_counting(alloc, parts, predicate, arity, parameters, Some(position))?;
+    }
+    Ok(())
+}
+
+fn has_predicate(candidate: &Candidate, predicate: u64) -> bool
+    ensures { result ≡ spec.has_predicate candidate.now predicate }
+{
+    candidate
+        .parts
+        .as_slice()
+        .iter()
+        .any(|part| part.predicate == predicate)
+}
+
+/// The predicates that effects change and of which the candidate has no part.
+fn others(alloc: Global, normal: &Normal, candidate: &Candidate) -> Result<Vec<u64>, AllocError>
+    ensures { IfOk result (λ predicates. predicates.items ≡ filter (λ predicate. not (spec.has_predicate candidate.now predicate)) (spec.changing normal.now)) }
+{
+    let predicates = changing(alloc, normal)?;
+    predicates
+        .as_slice()
+        .iter()
+        .copied()
+        .filter(|predicate| !has_predicate(candidate, *predicate))
+        .collect(alloc)
+}
+
+/// The parts that the candidate may be extended by.
+fn parts_beside(
+    alloc: Global,
+    normal: &Normal,
+    candidate: &Candidate,
+) -> Result<Vec<Part>, AllocError>
+    ensures { IfOk result (λ parts. parts.items ≡ flat_map (spec.parts_of normal.now candidate.now.parameters) (filter (λ predicate. not (spec.has_predicate candidate.now predicate)) (spec.changing normal.now))) }
+{
+    let predicates = others(alloc, normal, candidate)?;
+    let mut parts = Vec::new(alloc);
+    for predicate in predicates.as_slice() {
+        push_parts(alloc, &mut parts, normal, candidate.parameters, *predicate)?;
+    }
+    Ok(parts)
+}
+
+/// Where the first of the parts stands that have a higher predicate.
+fn first_above(parts: &[Part], predicate: u64) -> Option<usize>
+    ensures { result ≡ position (λ other. nat_lt predicate other.predicate) parts.now }
+{
+    parts.iter().position(|other| predicate < other.predicate)
+}
+
+/// The part put among the others, by predicate.
+fn put_in(alloc: Global, part: &Part, others: &[Part]) -> Result<Vec<Part>, AllocError>
+    ensures { IfOk result (λ parts. parts.items ≡ spec.put_in part.now others.now) }
+{
+    let mut parts = copies(alloc, others)?;
+    let place = first_above(others, part.predicate).unwrap_or(others.len());
+    parts.insert(place, part.copy(alloc)?)?;
+    Ok(parts)
+}
+
+fn has_place(part: &Part, position: u64) -> bool
+    ensures { result ≡ list_any (nat_eq position) part.now.places }
+{
+    part.places
+        .as_slice()
+        .iter()
+        .any(|place| position == *place)
+}
+
+/// The positions that the part's parameters take, from the lowest on.
+fn rising_places(alloc: Global, normal: &Normal, part: &Part) -> Result<Vec<u64>, AllocError>
+    ensures { IfOk result (λ places. places.items ≡ spec.rising_places normal.now part.now) }
+{
+    let arity = arity_of(normal, part.predicate);
+    (0..arity)
+        .filter(|position| has_place(part, *position))
+        .collect(alloc)
+}
+
+/// The parameter that stands at this position.
+fn parameter_at(part: &Part, place: u64) -> Option<usize>
+    ensures { result ≡ position (nat_eq place) part.now.places }
+{
+    part.places
+        .as_slice()
+        .iter()
+        .position(|other| place == *other)
+}
+
+/// The position that a parameter takes.
+fn place_of(part: &Part, parameter: usize) -> u64
+    ensures { result ≡ get_or part.now.places parameter 0 }
+{
+    match part.places.as_slice().get(parameter) {
+        Some(place) => *place,
+        None => 0,
+    }
+}
+
+/// Where the part has the parameter that stands at this place of the first part.
+fn place_beside(first: &Part, part: &Part, place: u64) -> u64
+    ensures { result ≡ get_or part.now.places (position_or_len (nat_eq place) first.now.places) 0 }
+{
+    let parameter = parameter_at(first, place).unwrap_or(first.places.as_slice().len());
+    place_of(part, parameter)
+}
+
+/// The part with its parameters in the order in which the first part has them at these places.
+fn renamed(alloc: Global, rising: &[u64], first: &Part, part: &Part) -> Result<Part, AllocError>
+    ensures { IfOk result (λ named. named ≡ spec.renamed rising.now first.now part.now) }
+{
+    let places = rising
+        .iter()
+        .map(|place| place_beside(first, part, *place))
+        .collect(alloc)?;
+    Ok(Part {
+        predicate: part.predicate,
+        places: List::from_vec(places),
+        counted: part.counted,
+    })
+}
+
+fn all_renamed(
+    alloc: Global,
+    normal: &Normal,
+    first: &Part,
+    parts: &[Part],
+) -> Result<Vec<Part>, AllocError>
+    ensures { IfOk result (λ named. named.items ≡ map (spec.renamed (spec.rising_places normal.now first.now) first.now) parts.now) }
+{
+    let rising = rising_places(alloc, normal, first)?;
+    let mut named = Vec::new(alloc);
+    for part in parts {
+        named.push(renamed(alloc, rising.as_slice(), first, part)?)?;
+    }
+    Ok(named)
+}
+
+/// The parts with their parameters named such that the first part's places rise.
+fn in_form(alloc: Global, normal: &Normal, parts: &[Part]) -> Result<Vec<Part>, AllocError>
+    ensures { IfOk result (λ formed. formed.items ≡ spec.in_form normal.now parts.now) }
+{
+    match parts.first() {
+        None => Ok(Vec::new(alloc)),
+        Some(first) => all_renamed(alloc, normal, first, parts),
+    }
+}
+
+/// The candidate with this part more.
+fn with_part(
+    alloc: Global,
+    normal: &Normal,
+    candidate: &Candidate,
+    part: &Part,
+) -> Result<Candidate, AllocError>
+    ensures { IfOk result (λ extended. extended ≡ spec.with_part normal.now candidate.now part.now) }
+{
+    let parts = put_in(alloc, part, candidate.parts.as_slice())?;
+    let formed = in_form(alloc, normal, parts.as_slice())?;
+    Ok(Candidate {
+        parameters: candidate.parameters,
+        parts: List::from_vec(formed),
+    })
+}
+
+/// All candidates with one part more than this one, for another predicate: by the predicate of that part, what it
+/// counts, and its placement.
+pub(crate) fn extensions(
+    alloc: Global,
+    normal: &Normal,
+    candidate: &Candidate,
+) -> Result<List<Candidate>, AllocError>
+    ensures { IfOk result (λ candidates. candidates ≡ spec.extensions normal.now candidate.now) }
+{
+    let parts = parts_beside(alloc, normal, candidate)?;
+    let mut candidates = Vec::new(alloc);
+    for part in parts.as_slice() {
+        candidates.push(with_part(alloc, normal, candidate, part)?)?;
+    }
+    Ok(List::from_vec(candidates))
+}

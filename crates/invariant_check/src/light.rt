@@ -1,0 +1,235 @@
+// When a candidate is light: no two add effects of a schema add two atoms of one instance together.
+ghost use Rattle.std.specs.Prelude.{◌≡◌, ◌++◌, ◌∷◌, [], ◌&&◌, nat_eq, map, length, IfOk};
+ghost use Rattle.std.specs.List.{list_all};
+ghost use Rattle.invariant_check.specs.Accepted as spec;
+ghost use Rattle.invariant_check.specs.Attempts as words;
+ghost use Rattle.invariant_check.specs.Contradictory as terms;
+ghost use Rattle.invariant_check.specs.Merges.{as_pair, all_ranges, have_one_leader};
+ghost use Rattle.invariant_check.specs.Renamings.{denied_atom};
+ghost use Rattle.invariant_check.specs.declared.renaming.Renaming.TheVariants.{Apart};
+
+use crate::contradictory::{Case, are_same, classes, contradicts, terms_at, zipped};
+use crate::ranges::Ranges;
+use crate::renaming::{Renamed, Renaming, push_denied, push_renamed, renamed_row};
+use crate::terms::Pair;
+use crate::types::{Candidate, Part};
+use normal_task::{EffectRow, Literal, Normal, Place, Schema};
+use std::alloc::{AllocError, Global};
+
+/// The precondition, both conditions and both negated atoms. The second effect is on the predicate.
+fn both_added(
+    alloc: Global,
+    schema: &Schema,
+    row: &EffectRow,
+    predicate: u64,
+    beside: &Renamed,
+) -> Result<Vec<Literal>, AllocError>
+    ensures { IfOk result (λ literals. literals.items ≡ schema.now.condition ++ (row.now.condition ++ (beside.now.condition.items
+        ++ spec.denied row.now ∷ denied_atom predicate beside.now.places ∷ []))) }
+{
+    let mut literals = Vec::new(alloc);
+    push_renamed(
+        alloc,
+        &mut literals,
+        &Renaming::Kept,
+        schema.condition.as_slice(),
+    )?;
+    push_renamed(
+        alloc,
+        &mut literals,
+        &Renaming::Kept,
+        row.condition.as_slice(),
+    )?;
+    push_renamed(
+        alloc,
+        &mut literals,
+        &Renaming::Kept,
+        beside.condition.as_slice(),
+    )?;
+    push_denied(alloc, &mut literals, row.predicate, row.places.as_slice())?;
+    push_denied(alloc, &mut literals, predicate, beside.places.as_slice())?;
+    Ok(literals)
+}
+
+/// The atom of an add effect.
+#[derive(Clone, Copy)]
+struct AddedAtom<'a> {
+    predicate: u64,
+    places: &'a [Place],
+}
+
+/// The two are one atom, by the classes that the merges tell.
+fn are_one(merges: &[Pair], one: &AddedAtom<'_>, other: &AddedAtom<'_>) -> bool
+    ensures { result ≡ (nat_eq one.now.predicate other.now.predicate && terms.are_same_terms (have_one_leader merges.now) one.now.places.now other.now.places.now) }
+{
+    one.predicate == other.predicate && are_same(merges, one.places, other.places)
+}
+
+/// With the case's terms equated, the two are one atom, or are never added together.
+fn are_one_or_apart(
+    alloc: Global,
+    candidate: &Candidate,
+    case: &Case<'_>,
+    one: &AddedAtom<'_>,
+    other: &AddedAtom<'_>,
+) -> Result<bool, AllocError>
+    ensures { IfOk result (λ answer. answer ≡ words.are_one_or_apart candidate.now (all_ranges case.now.ranges) case.now.literals.now (map as_pair case.now.equated.now) case.now.instance.now
+        one.now.predicate one.now.places.now other.now.predicate other.now.places.now) }
+{
+    let merges = classes(alloc, case.literals, case.equated)?;
+    if are_one(merges.as_slice(), one, other) {
+        return Ok(true);
+    }
+    contradicts(alloc, merges.as_slice(), candidate, case)
+}
+
+/// The ranges of the schema's parameters and of the variables of two of its effects.
+pub(crate) fn ranges_of<'a>(
+    schema: &'a Schema,
+    first: &'a EffectRow,
+    second: &'a EffectRow,
+) -> Ranges<'a>
+    ensures { all_ranges result ≡ schema.now.parameters ++ (first.now.variables ++ second.now.variables) }
+{
+    Ranges {
+        parameters: schema.parameters.as_slice(),
+        first: first.variables.as_slice(),
+        second: second.variables.as_slice(),
+    }
+}
+
+/// The second effect's variables are numbered behind those of the first.
+pub(crate) fn apart(schema: &Schema, first: &EffectRow) -> Renaming<'static>
+    ensures { result ≡ Apart (length schema.now.parameters) (length first.now.variables) }
+{
+    Renaming::Apart(
+        schema.parameters.as_slice().len() as u64,
+        first.variables.as_slice().len() as u64,
+    )
+}
+
+/// An add effect of a schema, with the part of its predicate.
+#[derive(Clone, Copy)]
+struct Add<'a> {
+    part: &'a Part,
+    row: &'a EffectRow,
+}
+
+/// The two add effects are light beside each other, if the second part is of its effect's predicate.
+fn are_light(
+    alloc: Global,
+    candidate: &Candidate,
+    schema: &Schema,
+    one: &Add<'_>,
+    other: &Add<'_>,
+) -> Result<bool, AllocError>
+    ensures { IfOk result (λ answer. answer ≡ spec.part_passes (spec.is_light_beside candidate.now schema.now one.now.part.now one.now.row.now) other.now.row.now other.now.part.now) }
+{
+    if other.part.predicate != other.row.predicate {
+        return Ok(true);
+    }
+    let beside = renamed_row(alloc, &apart(schema, one.row), other.row)?;
+    let literals = both_added(alloc, schema, one.row, other.row.predicate, &beside)?;
+    let instance = terms_at(alloc, one.part.places.as_slice(), one.row.places.as_slice())?;
+    let second = terms_at(
+        alloc,
+        other.part.places.as_slice(),
+        beside.places.as_slice(),
+    )?;
+    let equated = zipped(alloc, instance.as_slice(), second.as_slice())?;
+    let case = Case {
+        ranges: ranges_of(schema, one.row, other.row),
+        literals: literals.as_slice(),
+        equated: equated.as_slice(),
+        instance: instance.as_slice(),
+    };
+    let first = AddedAtom {
+        predicate: one.row.predicate,
+        places: one.row.places.as_slice(),
+    };
+    let second = AddedAtom {
+        predicate: other.row.predicate,
+        places: beside.places.as_slice(),
+    };
+    are_one_or_apart(alloc, candidate, &case, &first, &second)
+}
+
+/// The add effect is light beside the other one, with each part of its predicate.
+fn is_light_beside_row(
+    alloc: Global,
+    candidate: &Candidate,
+    schema: &Schema,
+    one: &Add<'_>,
+    row: &EffectRow,
+) -> Result<bool, AllocError>
+    ensures { IfOk result (λ answer. answer ≡ list_all (spec.part_passes (spec.is_light_beside candidate.now schema.now one.now.part.now one.now.row.now) row.now) candidate.now.parts) }
+{
+    for part in candidate.parts.as_slice() {
+        if !are_light(alloc, candidate, schema, one, &Add { part, row })? {
+            return Ok(false);
+        }
+    }
+    Ok(true)
+}
+
+/// The add effect is light beside each add effect of the schema.
+fn is_light_add(
+    alloc: Global,
+    candidate: &Candidate,
+    schema: &Schema,
+    one: &Add<'_>,
+) -> Result<bool, AllocError>
+    ensures { IfOk result (λ answer. answer ≡ spec.is_light_add candidate.now schema.now one.now.part.now one.now.row.now) }
+{
+    for row in schema.effects.as_slice() {
+        if row.adds && !is_light_beside_row(alloc, candidate, schema, one, row)? {
+            return Ok(false);
+        }
+    }
+    Ok(true)
+}
+
+/// The effect, an add, is light beside each add effect of the schema.
+fn is_light_row(
+    alloc: Global,
+    candidate: &Candidate,
+    schema: &Schema,
+    row: &EffectRow,
+) -> Result<bool, AllocError>
+    ensures { IfOk result (λ answer. answer ≡ list_all (spec.part_passes (spec.is_light_add candidate.now schema.now) row.now) candidate.now.parts) }
+{
+    for part in candidate.parts.as_slice() {
+        if part.predicate == row.predicate
+            && !is_light_add(alloc, candidate, schema, &Add { part, row })?
+        {
+            return Ok(false);
+        }
+    }
+    Ok(true)
+}
+
+fn is_light_in(alloc: Global, candidate: &Candidate, schema: &Schema) -> Result<bool, AllocError>
+    ensures { IfOk result (λ answer. answer ≡ spec.is_light_in candidate.now schema.now) }
+{
+    for row in schema.effects.as_slice() {
+        if row.adds && !is_light_row(alloc, candidate, schema, row)? {
+            return Ok(false);
+        }
+    }
+    Ok(true)
+}
+
+pub(crate) fn is_light(
+    alloc: Global,
+    normal: &Normal,
+    candidate: &Candidate,
+) -> Result<bool, AllocError>
+    ensures { IfOk result (λ answer. answer ≡ spec.is_light normal.now candidate.now) }
+{
+    for schema in normal.schemas.as_slice() {
+        if !is_light_in(alloc, candidate, schema)? {
+            return Ok(false);
+        }
+    }
+    Ok(true)
+}
