@@ -61,10 +61,21 @@ fn has_parts(candidate: &Candidate, rows: &[PartRow]) -> bool {
 
 fn are_accepted(found: &Found, rows: &[&'static [PartRow]]) -> bool {
     let accepted = found.accepted.as_slice();
-    accepted.len() == rows.len() && accepted.iter().zip(rows).all(|(candidate, row)| has_parts(candidate, row))
+    accepted.len() == rows.len()
+        && accepted
+            .iter()
+            .zip(rows)
+            .all(|(candidate, row)| has_parts(candidate, row))
 }
 
-fn is_found(alloc: Global, domain: &str, problem: &str, max: u64, tried: u64, rows: &[&'static [PartRow]]) -> bool {
+fn is_found(
+    alloc: Global,
+    domain: &str,
+    problem: &str,
+    max: u64,
+    tried: u64,
+    rows: &[&'static [PartRow]],
+) -> bool {
     match found_for(alloc, domain, problem, max) {
         Some(found) => found.tried == tried && are_accepted(&found, rows),
         None => false,
@@ -73,6 +84,7 @@ fn is_found(alloc: Global, domain: &str, problem: &str, max: u64, tried: u64, ro
 
 static SWITCH: &str = "(define (domain switch) (:predicates (on) (off))
  (:action flip :parameters () :precondition (off) :effect (and (on) (not (off)))))";
+
 static ONE: &str = "(define (problem one) (:domain switch) (:init (off)) (:goal (on)))";
 
 static BLOCKS: &str = "(define (domain blocks)
@@ -85,19 +97,24 @@ static BLOCKS: &str = "(define (domain blocks)
   :effect (and (not (holding ?x)) (not (clear ?y)) (clear ?x) (handempty) (on ?x ?y)))
  (:action unstack :parameters (?x ?y) :precondition (and (on ?x ?y) (clear ?x) (handempty))
   :effect (and (holding ?x) (clear ?y) (not (clear ?x)) (not (handempty)) (not (on ?x ?y)))))";
+
 static THREE: &str = "(define (problem three) (:domain blocks) (:objects a b c)
  (:init (ontable a) (ontable b) (ontable c) (clear a) (clear b) (clear c) (handempty)) (:goal (and (on a b) (on b c))))";
 
 static BACK: &str = "(define (domain back) (:predicates (p ?x) (q ?x))
  (:action act :parameters (?x ?y) :precondition (q ?x) :effect (and (p ?x) (not (q ?x)) (q ?y))))";
+
 static TWO: &str = "(define (problem b) (:domain back) (:objects a b) (:init (q a)) (:goal (p b)))";
 
 static BELL: &str = "(define (domain bell) (:constants l1) (:predicates (at ?l) (rung))
  (:action move :parameters (?x ?y) :precondition (at ?x) :effect (and (not (at ?x)) (at ?y)))
  (:action ring :precondition (not (at l1)) :effect (rung)))";
-static RUNG: &str = "(define (problem b) (:domain bell) (:objects l2 l3 l4) (:init (at l1)) (:goal (rung)))";
 
-static GRIPPER: &str = "(define (domain gripper) (:requirements :strips :typing) (:types room ball gripper)
+static RUNG: &str =
+    "(define (problem b) (:domain bell) (:objects l2 l3 l4) (:init (at l1)) (:goal (rung)))";
+
+static GRIPPER: &str =
+    "(define (domain gripper) (:requirements :strips :typing) (:types room ball gripper)
  (:predicates (at-robby ?r - room) (at ?b - ball ?r - room) (free ?g - gripper) (carry ?b - ball ?g - gripper))
  (:action move :parameters (?from ?to - room) :precondition (at-robby ?from)
   :effect (and (at-robby ?to) (not (at-robby ?from))))
@@ -105,6 +122,7 @@ static GRIPPER: &str = "(define (domain gripper) (:requirements :strips :typing)
   :effect (and (carry ?b ?g) (not (at ?b ?r)) (not (free ?g))))
  (:action drop :parameters (?b - ball ?r - room ?g - gripper) :precondition (and (carry ?b ?g) (at-robby ?r))
   :effect (and (at ?b ?r) (free ?g) (not (carry ?b ?g)))))";
+
 static BALLS: &str = "(define (problem made) (:domain gripper)
  (:objects rooma roomb - room left right - gripper ball1 ball2 - ball)
  (:init (at-robby rooma) (free left) (free right) (at ball1 rooma) (at ball2 rooma))
@@ -113,23 +131,50 @@ static BALLS: &str = "(define (problem made) (:domain gripper)
 #[test]
 fn candidates_are_tried_and_accepted_as_worked_by_hand(rt: HostRuntime) {
     // The switch: off, and on with off.
-    assert!(rt; is_found(rt.alloc(), SWITCH, ONE, 100000, 3, &[&[(1, &[], None)], &[(0, &[], None), (1, &[], None)]]));
+    assert!(rt;
+        is_found(
+            rt.alloc(),
+            SWITCH,
+            ONE,
+            100000,
+            3,
+            &[&[(1, &[], None)], &[(0, &[], None), (1, &[], None)]]
+        )
+    );
     // Two alone: off.
     assert!(rt; is_found(rt.alloc(), SWITCH, ONE, 2, 2, &[&[(1, &[], None)]]));
     // Blocks: the hand, what is below a block, and what is above one.
-    assert!(rt; is_found(rt.alloc(), BLOCKS, THREE, 100000, 20, &[
-        &[(3, &[], None), (4, &[], Some(0))],
-        &[(0, &[0], Some(1)), (1, &[0], None), (4, &[0], None)],
-        &[(0, &[1], Some(0)), (2, &[0], None), (4, &[0], None)],
-    ]));
+    assert!(rt;
+        is_found(
+            rt.alloc(),
+            BLOCKS,
+            THREE,
+            100000,
+            20,
+            &[
+                &[(3, &[], None), (4, &[], Some(0))],
+                &[(0, &[0], Some(1)), (1, &[0], None), (4, &[0], None)],
+                &[(0, &[1], Some(0)), (2, &[0], None), (4, &[0], None)],
+            ]
+        )
+    );
     // What is taken from an object may be given back to it: one object has it at a time.
     assert!(rt; is_found(rt.alloc(), BACK, TWO, 100000, 4, &[&[(1, &[], Some(0))]]));
     // One place at a time.
     assert!(rt; is_found(rt.alloc(), BELL, RUNG, 100000, 3, &[&[(0, &[], Some(0))]]));
     // One room at a time; a ball is in a room or carried; a gripper is free or carries a ball.
-    assert!(rt; is_found(rt.alloc(), GRIPPER, BALLS, 100000, 12, &[
-        &[(0, &[], Some(0))],
-        &[(1, &[0], Some(1)), (3, &[0], Some(1))],
-        &[(2, &[0], None), (3, &[1], Some(0))],
-    ]));
+    assert!(rt;
+        is_found(
+            rt.alloc(),
+            GRIPPER,
+            BALLS,
+            100000,
+            12,
+            &[
+                &[(0, &[], Some(0))],
+                &[(1, &[0], Some(1)), (3, &[0], Some(1))],
+                &[(2, &[0], None), (3, &[1], Some(0))],
+            ]
+        )
+    );
 }
