@@ -15,9 +15,9 @@ ghost use Rattle.translator.specs.RunTask.{IsRunTask};
 ghost use Rattle.translator.specs.declared.outcome.End.TheVariants.{NoMemory};
 ghost use Rattle.translator.specs.Written.{IsSummaryOf, IsWritten, IsTextWhere, StopsWhere, StopsAt};
 
-use axiom_layers::layers;
 use crate::law::run_task_translates;
 use crate::outcome::{End, Summary};
+use axiom_layers::layers;
 use fdr_encoder::encode;
 use normal_task::laws::lawful;
 use normaliser::normalise;
