@@ -1,4 +1,4 @@
--- The variables in scope that a quantified condition asks for, and what it is cut into where none of its objects may do.
+-- The variables in scope that a quantified condition asks for.
 use Rattle.std.proofs.Common.{◌≡◌, ℕ, zero, suc, ◌+◌, ◌-◌, ◌<◌, Bool, true, false, not, ◌&&◌, ◌||◌, List, [], ◌∷◌, ◌++◌, take, drop, length, get_or, refl, sym, ap, ◌∙◌, arith}
 use Rattle.std.specs.Prelude.{if◌then◌else◌}
 use Rattle.std.specs.List.{list_any}
@@ -80,23 +80,3 @@ module _ (domain : Domain) (problem : Problem) (variables : List Typed) (inside 
       (before ∙ sym (slots-same _ _ (asked-behind left slot within is) (drop (left + 1) scope)))
       ∙ ap (λ (l : Scope). slots_for (asked left) l)
       (ap (λ (l : Scope). slot ∷ l) (ap (λ (n : ℕ). drop n scope) (sym more)) ∙ ap (λ (s : Slot). s ∷ drop (suc left) scope) is ∙ sym (drop-cons scope left slot within))
-
--- ---- where no objects may do
-
-module _ (domain : Domain) (problem : Problem) (scope : Scope) (around next : ℕ) (condition inside given : Condition) (variables listed : List Typed) (line : ℕ) (positive : Bool) (same_variables : listed ≡ variables) (same_inside : given ≡ inside) where
-  abbrev none_at : Bool → List Typed → Condition → Made Part
-  none_at sign list body = none_inside domain problem list (known domain problem body) sign scope 0 next
-
-  pub none-forall : condition ≡ conditions.Forall variables inside line → positive ≡ true → none_at false listed given ≡ parts domain problem condition positive scope around next
-  none-forall is sign =
-      ap (λ (v : List Typed). none_at false v given) same_variables ∙ ap (λ (b : Condition). none_at false variables b) same_inside
-      ∙ sym (ap (λ (x : Condition). parts domain problem x positive scope around next) is
-      ∙ ap (λ (k : Known). k.cut positive scope around next) (c.fold-Forall Known (known_step domain problem) variables inside line)
-      ∙ ap (λ (b : Bool). cut_step domain problem (Condition-F.Forall variables (known domain problem inside) line) b scope around next) sign)
-
-  pub none-exists : condition ≡ conditions.Exists variables inside line → positive ≡ false → none_at true listed given ≡ parts domain problem condition positive scope around next
-  none-exists is sign =
-      ap (λ (v : List Typed). none_at true v given) same_variables ∙ ap (λ (b : Condition). none_at true variables b) same_inside
-      ∙ sym (ap (λ (x : Condition). parts domain problem x positive scope around next) is
-      ∙ ap (λ (k : Known). k.cut positive scope around next) (c.fold-Exists Known (known_step domain problem) variables inside line)
-      ∙ ap (λ (b : Bool). cut_step domain problem (Condition-F.Exists variables (known domain problem inside) line) b scope around next) sign)

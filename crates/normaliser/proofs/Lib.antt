@@ -1,15 +1,9 @@
-pub mod LeftToRight
-pub mod CutSteps
-pub mod Ranges
-pub mod FreeVariables
-pub mod WrittenNames
-pub mod TurnSteps
-pub mod OnceSteps
-pub mod FirstItems
-pub mod EffectRows
-pub mod SchemaRows
-pub mod WholeTask
-pub mod NewNames
-pub mod FoundTypes
-pub mod InnerScopes
-pub mod TypeRanges
+-- Lemmas of this crate.
+mod LeftToRight
+mod CutSteps
+mod FreeVariables
+mod TurnSteps
+mod FirstItems
+mod EffectRows
+mod SchemaRows
+mod WholeTask

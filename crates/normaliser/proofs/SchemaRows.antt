@@ -8,54 +8,32 @@ use Rattle.pddl_parser.specs.declared.types.Problem.{Problem}
 use Rattle.normal_task.specs.declared.task.AxiomRow.{AxiomRow}
 use Rattle.normal_task.specs.declared.task.EffectRow.{EffectRow}
 use Rattle.normal_task.specs.declared.task.Schema.{Schema}
-use Rattle.normaliser.specs.MadeThings.{cost_of}
+use Rattle.normaliser.specs.MadeThings.{schemas_of_parts, schemas_in_scope}
 use Rattle.normal_task.specs.Normalised.{parameter_scope, precondition_parts, effect_rows, moved_row, schema, schemas, rows_of, axiom_row, fresh_rows}
 use Rattle.normal_task.specs.Numbers.{ranges_of}
 use Rattle.normal_task.specs.declared.parts.Part.{Part}
 use Rattle.normal_task.specs.declared.parts.Fresh.{Fresh}
 use Rattle.normal_task.specs.Parts.{Scope, Made, parts, fresh_number}
 
-module _ (domain : Domain) (problem : Problem) where
-  abbrev pub schema_from : Action → Scope → List (List ℕ) → List EffectRow → Part → Schema
-  schema_from action scope ranges rows part =
-      record {
-        action = action.name.name;
-        shown = length action.parameters;
-        parameters = ranges ++ part.variables;
-        condition = part.literals;
-        effects = map (moved_row domain problem (length action.parameters) (length part.variables)) rows;
-        cost = cost_of domain problem scope action;
-      }
+pub made-same : {A : Type 0} (made : Made A) (items : List A) (fresh : List Fresh) → (items ≡ made.items) × (fresh ≡ made.fresh) → record { items = items; fresh = fresh } ≡ made
+made-same {A} made items fresh same =
+    ap (λ (l : List A). record { items = l; fresh = fresh }) same.0 ∙ ap (λ (l : List Fresh). record { items = made.items; fresh = l }) same.1
 
-  module _ (action : Action) (next : ℕ) (scope : Scope) (scope_is : scope ≡ parameter_scope domain problem action.parameters) (count : ℕ) (count_is : count ≡ length action.parameters) where
-    pub schemas-are : (ranges : List (List ℕ)) → ranges ≡ ranges_of domain problem action.parameters →
-        (cut_scope : Scope) → cut_scope ≡ scope →
-        (part_items : List Part) (part_fresh : List Fresh) →
-        (part_items ≡ (parts domain problem action.precondition true cut_scope count next).items) × (part_fresh ≡ (parts domain problem action.precondition true cut_scope count next).fresh) →
-        (start : ℕ) → start ≡ next + length part_fresh → (row_scope : Scope) → row_scope ≡ scope →
-        (row_items : List EffectRow) (row_fresh : List Fresh) →
-        (row_items ≡ (rows_of domain problem action.effect [] row_scope count start).items) × (row_fresh ≡ (rows_of domain problem action.effect [] row_scope count start).fresh) →
-        (shared_scope : Scope) (shared_ranges : List (List ℕ)) (shared_rows : List EffectRow) → shared_scope ≡ scope → shared_ranges ≡ ranges → shared_rows ≡ row_items →
-        (items : List Schema) (shared_parts : List Part) → shared_parts ≡ part_items → items ≡ map (schema_from action shared_scope shared_ranges shared_rows) shared_parts → (fresh : List Fresh) → fresh ≡ part_fresh ++ row_fresh →
-        (items ≡ (schemas domain problem action next).items) × (fresh ≡ (schemas domain problem action next).fresh)
-    schemas-are ranges ranges_are cut_scope cut_scope_is part_items part_fresh part_made start starts row_scope row_scope_is row_items row_fresh row_made shared_scope shared_ranges shared_rows same_scope same_ranges same_rows items shared_parts same_parts items_are fresh fresh_is =
-        let parts_same : parts domain problem action.precondition true cut_scope count next ≡ precondition_parts domain problem action next =
-        ap (λ (s : Scope). parts domain problem action.precondition true s count next) (cut_scope_is ∙ scope_is)
-        ∙ ap (λ (n : ℕ). parts domain problem action.precondition true (parameter_scope domain problem action.parameters) n next) count_is in
-        let fresh_same = part_made.1 ∙ ap (λ (m : Made Part). m.fresh) parts_same in
-        let rows_same : rows_of domain problem action.effect [] row_scope count start ≡ effect_rows domain problem action (next + length (precondition_parts domain problem action next).fresh) =
-        ap (λ (s : Scope). rows_of domain problem action.effect [] s count start) (row_scope_is ∙ scope_is)
-        ∙ ap (λ (n : ℕ). rows_of domain problem action.effect [] (parameter_scope domain problem action.parameters) n start) count_is
-        ∙ ap (λ (n : ℕ). rows_of domain problem action.effect [] (parameter_scope domain problem action.parameters) (length action.parameters) n) (starts ∙ ap (λ (l : List Fresh). next + length l) fresh_same) in
-        let rows_are = same_rows ∙ row_made.0 ∙ ap (λ (m : Made EffectRow). m.items) rows_same in
-        let schema_is : schema_from action shared_scope shared_ranges shared_rows ≡ schema domain problem action (effect_rows domain problem action (next + length (precondition_parts domain problem action next).fresh)).items =
-        ap (λ (s : Scope). schema_from action s shared_ranges shared_rows) (same_scope ∙ scope_is)
-        ∙ ap (λ (r : List (List ℕ)). schema_from action (parameter_scope domain problem action.parameters) r shared_rows) (same_ranges ∙ ranges_are)
-        ∙ ap (schema_from action (parameter_scope domain problem action.parameters) (ranges_of domain problem action.parameters)) rows_are in (
-          items_are ∙ ap (map (schema_from action shared_scope shared_ranges shared_rows)) same_parts ∙ ap (λ (f : Part → Schema). map f part_items) schema_is
-              ∙ ap (map (schema domain problem action (effect_rows domain problem action (next + length (precondition_parts domain problem action next).fresh)).items)) (part_made.0 ∙ ap (λ (m : Made Part). m.items) parts_same),
-          fresh_is ∙ ap (λ (l : List Fresh). l ++ row_fresh) fresh_same ∙ ap (λ (l : List Fresh). (precondition_parts domain problem action next).fresh ++ l) (row_made.1 ∙ ap (λ (m : Made EffectRow). m.fresh) rows_same),
-        )
+module _ (domain : Domain) (problem : Problem) where
+  -- the schemas of an action, from what its precondition and its effect were cut into
+  pub schemas-in : (action : Action) (scope : Scope) (next around : ℕ) → around ≡ length action.parameters → (part_items : List Part) (part_fresh : List Fresh) →
+      (part_items ≡ (parts domain problem action.precondition true scope around next).items) × (part_fresh ≡ (parts domain problem action.precondition true scope around next).fresh) →
+      (start : ℕ) → start ≡ next + length part_fresh → (row_items : List EffectRow) (row_fresh : List Fresh) →
+      (row_items ≡ (rows_of domain problem action.effect [] scope around start).items) × (row_fresh ≡ (rows_of domain problem action.effect [] scope around start).fresh) →
+      schemas_of_parts domain problem action scope (record { items = part_items; fresh = part_fresh }) (record { items = row_items; fresh = row_fresh }) ≡ schemas_in_scope domain problem action scope next
+  schemas-in action scope next around around_is part_items part_fresh part_made start starts row_items row_fresh row_made =
+      let wanted : ℕ → Made Part = λ n. parts domain problem action.precondition true scope n next in
+      let effects : ℕ → ℕ → Made EffectRow = λ n s. rows_of domain problem action.effect [] scope n s in
+      let parts_same = made-same (wanted around) part_items part_fresh part_made ∙ ap wanted around_is in
+      let start_is = starts ∙ ap (λ (l : List Fresh). next + length l) (part_made.1 ∙ ap (λ (n : ℕ). (wanted n).fresh) around_is) in
+      let rows_same = made-same (effects around start) row_items row_fresh row_made ∙ ap (λ (n : ℕ). effects n start) around_is ∙ ap (effects (length action.parameters)) start_is in
+      ap (λ (m : Made Part). schemas_of_parts domain problem action scope m (record { items = row_items; fresh = row_fresh })) parts_same
+      ∙ ap (schemas_of_parts domain problem action scope (wanted (length action.parameters))) rows_same
 
   -- the axioms of a new predicate
   abbrev axioms_at : ℕ → Fresh → List AxiomRow

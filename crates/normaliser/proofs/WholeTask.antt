@@ -2,7 +2,6 @@
 use Rattle.std.proofs.Common.{◌≡◌, ℕ, ◌+◌, Bool, List, [], ◌++◌, true, map, length, ap, ◌∙◌}
 use Rattle.std.specs.List.{flat_map}
 use Rattle.pddl_parser.specs.declared.types.Action.{Action}
-use Rattle.pddl_parser.specs.declared.types.Condition.{Condition}
 use Rattle.pddl_parser.specs.declared.types.Derived.{Derived}
 use Rattle.pddl_parser.specs.declared.types.Domain.{Domain}
 use Rattle.pddl_parser.specs.declared.types.Init.{Init}
@@ -17,24 +16,23 @@ use Rattle.normal_task.specs.declared.task.Schema.{Schema}
 use Rattle.normal_task.specs.declared.task.ValueRow.{ValueRow}
 use Rattle.normal_task.specs.Meaning.{is_same_atom}
 use Rattle.normal_task.specs.Numbers.{object_names}
-use Rattle.normaliser.specs.MadeThings.{IsMadeAll}
-use Rattle.normal_task.specs.Normalised.{schemas, axiom_rows, made_schemas, made_axioms, after_schemas, after_axioms, goal_parts, goal_of, made_goal, all_fresh, declared_row, fresh_predicates, fresh_rows, once_after, stated, value_row, is_same_value, normal}
+use Rattle.normaliser.specs.declared.normal.MadeAll.{MadeAll}
+use Rattle.normaliser.specs.MadeThings.{IsMadeAll, goal_from}
+use Rattle.normal_task.specs.Normalised.{schemas, axiom_rows, made_schemas, made_axioms, after_schemas, after_axioms, made_goal, all_fresh, declared_row, fresh_predicates, fresh_rows, once_after, stated, value_row, is_same_value, normal}
 use Rattle.normal_task.specs.declared.parts.Part.{Part}
 use Rattle.normal_task.specs.declared.parts.Fresh.{Fresh}
-use Rattle.normal_task.specs.Parts.{Made, in_turn, parts}
+use Rattle.normal_task.specs.Parts.{Made, in_turn}
 
 module _ (domain : Domain) (problem : Problem) where
   pub made-all : (actions : List Action) → actions ≡ domain.actions → (schema_items : List Schema) (schema_fresh : List Fresh) →
       (schema_items ≡ (in_turn (map (schemas domain problem) actions) 0).items) × (schema_fresh ≡ (in_turn (map (schemas domain problem) actions) 0).fresh) →
       (after : ℕ) → after ≡ length schema_fresh → (rules : List Derived) → rules ≡ domain.axioms → (axiom_items : List AxiomRow) (axiom_fresh : List Fresh) →
       (axiom_items ≡ (in_turn (map (axiom_rows domain problem) rules) after).items) × (axiom_fresh ≡ (in_turn (map (axiom_rows domain problem) rules) after).fresh) →
-      (behind : ℕ) → behind ≡ after + length axiom_fresh → (condition : Condition) → condition ≡ problem.goal → (part_items : List Part) (part_fresh : List Fresh) →
-      (part_items ≡ (parts domain problem condition true [] 0 behind).items) × (part_fresh ≡ (parts domain problem condition true [] 0 behind).fresh) →
-      (literals : List Literal) (goal_fresh : List Fresh) →
-      (literals ≡ (goal_of domain problem (record { items = part_items; fresh = part_fresh }) part_items behind).items) × (goal_fresh ≡ (goal_of domain problem (record { items = part_items; fresh = part_fresh }) part_items behind).fresh) →
-      (later : List Fresh) → later ≡ axiom_fresh ++ goal_fresh → (fresh : List Fresh) → fresh ≡ schema_fresh ++ later →
-      IsMadeAll domain problem (record { schemas = schema_items; axioms = axiom_items; goal = literals; fresh = fresh })
-  made-all actions actions_are schema_items schema_fresh schema_made after after_is rules rules_are axiom_items axiom_fresh axiom_made behind behind_is condition condition_is part_items part_fresh part_made literals goal_fresh goal_made later later_is fresh fresh_is =
+      (behind : ℕ) → behind ≡ after + length axiom_fresh → (literals : List Literal) (goal_fresh : List Fresh) →
+      (literals ≡ (goal_from domain problem behind).items) × (goal_fresh ≡ (goal_from domain problem behind).fresh) →
+      (all : MadeAll) → (all.schemas ≡ schema_items) × ((all.axioms ≡ axiom_items) × ((all.goal ≡ literals) × (all.fresh ≡ schema_fresh ++ (axiom_fresh ++ goal_fresh)))) →
+      IsMadeAll domain problem all
+  made-all actions actions_are schema_items schema_fresh schema_made after after_is rules rules_are axiom_items axiom_fresh axiom_made behind behind_is literals goal_fresh goal_is all holds =
       let schemas_same : in_turn (map (schemas domain problem) actions) 0 ≡ made_schemas domain problem = ap (λ (l : List Action). in_turn (map (schemas domain problem) l) 0) actions_are in
       let schema_fresh_is = schema_made.1 ∙ ap (λ (m : Made Schema). m.fresh) schemas_same in
       let after_same : after ≡ after_schemas domain problem = after_is ∙ ap (λ (l : List Fresh). length l) schema_fresh_is in
@@ -42,21 +40,15 @@ module _ (domain : Domain) (problem : Problem) where
       ap (λ (l : List Derived). in_turn (map (axiom_rows domain problem) l) after) rules_are ∙ ap (in_turn (map (axiom_rows domain problem) domain.axioms)) after_same in
       let axiom_fresh_is = axiom_made.1 ∙ ap (λ (m : Made AxiomRow). m.fresh) axioms_same in
       let behind_same : behind ≡ after_axioms domain problem = behind_is ∙ ap (λ (n : ℕ). n + length axiom_fresh) after_same ∙ ap (λ (l : List Fresh). after_schemas domain problem + length l) axiom_fresh_is in
-      let parts_same : parts domain problem condition true [] 0 behind ≡ goal_parts domain problem =
-      ap (λ (c : Condition). parts domain problem c true [] 0 behind) condition_is ∙ ap (parts domain problem problem.goal true [] 0) behind_same in
-      let items_are = part_made.0 ∙ ap (λ (m : Made Part). m.items) parts_same in
-      let goal_same : goal_of domain problem (record { items = part_items; fresh = part_fresh }) part_items behind ≡ made_goal domain problem =
-      ap (λ (l : List Part). goal_of domain problem (record { items = l; fresh = part_fresh }) l behind) items_are
-      ∙ ap (λ (l : List Fresh). goal_of domain problem (record { items = (goal_parts domain problem).items; fresh = l }) (goal_parts domain problem).items behind) (part_made.1 ∙ ap (λ (m : Made Part). m.fresh) parts_same)
-      ∙ ap (goal_of domain problem (goal_parts domain problem) (goal_parts domain problem).items) behind_same in
+      let goal_same : goal_from domain problem behind ≡ made_goal domain problem = ap (goal_from domain problem) behind_same in
       record {
-        schemas = schema_made.0 ∙ ap (λ (m : Made Schema). m.items) schemas_same;
-        axioms = axiom_made.0 ∙ ap (λ (m : Made AxiomRow). m.items) axioms_same;
-        goal = goal_made.0 ∙ ap (λ (m : Made Literal). m.items) goal_same;
+        schemas = holds.0 ∙ schema_made.0 ∙ ap (λ (m : Made Schema). m.items) schemas_same;
+        axioms = holds.1.0 ∙ axiom_made.0 ∙ ap (λ (m : Made AxiomRow). m.items) axioms_same;
+        goal = holds.1.1.0 ∙ goal_is.0 ∙ ap (λ (m : Made Literal). m.items) goal_same;
         fresh =
-            fresh_is ∙ ap (λ (l : List Fresh). l ++ later) schema_fresh_is
+            holds.1.1.1 ∙ ap (λ (l : List Fresh). l ++ (axiom_fresh ++ goal_fresh)) schema_fresh_is
             ∙ ap (λ (l : List Fresh). (made_schemas domain problem).fresh ++ l)
-            (later_is ∙ ap (λ (l : List Fresh). l ++ goal_fresh) axiom_fresh_is ∙ ap (λ (l : List Fresh). (made_axioms domain problem).fresh ++ l) (goal_made.1 ∙ ap (λ (m : Made Literal). m.fresh) goal_same));
+            (ap (λ (l : List Fresh). l ++ goal_fresh) axiom_fresh_is ∙ ap (λ (l : List Fresh). (made_axioms domain problem).fresh ++ l) (goal_is.1 ∙ ap (λ (m : Made Literal). m.fresh) goal_same));
       }
 
   abbrev whole : List Name → List PredicateRow → List Schema → List AxiomRow → List GroundAtom → List ValueRow → List Literal → Bool → Normal

@@ -1,4 +1,2 @@
 pub mod Code
-pub mod Below
-pub mod IsWritten
 pub mod MadeThings

@@ -1,18 +1,18 @@
 // The axioms of the files and of new predicates.
 ghost use Rattle.std.specs.Prelude.{◌≡◌, ◌++◌, ◌∷◌, [], map, length, true, IfOk, OnOk};
+ghost use Rattle.normaliser.specs.Code.{IsMade};
 ghost use Rattle.normaliser.specs.MadeThings.{IsMadeOf};
 ghost use Rattle.normal_task.specs.Normalised as spec;
+ghost use Rattle.normal_task.specs.Numbers.{predicate_number, ranges_of};
 ghost use Rattle.normal_task.specs.Parts as parts;
 
-use crate::cut::cut;
-use crate::made::Made;
-use crate::moved::sum;
-use crate::numbering::Numbering;
+use crate::cut::{Here, MadeParts, cut};
+use crate::made::{Made, made_behind, nothing_made};
 use crate::rows::push_axioms;
-use crate::scope::scope_inside;
 use lists::List;
 use normal_task::{AxiomRow, Fresh};
-use pddl_parser::Derived;
+use numbering::{Numbering, Variable, scope_inside, sum};
+use pddl_parser::{Derived, Head};
 use std::alloc::{AllocError, Global};
 
 /// The number of a new predicate.
@@ -22,28 +22,17 @@ pub(crate) fn fresh_number(numbering: &Numbering<'_>, next: u64) -> Result<u64, 
     sum(numbering.domain().predicates.as_slice().len() as u64, next)
 }
 
-/// An axiom for each part of the body.
-fn axiom_rows<'n, 'a>(
+/// An axiom of the predicate for each part.
+fn rows_from(
     alloc: Global,
-    numbering: &'n Numbering<'a>,
-    rule: &'a Derived,
-    next: u64,
+    numbering: &Numbering<'_>,
+    head: &Head,
+    made: MadeParts,
 ) -> Result<Made<AxiomRow>, AllocError>
-    ensures { IfOk result (IsMadeOf (spec.axiom_rows numbering.now.domain numbering.now.problem rule.now next)) }
+    ensures { IfOk result (λ rows. (rows.items ≡ map (spec.axiom_row numbering.now.domain numbering.now.problem (predicate_number numbering.now.domain head.now.name.name) (ranges_of numbering.now.domain numbering.now.problem head.now.variables)) made.items) × (rows.fresh ≡ made.fresh)) }
 {
-    let variables = rule.head.variables.as_slice();
-    let scope = scope_inside(alloc, numbering, variables, 0, &[])?;
-    let ranges = numbering.ranges(alloc, variables)?;
-    let made = cut(
-        alloc,
-        numbering,
-        &rule.body,
-        true,
-        scope.as_slice(),
-        variables.len() as u64,
-        next,
-    )?;
-    let predicate = numbering.predicate(rule.head.name.name.as_slice());
+    let predicate = numbering.predicate(head.name.name.as_slice());
+    let ranges = numbering.ranges(alloc, head.variables.as_slice())?;
     let mut rows = Vec::new(alloc);
     push_axioms(
         &mut rows,
@@ -57,6 +46,54 @@ fn axiom_rows<'n, 'a>(
     })
 }
 
+/// The parts of the axiom's body, in this scope.
+fn parts_in<'n, 'a>(
+    alloc: Global,
+    numbering: &'n Numbering<'a>,
+    rule: &'a Derived,
+    scope: &[Variable<'n, 'a>],
+    next: u64,
+) -> Result<MadeParts, AllocError>
+    ensures { IfOk result (IsMade (parts.parts numbering.now.domain numbering.now.problem rule.now.body true scope.now (length rule.now.head.variables) next)) }
+{
+    let here = Here {
+        numbering,
+        scope,
+        around: rule.head.variables.as_slice().len() as u64,
+    };
+    cut(alloc, &here, &rule.body, true, next)
+}
+
+/// The parts of the axiom's body.
+fn body_parts<'n, 'a>(
+    alloc: Global,
+    numbering: &'n Numbering<'a>,
+    rule: &'a Derived,
+    next: u64,
+) -> Result<MadeParts, AllocError>
+    ensures { IfOk result (IsMade (spec.body_parts numbering.now.domain numbering.now.problem rule.now next)) }
+{
+    let numbering = &*numbering;
+    let rule = &*rule;
+    let variables = rule.head.variables.as_slice();
+    let scope = scope_inside(alloc, numbering, variables, 0, &[])?;
+    let list = scope.as_slice();
+    parts_in(alloc, numbering, rule, list, next)
+}
+
+/// An axiom for each part of the body.
+fn axiom_rows<'n, 'a>(
+    alloc: Global,
+    numbering: &'n Numbering<'a>,
+    rule: &'a Derived,
+    next: u64,
+) -> Result<Made<AxiomRow>, AllocError>
+    ensures { IfOk result (IsMadeOf (spec.axiom_rows numbering.now.domain numbering.now.problem rule.now next)) }
+{
+    let made = body_parts(alloc, numbering, rule, next)?;
+    rows_from(alloc, numbering, &rule.head, made)
+}
+
 /// The axioms of the files, one after another.
 pub(crate) fn axioms_of<'n, 'a>(
     alloc: Global,
@@ -66,18 +103,13 @@ pub(crate) fn axioms_of<'n, 'a>(
 ) -> Result<Made<AxiomRow>, AllocError>
     ensures { IfOk result (IsMadeOf (parts.in_turn (map (spec.axiom_rows numbering.now.domain numbering.now.problem) rules.now) next)) }
 {
-    let mut items = Vec::new(alloc);
-    let mut fresh = Vec::new(alloc);
+    let mut made = nothing_made(alloc);
     for rule in rules {
-        let start = sum(next, fresh.len() as u64)?;
-        let made = axiom_rows(alloc, numbering, rule, start)?;
-        items.append(&mut made.items.into_vec())?;
-        fresh.append(&mut made.fresh.into_vec())?;
+        let start = sum(next, made.fresh.as_slice().len() as u64)?;
+        let more = axiom_rows(alloc, numbering, rule, start)?;
+        made = made_behind(made, more)?;
     }
-    Ok(Made {
-        items: List::from_vec(items),
-        fresh: List::from_vec(fresh),
-    })
+    Ok(made)
 }
 
 /// Adds the axioms of the new predicates, which are numbered from 0.

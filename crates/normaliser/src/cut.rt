@@ -1,18 +1,17 @@
 // How a condition is cut into parts.
-ghost use Rattle.std.specs.Prelude.{◌≡◌, ◌++◌, ◌+◌, ◌∷◌, [], map, length, true, false, IfOk, OnOk};
+ghost use Rattle.std.specs.Prelude.{◌≡◌, ◌++◌, ◌+◌, ◌∷◌, [], map, length, true, false, IfOk, OnOk, if◌then◌else◌};
 ghost use Rattle.normal_task.specs.declared.task.Literal.TheVariants.{Holds, Equal};
+ghost use Rattle.normal_task.specs.declared.task.Place.TheVariants as place;
 ghost use Rattle.normal_task.specs.Numbers.{predicate_number, ranges_of};
 ghost use Rattle.normal_task.specs.Parts as spec;
-ghost use Rattle.normaliser.specs.Code.{IsMade};
+ghost use Rattle.normaliser.specs.Code.{IsMade, combined};
 
-use crate::moved::sum;
-use crate::numbering::Numbering;
+use crate::made::joined_lists;
 use crate::parts::{extended, joined, with_variables};
-use crate::scope::{place_of, places_of, scope_inside};
 use crate::slots::{free_slots, ranges_of, renumbered, variables_of};
-use crate::variable::Variable;
 use lists::List;
 use normal_task::{Fresh, Literal, Part};
+use numbering::{Numbering, Variable, place_of, places_of, scope_inside, sum};
 use pddl_parser::{Atom, Condition, Term, Typed};
 use std::alloc::{AllocError, Global};
 
@@ -23,142 +22,126 @@ pub struct MadeParts {
     pub fresh: List<Fresh>,
 }
 
+/// Where a condition stands: the variables in scope, and how many variables there are around it.
+#[derive(Clone, Copy)]
+pub(crate) struct Here<'s, 'n, 'a> {
+    pub(crate) numbering: &'n Numbering<'a>,
+    pub(crate) scope: &'s [Variable<'n, 'a>],
+    pub(crate) around: u64,
+}
+
+// ---- conditions
+
 /// How a condition is cut, or its negation where it isn't `positive`.
 #[cycle(cut)]
 pub(crate) fn cut<'n, 'a>(
     alloc: Global,
-    numbering: &'n Numbering<'a>,
+    here: &Here<'_, 'n, 'a>,
     condition: &'a Condition,
     positive: bool,
-    scope: &[Variable<'n, 'a>],
-    around: u64,
     next: u64,
 ) -> Result<MadeParts, AllocError>
-    ensures { IfOk result (IsMade (spec.parts numbering.now.domain numbering.now.problem condition.now positive scope.now around next)) }
+    ensures { IfOk result (IsMade (spec.parts here.now.numbering.now.domain here.now.numbering.now.problem condition.now positive here.now.scope.now here.now.around next)) }
 {
-    match (condition, positive) {
-        (Condition::True(_), true) => truth(alloc),
-        (Condition::True(_), false) => Ok(falsity(alloc)),
-        (Condition::Not(inside, _), _) => {
-            cut(
-                alloc,
-                numbering,
-                inside.get(),
-                !positive,
-                scope,
-                around,
-                next,
-            )
+    match condition {
+        Condition::True(_) => neutral(alloc, positive),
+        Condition::Atom(atom) => atom_part(alloc, here, atom, positive),
+        Condition::Equal(left, right, _) => equal_part(alloc, here, left, right, positive),
+        Condition::Not(inside, _) => cut(alloc, here, inside.get(), !positive, next),
+        Condition::And(members, _) => {
+            cut_members(alloc, here, members.as_slice(), positive, positive, next)
         }
-        (Condition::And(members, _), true) | (Condition::Or(members, _), false) => {
-            cut_paired(
-                alloc,
-                numbering,
-                members.as_slice(),
-                positive,
-                scope,
-                around,
-                next,
-            )
+        Condition::Or(members, _) => {
+            cut_members(alloc, here, members.as_slice(), positive, !positive, next)
         }
-        (Condition::And(members, _), false) | (Condition::Or(members, _), true) => {
-            cut_listed(
-                alloc,
-                numbering,
-                members.as_slice(),
-                positive,
-                scope,
-                around,
-                next,
-            )
-        }
-        (Condition::Atom(atom), _) => atom_part(alloc, numbering, atom, positive, scope),
-        (Condition::Equal(left, right, _), _) => {
-            equal_part(alloc, numbering, left, right, positive, scope)
-        }
-        (Condition::Imply(premise, conclusion, _), true) => {
-            let first = cut(alloc, numbering, premise.get(), false, scope, around, next)?;
+        Condition::Imply(premise, conclusion, _) => {
+            let first = cut(alloc, here, premise.get(), !positive, next)?;
             let start = sum(next, first.fresh.as_slice().len() as u64)?;
-            let second = cut(
-                alloc,
-                numbering,
-                conclusion.get(),
-                true,
-                scope,
-                around,
-                start,
-            )?;
-            either(first, second)
+            let second = cut(alloc, here, conclusion.get(), positive, start)?;
+            let made = joined_made(alloc, !positive, here.around, first, second)?;
+            Ok(made)
         }
-        (Condition::Imply(premise, conclusion, _), false) => {
-            let first = cut(alloc, numbering, premise.get(), true, scope, around, next)?;
-            let start = sum(next, first.fresh.as_slice().len() as u64)?;
-            let second = cut(
-                alloc,
-                numbering,
-                conclusion.get(),
-                false,
-                scope,
-                around,
-                start,
-            )?;
-            both(alloc, around, first, second)
+        Condition::Forall(variables, inside, _) => {
+            if positive {
+                cut_none(alloc, here, variables.as_slice(), inside.get(), false, next)
+            } else {
+                cut_some(alloc, here, variables.as_slice(), inside.get(), false, next)
+            }
         }
-        (Condition::Exists(variables, inside, _), true) => {
-            let inner = scope_inside(alloc, numbering, variables.as_slice(), around, scope)?;
-            let within = sum(around, variables.as_slice().len() as u64)?;
-            let made = cut(alloc, numbering, inside.get(), true, &inner, within, next)?;
-            behind(alloc, numbering, variables.as_slice(), made)
+        Condition::Exists(variables, inside, _) => {
+            if positive {
+                cut_some(alloc, here, variables.as_slice(), inside.get(), true, next)
+            } else {
+                cut_none(alloc, here, variables.as_slice(), inside.get(), true, next)
+            }
         }
-        (Condition::Forall(variables, inside, _), false) => {
-            let inner = scope_inside(alloc, numbering, variables.as_slice(), around, scope)?;
-            let within = sum(around, variables.as_slice().len() as u64)?;
-            let made = cut(alloc, numbering, inside.get(), false, &inner, within, next)?;
-            behind(alloc, numbering, variables.as_slice(), made)
-        }
-        (Condition::Forall(variables, inside, _), true) => cut_none(
-            alloc,
-            numbering,
-            variables.as_slice(),
-            inside.get(),
-            false,
-            scope,
-            next,
-        ),
-        (Condition::Exists(variables, inside, _), false) => cut_none(
-            alloc,
-            numbering,
-            variables.as_slice(),
-            inside.get(),
-            true,
-            scope,
-            next,
-        ),
     }
+}
+
+/// Every pairing of the members' parts where `every` says so, or else their parts one after another.
+#[cycle(cut)]
+fn cut_members<'n, 'a>(
+    alloc: Global,
+    here: &Here<'_, 'n, 'a>,
+    members: &'a [Condition],
+    positive: bool,
+    every: bool,
+    next: u64,
+) -> Result<MadeParts, AllocError>
+    ensures { IfOk result (IsMade (combined every here.now.around (map (λ member. member.cut positive here.now.scope.now here.now.around) (map (spec.known here.now.numbering.now.domain here.now.numbering.now.problem) members.now)) next)) }
+{
+    let mut made = neutral(alloc, every)?;
+    for member in members {
+        let start = sum(next, made.fresh.as_slice().len() as u64)?;
+        let more = cut(alloc, here, member, positive, start)?;
+        made = joined_made(alloc, every, here.around, made, more)?;
+    }
+    Ok(made)
+}
+
+/// Some objects of the variables make the inside true, or its negation where it isn't `positive`.
+#[cycle(cut)]
+fn cut_some<'n, 'a>(
+    alloc: Global,
+    here: &Here<'_, 'n, 'a>,
+    variables: &'a [Typed],
+    inside: &'a Condition,
+    positive: bool,
+    next: u64,
+) -> Result<MadeParts, AllocError>
+    ensures { IfOk result (IsMade (spec.exists_inside here.now.numbering.now.domain here.now.numbering.now.problem variables.now (spec.known here.now.numbering.now.domain here.now.numbering.now.problem inside.now) positive here.now.scope.now here.now.around next)) }
+{
+    let scope = scope_inside(alloc, here.numbering, variables, here.around, here.scope)?;
+    let inner = Here {
+        numbering: here.numbering,
+        scope: scope.as_slice(),
+        around: sum(here.around, variables.len() as u64)?,
+    };
+    let made = cut(alloc, &inner, inside, positive, next)?;
+    behind(alloc, here.numbering, variables, made)
 }
 
 /// No objects of the variables make the inside true, or its negation where it isn't `positive`.
 #[cycle(cut)]
 fn cut_none<'n, 'a>(
     alloc: Global,
-    numbering: &'n Numbering<'a>,
+    here: &Here<'_, 'n, 'a>,
     variables: &'a [Typed],
     inside: &'a Condition,
     positive: bool,
-    scope: &[Variable<'n, 'a>],
     next: u64,
 ) -> Result<MadeParts, AllocError>
-    ensures { IfOk result (IsMade (spec.none_inside numbering.now.domain numbering.now.problem variables.now (spec.known numbering.now.domain numbering.now.problem inside.now) positive scope.now 0 next)) }
+    ensures { IfOk result (IsMade (spec.none_inside here.now.numbering.now.domain here.now.numbering.now.problem variables.now (spec.known here.now.numbering.now.domain here.now.numbering.now.problem inside.now) positive here.now.scope.now here.now.around next)) }
 {
-    let arguments = free_slots(alloc, numbering, variables, inside, scope)?;
-    let count = arguments.len() as u64;
+    let arguments = free_slots(alloc, here.numbering, variables, inside, here.scope)?;
     let outer = renumbered(alloc, &arguments)?;
-    let inner = scope_inside(alloc, numbering, variables, count, &outer)?;
-    let within = sum(count, variables.len() as u64)?;
-    let start = sum(next, 1)?;
-    let made = cut(alloc, numbering, inside, positive, &inner, within, start)?;
-    let body = behind(alloc, numbering, variables, made)?;
-    denied(alloc, numbering, &arguments, next, body)
+    let there = Here {
+        numbering: here.numbering,
+        scope: outer.as_slice(),
+        around: arguments.len() as u64,
+    };
+    let body = cut_some(alloc, &there, variables, inside, positive, sum(next, 1)?)?;
+    denied(alloc, here.numbering, &arguments, next, body)
 }
 
 /// The negation of a new derived predicate with these arguments, whose axioms have these parts.
@@ -171,18 +154,41 @@ fn denied(
 ) -> Result<MadeParts, AllocError>
     ensures { IfOk result (IsMade (spec.denied numbering.now.domain numbering.now.problem arguments.now next record { items = body.items; fresh = body.fresh })) }
 {
+    let fresh = with_fresh(alloc, arguments, body)?;
+    let items = denied_atom(alloc, numbering, arguments, next)?;
+    Ok(MadeParts { items, fresh })
+}
+
+/// The part of the negation of a new derived predicate with these arguments.
+fn denied_atom(
+    alloc: Global,
+    numbering: &Numbering<'_>,
+    arguments: &[Variable<'_, '_>],
+    next: u64,
+) -> Result<List<Part>, AllocError>
+    ensures { IfOk result (λ items. items ≡ (spec.only (Holds false (spec.fresh_number numbering.now.domain numbering.now.problem next) (map (λ slot. place.Variable slot.place) arguments.now))).items) }
+{
     let predicate = sum(numbering.domain_predicates(), next)?;
     let places = variables_of(alloc, arguments)?;
-    let mut fresh = Vec::new(alloc);
-    fresh.push(Fresh {
-        arguments: ranges_of(alloc, arguments)?,
+    one_part(alloc, Literal::Holds(false, predicate, places))
+}
+
+/// A new derived predicate with these arguments, whose axioms have these parts, before the others that they need.
+fn with_fresh(
+    alloc: Global,
+    arguments: &[Variable<'_, '_>],
+    body: MadeParts,
+) -> Result<List<Fresh>, AllocError>
+    ensures { IfOk result (λ fresh. fresh ≡ record { arguments = map (λ slot. slot.range) arguments.now; parts = body.items } ∷ body.fresh) }
+{
+    let arguments = ranges_of(alloc, arguments)?;
+    let first = Fresh {
+        arguments,
         parts: body.items,
-    })?;
+    };
+    let mut fresh = vec![in alloc; first]?;
     fresh.append(&mut body.fresh.into_vec())?;
-    Ok(MadeParts {
-        items: only(alloc, Literal::Holds(false, predicate, places))?.items,
-        fresh: List::from_vec(fresh),
-    })
+    Ok(List::from_vec(fresh))
 }
 
 /// The parts behind some variables more.
@@ -194,11 +200,21 @@ fn behind(
 ) -> Result<MadeParts, AllocError>
     ensures { IfOk result (λ all. (all.items ≡ map (spec.with_variables (ranges_of numbering.now.domain numbering.now.problem variables.now)) made.items) × (all.fresh ≡ made.fresh)) }
 {
+    let MadeParts { items, fresh } = made;
+    let items = behind_ranges(alloc, numbering, variables, items)?;
+    Ok(MadeParts { items, fresh })
+}
+
+fn behind_ranges(
+    alloc: Global,
+    numbering: &Numbering<'_>,
+    variables: &[Typed],
+    parts: List<Part>,
+) -> Result<List<Part>, AllocError>
+    ensures { IfOk result (λ all. all ≡ map (spec.with_variables (ranges_of numbering.now.domain numbering.now.problem variables.now)) parts) }
+{
     let ranges = numbering.ranges(alloc, variables)?;
-    Ok(MadeParts {
-        items: all_behind(alloc, ranges.as_slice(), made.items)?,
-        fresh: made.fresh,
-    })
+    all_behind(alloc, ranges.as_slice(), parts)
 }
 
 fn all_behind(
@@ -215,159 +231,97 @@ fn all_behind(
     Ok(List::from_vec(all))
 }
 
+// ---- one part, and no part
+
+/// The part of these literals, without variables.
+fn part_alone(alloc: Global, literals: List<Literal>) -> Result<List<Part>, AllocError>
+    ensures { IfOk result (λ parts. parts ≡ record { variables = []; literals = literals } ∷ []) }
+{
+    let part = Part {
+        variables: List::from_vec(Vec::new(alloc)),
+        literals,
+    };
+    Ok(List::from_vec(vec![in alloc; part]?))
+}
+
 /// The part of one literal.
+fn one_part(alloc: Global, literal: Literal) -> Result<List<Part>, AllocError>
+    ensures { IfOk result (λ parts. parts ≡ (spec.only literal).items) }
+{
+    part_alone(alloc, List::from_vec(vec![in alloc; literal]?))
+}
+
 fn only(alloc: Global, literal: Literal) -> Result<MadeParts, AllocError>
     ensures { IfOk result (IsMade (spec.only literal)) }
 {
-    let mut literals = Vec::new(alloc);
-    literals.push(literal)?;
-    let mut items = Vec::new(alloc);
-    items.push(Part {
-        variables: List::from_vec(Vec::new(alloc)),
-        literals: List::from_vec(literals),
-    })?;
     Ok(MadeParts {
-        items: List::from_vec(items),
+        items: one_part(alloc, literal)?,
         fresh: List::from_vec(Vec::new(alloc)),
     })
 }
 
 fn atom_part(
     alloc: Global,
-    numbering: &Numbering<'_>,
+    here: &Here<'_, '_, '_>,
     atom: &Atom,
     positive: bool,
-    scope: &[Variable<'_, '_>],
 ) -> Result<MadeParts, AllocError>
-    ensures { IfOk result (IsMade (spec.only (Holds positive (predicate_number numbering.now.domain atom.now.predicate.name) (spec.places_of numbering.now.domain numbering.now.problem scope.now atom.now.terms)))) }
+    ensures { IfOk result (IsMade (spec.only (Holds positive (predicate_number here.now.numbering.now.domain atom.now.predicate.name) (spec.places_of here.now.numbering.now.domain here.now.numbering.now.problem here.now.scope.now atom.now.terms)))) }
 {
-    let predicate = numbering.predicate(atom.predicate.name.as_slice());
-    let places = places_of(alloc, numbering, scope, atom.terms.as_slice())?;
+    let predicate = here.numbering.predicate(atom.predicate.name.as_slice());
+    let places = places_of(alloc, here.numbering, here.scope, atom.terms.as_slice())?;
     only(alloc, Literal::Holds(positive, predicate, places))
 }
 
 fn equal_part(
     alloc: Global,
-    numbering: &Numbering<'_>,
+    here: &Here<'_, '_, '_>,
     left: &Term,
     right: &Term,
     positive: bool,
-    scope: &[Variable<'_, '_>],
 ) -> Result<MadeParts, AllocError>
-    ensures { IfOk result (IsMade (spec.only (Equal positive (spec.place_of numbering.now.domain numbering.now.problem scope.now left.now) (spec.place_of numbering.now.domain numbering.now.problem scope.now right.now)))) }
+    ensures { IfOk result (IsMade (spec.only (Equal positive (spec.place_of here.now.numbering.now.domain here.now.numbering.now.problem here.now.scope.now left.now) (spec.place_of here.now.numbering.now.domain here.now.numbering.now.problem here.now.scope.now right.now)))) }
 {
-    let left = place_of(numbering, scope, left);
-    let right = place_of(numbering, scope, right);
+    let left = place_of(here.numbering, here.scope, left);
+    let right = place_of(here.numbering, here.scope, right);
     only(alloc, Literal::Equal(positive, left, right))
 }
 
-/// The parts of the first, and then those of the second.
-fn either(first: MadeParts, second: MadeParts) -> Result<MadeParts, AllocError>
-    ensures { IfOk result (λ made. (made.items ≡ first.items ++ (second.items ++ [])) × (made.fresh ≡ first.fresh ++ (second.fresh ++ []))) }
+/// What is made of no members: the part of nothing where every member must hold, or else no part.
+pub(crate) fn neutral(alloc: Global, every: bool) -> Result<MadeParts, AllocError>
+    ensures { IfOk result (IsMade (combined every 0 [] 0)) }
 {
-    let mut items = first.items.into_vec();
-    let mut fresh = first.fresh.into_vec();
-    items.append(&mut second.items.into_vec())?;
-    fresh.append(&mut second.fresh.into_vec())?;
+    let items = if every {
+        part_alone(alloc, List::from_vec(Vec::new(alloc)))?
+    } else {
+        List::from_vec(Vec::new(alloc))
+    };
     Ok(MadeParts {
-        items: List::from_vec(items),
-        fresh: List::from_vec(fresh),
+        items,
+        fresh: List::from_vec(Vec::new(alloc)),
     })
 }
 
-/// Every pairing of a part of the first with one of the second.
-fn both(
+// ---- two things that are made
+
+/// Every pairing of a part of the first with one of the second where `every` says so, or else the parts of the first and
+/// then those of the second.
+pub(crate) fn joined_made(
     alloc: Global,
+    every: bool,
     around: u64,
     first: MadeParts,
     second: MadeParts,
 ) -> Result<MadeParts, AllocError>
-    ensures { IfOk result (λ made. (made.items ≡ spec.paired around first.items (spec.paired around second.items (record { variables = []; literals = [] } ∷ []))) × (made.fresh ≡ first.fresh ++ (second.fresh ++ []))) }
+    ensures { IfOk result (λ made. (made.items ≡ (if every then spec.paired around first.items second.items else first.items ++ second.items)) × (made.fresh ≡ first.fresh ++ second.fresh)) }
 {
-    let items = paired(alloc, around, first.items, second.items.as_slice())?;
-    let mut fresh = first.fresh.into_vec();
-    fresh.append(&mut second.fresh.into_vec())?;
-    Ok(MadeParts {
-        items,
-        fresh: List::from_vec(fresh),
-    })
-}
-
-pub(crate) fn truth(alloc: Global) -> Result<MadeParts, AllocError>
-    ensures { IfOk result (IsMade (spec.all_of 0 [] 0)) }
-{
-    let mut items = Vec::new(alloc);
-    items.push(Part {
-        variables: List::from_vec(Vec::new(alloc)),
-        literals: List::from_vec(Vec::new(alloc)),
-    })?;
-    Ok(MadeParts {
-        items: List::from_vec(items),
-        fresh: List::from_vec(Vec::new(alloc)),
-    })
-}
-
-pub(crate) fn falsity(alloc: Global) -> MadeParts
-    ensures { IsMade (spec.in_turn [] 0) result }
-{
-    MadeParts {
-        items: List::from_vec(Vec::new(alloc)),
-        fresh: List::from_vec(Vec::new(alloc)),
-    }
-}
-
-/// The members' parts one after another.
-#[cycle(cut)]
-fn cut_listed<'n, 'a>(
-    alloc: Global,
-    numbering: &'n Numbering<'a>,
-    members: &'a [Condition],
-    positive: bool,
-    scope: &[Variable<'n, 'a>],
-    around: u64,
-    next: u64,
-) -> Result<MadeParts, AllocError>
-    ensures { IfOk result (IsMade (spec.in_turn (map (λ member. member.cut positive scope.now around) (map (spec.known numbering.now.domain numbering.now.problem) members.now)) next)) }
-{
-    let mut items = Vec::new(alloc);
-    let mut fresh = Vec::new(alloc);
-    for member in members {
-        let start = sum(next, fresh.len() as u64)?;
-        let made = cut(alloc, numbering, member, positive, scope, around, start)?;
-        items.append(&mut made.items.into_vec())?;
-        fresh.append(&mut made.fresh.into_vec())?;
-    }
-    Ok(MadeParts {
-        items: List::from_vec(items),
-        fresh: List::from_vec(fresh),
-    })
-}
-
-/// Every pairing of the members' parts.
-#[cycle(cut)]
-fn cut_paired<'n, 'a>(
-    alloc: Global,
-    numbering: &'n Numbering<'a>,
-    members: &'a [Condition],
-    positive: bool,
-    scope: &[Variable<'n, 'a>],
-    around: u64,
-    next: u64,
-) -> Result<MadeParts, AllocError>
-    ensures { IfOk result (IsMade (spec.all_of around (map (λ member. member.cut positive scope.now around) (map (spec.known numbering.now.domain numbering.now.problem) members.now)) next)) }
-{
-    let mut all = truth(alloc)?.items;
-    let mut fresh = Vec::new(alloc);
-    for member in members {
-        let start = sum(next, fresh.len() as u64)?;
-        let made = cut(alloc, numbering, member, positive, scope, around, start)?;
-        all = paired(alloc, around, all, made.items.as_slice())?;
-        fresh.append(&mut made.fresh.into_vec())?;
-    }
-    Ok(MadeParts {
-        items: all,
-        fresh: List::from_vec(fresh),
-    })
+    let fresh = joined_lists(first.fresh, second.fresh)?;
+    let items = if every {
+        paired(alloc, around, first.items, second.items.as_slice())?
+    } else {
+        joined_lists(first.items, second.items)?
+    };
+    Ok(MadeParts { items, fresh })
 }
 
 /// Every pairing, the second varying fastest. Where there is only one second part, the first ones grow in place, so that

@@ -1,21 +1,19 @@
 // The effects of an action.
-ghost use Rattle.std.specs.Prelude.{◌≡◌, ◌++◌, ◌∷◌, [], map, IfOk, OnOk};
+ghost use Rattle.std.specs.Prelude.{◌≡◌, ◌++◌, ◌∷◌, [], map, true, IfOk, OnOk};
 ghost use Rattle.normaliser.specs.Code.{IsMade};
-ghost use Rattle.normaliser.specs.MadeThings.{IsMadeOf, changed_row, cuts_of};
+ghost use Rattle.normaliser.specs.MadeThings.{IsMadeOf, changed_row, cut_of, cuts_of};
 ghost use Rattle.normal_task.specs.Normalised as spec;
+ghost use Rattle.normal_task.specs.Numbers.{ranges_of};
 ghost use Rattle.normal_task.specs.Parts as parts;
 
-use crate::cut::{MadeParts, cut, paired, truth};
-use crate::made::Made;
-use crate::moved::sum;
-use crate::numbering::Numbering;
+use crate::cut::{Here, MadeParts, cut, joined_made, neutral};
+use crate::made::{Made, made_behind, nothing_made};
 use crate::parts::copied_places;
 use crate::rows::joined_ranges;
-use crate::scope::{places_of, scope_inside};
-use crate::variable::Variable;
 use lists::List;
 use normal_task::{EffectRow, Part, Place};
-use pddl_parser::{Atom, Condition, Effect};
+use numbering::{Numbering, Variable, places_of, scope_inside, sum};
+use pddl_parser::{Atom, Condition, Effect, Typed};
 use std::alloc::{AllocError, Global};
 
 /// A condition that is required around an effect, and the variables around it.
@@ -36,6 +34,24 @@ pub(crate) struct Around<'s, 'n, 'a> {
 
 // ---- one atom
 
+/// How one condition that is required is cut.
+fn cut_one<'n, 'a>(
+    alloc: Global,
+    numbering: &'n Numbering<'a>,
+    one: &Required<'_, 'n, 'a>,
+    around: u64,
+    next: u64,
+) -> Result<MadeParts, AllocError>
+    ensures { IfOk result (IsMade (cut_of numbering.now.domain numbering.now.problem one.now around next)) }
+{
+    let here = Here {
+        numbering,
+        scope: one.scope,
+        around,
+    };
+    cut(alloc, &here, one.condition, true, next)
+}
+
 /// Every pairing of the parts of what is required.
 fn cut_required<'n, 'a>(
     alloc: Global,
@@ -46,26 +62,13 @@ fn cut_required<'n, 'a>(
 ) -> Result<MadeParts, AllocError>
     ensures { IfOk result (IsMade (parts.all_of around (map (λ cut. cut around) (cuts_of numbering.now.domain numbering.now.problem required.now)) next)) }
 {
-    let mut all = truth(alloc)?.items;
-    let mut fresh = Vec::new(alloc);
+    let mut made = neutral(alloc, true)?;
     for one in required {
-        let start = sum(next, fresh.len() as u64)?;
-        let made = cut(
-            alloc,
-            numbering,
-            one.condition,
-            true,
-            one.scope,
-            around,
-            start,
-        )?;
-        all = paired(alloc, around, all, made.items.as_slice())?;
-        fresh.append(&mut made.fresh.into_vec())?;
+        let start = sum(next, made.fresh.as_slice().len() as u64)?;
+        let more = cut_one(alloc, numbering, one, around, start)?;
+        made = joined_made(alloc, true, around, made, more)?;
     }
-    Ok(MadeParts {
-        items: all,
-        fresh: List::from_vec(fresh),
-    })
+    Ok(made)
 }
 
 /// An atom that is added or deleted, by its number, and the places of its arguments.
@@ -103,6 +106,27 @@ fn effect_rows(
     Ok(List::from_vec(rows))
 }
 
+/// An effect for each part of what is required.
+fn changed<'n, 'a>(
+    alloc: Global,
+    numbering: &'n Numbering<'a>,
+    change: &Change<'_>,
+    around: &Around<'_, 'n, 'a>,
+    next: u64,
+) -> Result<Made<EffectRow>, AllocError>
+    ensures { IfOk result (λ made. (made.items ≡ map (changed_row change.now) (parts.all_of around.now.count (map (λ cut. cut around.now.count) (cuts_of numbering.now.domain numbering.now.problem around.now.required.now)) next).items) × (made.fresh ≡ (parts.all_of around.now.count (map (λ cut. cut around.now.count) (cuts_of numbering.now.domain numbering.now.problem around.now.required.now)) next).fresh)) }
+{
+    let MadeParts { items, fresh } = cut_required(
+        alloc,
+        numbering,
+        around.required,
+        around.count,
+        next,
+    )?;
+    let items = effect_rows(alloc, change, items)?;
+    Ok(Made { items, fresh })
+}
+
 /// The atom is written for each part of what is required.
 fn written<'n, 'a>(
     alloc: Global,
@@ -114,18 +138,13 @@ fn written<'n, 'a>(
 ) -> Result<Made<EffectRow>, AllocError>
     ensures { IfOk result (IsMadeOf (spec.written numbering.now.domain numbering.now.problem adds atom.now (cuts_of numbering.now.domain numbering.now.problem around.now.required.now) around.now.scope.now around.now.count next)) }
 {
-    let parts = cut_required(alloc, numbering, around.required, around.count, next)?;
     let places = places_of(alloc, numbering, around.scope, atom.terms.as_slice())?;
     let change = Change {
         adds,
         predicate: numbering.predicate(atom.predicate.name.as_slice()),
         places: places.as_slice(),
     };
-    let items = effect_rows(alloc, &change, parts.items)?;
-    Ok(Made {
-        items,
-        fresh: parts.fresh,
-    })
+    changed(alloc, numbering, &change, around, next)
 }
 
 // ---- effects
@@ -187,13 +206,19 @@ fn rows_with_variables(
     Ok(List::from_vec(longer))
 }
 
-fn no_rows(alloc: Global) -> Made<EffectRow>
-    ensures { IsMadeOf (parts.in_turn [] 0) result }
+/// The effects with the variables before their own.
+fn rows_behind(
+    alloc: Global,
+    numbering: &Numbering<'_>,
+    variables: &[Typed],
+    made: Made<EffectRow>,
+) -> Result<Made<EffectRow>, AllocError>
+    ensures { IfOk result (λ longer. (longer.items ≡ map (spec.row_with_variables numbering.now.domain numbering.now.problem (ranges_of numbering.now.domain numbering.now.problem variables.now)) made.items) × (longer.fresh ≡ made.fresh)) }
 {
-    Made {
-        items: List::from_vec(Vec::new(alloc)),
-        fresh: List::from_vec(Vec::new(alloc)),
-    }
+    let Made { items, fresh } = made;
+    let ranges = numbering.ranges(alloc, variables)?;
+    let items = rows_with_variables(alloc, ranges.as_slice(), items)?;
+    Ok(Made { items, fresh })
 }
 
 /// The effects that stand in the effect. Each condition is cut anew for each atom that is written under it, once all
@@ -209,7 +234,7 @@ pub(crate) fn rows_of<'n, 'a>(
     ensures { IfOk result (IsMadeOf (spec.rows_of numbering.now.domain numbering.now.problem effect.now (cuts_of numbering.now.domain numbering.now.problem around.now.required.now) around.now.scope.now around.now.count next)) }
 {
     match effect {
-        Effect::Nothing(_) | Effect::Increase(_, _, _) => Ok(no_rows(alloc)),
+        Effect::Nothing(_) | Effect::Increase(_, _, _) => Ok(nothing_made(alloc)),
         Effect::Add(atom) => written(alloc, numbering, true, atom, around, next),
         Effect::Delete(atom) => written(alloc, numbering, false, atom, around, next),
         Effect::And(members, _) => {
@@ -229,26 +254,39 @@ pub(crate) fn rows_of<'n, 'a>(
             rows_of(alloc, numbering, inside.get(), &inner, next)
         }
         Effect::Forall(variables, inside, _) => {
-            let scope = scope_inside(
+            rows_for_each(
                 alloc,
                 numbering,
                 variables.as_slice(),
-                around.count,
-                around.scope,
-            )?;
-            let inner = Around {
-                required: around.required,
-                scope: scope.as_slice(),
-                count: sum(around.count, variables.as_slice().len() as u64)?,
-            };
-            let made = rows_of(alloc, numbering, inside.get(), &inner, next)?;
-            let ranges = numbering.ranges(alloc, variables.as_slice())?;
-            Ok(Made {
-                items: rows_with_variables(alloc, ranges.as_slice(), made.items)?,
-                fresh: made.fresh,
-            })
+                inside.get(),
+                around,
+                next,
+            )
         }
     }
+}
+
+/// The effects that stand in the effect, for all objects of the variables.
+#[cycle(rows_of)]
+fn rows_for_each<'n, 'a>(
+    alloc: Global,
+    numbering: &'n Numbering<'a>,
+    variables: &'a [Typed],
+    inside: &'a Effect,
+    around: &Around<'_, 'n, 'a>,
+    next: u64,
+) -> Result<Made<EffectRow>, AllocError>
+    ensures { IfOk result (IsMadeOf (spec.for_each numbering.now.domain numbering.now.problem variables.now (spec.rows_of numbering.now.domain numbering.now.problem inside.now) (cuts_of numbering.now.domain numbering.now.problem around.now.required.now) around.now.scope.now around.now.count next)) }
+{
+    let count = sum(around.count, variables.len() as u64)?;
+    let scope = scope_inside(alloc, numbering, variables, around.count, around.scope)?;
+    let inner = Around {
+        required: around.required,
+        scope: scope.as_slice(),
+        count,
+    };
+    let made = rows_of(alloc, numbering, inside, &inner, next)?;
+    rows_behind(alloc, numbering, variables, made)
 }
 
 /// The effects of the members, one after another.
@@ -262,16 +300,11 @@ fn rows_of_all<'n, 'a>(
 ) -> Result<Made<EffectRow>, AllocError>
     ensures { IfOk result (IsMadeOf (parts.in_turn (map (λ member. member (cuts_of numbering.now.domain numbering.now.problem around.now.required.now) around.now.scope.now around.now.count) (map (spec.rows_of numbering.now.domain numbering.now.problem) members.now)) next)) }
 {
-    let mut items = Vec::new(alloc);
-    let mut fresh = Vec::new(alloc);
+    let mut made = nothing_made(alloc);
     for member in members {
-        let start = sum(next, fresh.len() as u64)?;
-        let made = rows_of(alloc, numbering, member, around, start)?;
-        items.append(&mut made.items.into_vec())?;
-        fresh.append(&mut made.fresh.into_vec())?;
+        let start = sum(next, made.fresh.as_slice().len() as u64)?;
+        let more = rows_of(alloc, numbering, member, around, start)?;
+        made = made_behind(made, more)?;
     }
-    Ok(Made {
-        items: List::from_vec(items),
-        fresh: List::from_vec(fresh),
-    })
+    Ok(made)
 }

@@ -3,7 +3,7 @@ ghost use Rattle.std.specs.Prelude.{◌≡◌, map};
 ghost use Rattle.std.specs.List.{list_any};
 ghost use Rattle.normal_task.specs.Parts as spec;
 
-use crate::numbering::Numbering;
+use numbering::Numbering;
 use pddl_parser::{Condition, Term, Typed};
 
 /// Whether the variable is free in the condition.

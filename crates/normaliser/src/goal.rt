@@ -6,11 +6,10 @@ ghost use Rattle.normal_task.specs.Normalised as spec;
 use crate::axioms::fresh_number;
 use crate::cut::MadeParts;
 use crate::made::Made;
-use crate::moved::sum;
-use crate::numbering::Numbering;
 use crate::rows::copied_literals;
 use lists::List;
 use normal_task::{Fresh, Literal, Part};
+use numbering::{Numbering, sum};
 use std::alloc::{AllocError, Global};
 
 /// The literals of the only part, if it has no variables.

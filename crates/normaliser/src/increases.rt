@@ -7,10 +7,8 @@ ghost use Rattle.normaliser.specs.Code.{first};
 ghost use Rattle.normaliser.specs.MadeThings.{cost_of};
 ghost use Rattle.normal_task.specs.Normalised as spec;
 
-use crate::numbering::Numbering;
-use crate::scope::places_of;
-use crate::variable::Variable;
 use normal_task::CostRow;
+use numbering::{Numbering, Variable, places_of};
 use pddl_parser::{Action, Cost, Effect};
 use std::alloc::{AllocError, Global};
 

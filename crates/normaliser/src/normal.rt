@@ -1,20 +1,18 @@
 // The normal task of a checked pair.
 ghost use Rattle.std.specs.Prelude.{◌≡◌, ◌++◌, ◌∷◌, [], map, length, true, IfOk, OnOk};
 ghost use Rattle.pddl_parser.specs.Objects.{objects};
-ghost use Rattle.normaliser.specs.MadeThings.{IsMadeAll};
+ghost use Rattle.normaliser.specs.MadeThings.{IsMadeAll, IsMadeOf, goal_from};
 ghost use Rattle.normal_task.specs.Normalised as spec;
 ghost use Rattle.normal_task.specs.Numbers as numbers;
 
 use crate::axioms::{axioms_of, push_fresh_axioms};
-use crate::cut::cut;
+use crate::cut::{Here, cut};
 use crate::goal::goal_of;
-use crate::initial::{stated_atoms, stated_values};
-use crate::moved::sum;
-use crate::numbering::Numbering;
-use crate::predicates::predicate_rows;
-use crate::schemas::{joined_fresh, schemas_of};
+use crate::made::{Made, joined_lists};
+use crate::schemas::schemas_of;
 use lists::{List, Text};
 use normal_task::{AxiomRow, Fresh, Literal, Normal, Schema};
+use numbering::{Numbering, predicate_rows, stated_atoms, stated_values, sum};
 use pddl_parser::Typed;
 use std::alloc::{AllocError, Global};
 use type_checker::Checked;
@@ -49,6 +47,41 @@ struct MadeAll {
     fresh: List<Fresh>,
 }
 
+/// The literals of the goal, and the new predicates that they need.
+fn goal_made(
+    alloc: Global,
+    numbering: &Numbering<'_>,
+    next: u64,
+) -> Result<Made<Literal>, AllocError>
+    ensures { IfOk result (IsMadeOf (goal_from numbering.now.domain numbering.now.problem next)) }
+{
+    let here = Here {
+        numbering,
+        scope: &[],
+        around: 0,
+    };
+    let parts = cut(alloc, &here, &numbering.problem().goal, true, next)?;
+    goal_of(alloc, numbering, parts, next)
+}
+
+/// All that was made, with all new predicates in one list.
+fn all_made(
+    schemas: Made<Schema>,
+    axioms: Made<AxiomRow>,
+    goal: Made<Literal>,
+) -> Result<MadeAll, AllocError>
+    ensures { IfOk result (λ all. (all.schemas ≡ schemas.items) × ((all.axioms ≡ axioms.items) × ((all.goal ≡ goal.items) × (all.fresh ≡ schemas.fresh ++ (axioms.fresh ++ goal.fresh))))) }
+{
+    let later = joined_lists(axioms.fresh, goal.fresh)?;
+    let fresh = joined_lists(schemas.fresh, later)?;
+    Ok(MadeAll {
+        schemas: schemas.items,
+        axioms: axioms.items,
+        goal: goal.items,
+        fresh,
+    })
+}
+
 fn make_all(alloc: Global, numbering: &Numbering<'_>) -> Result<MadeAll, AllocError>
     ensures { IfOk result (IsMadeAll numbering.now.domain numbering.now.problem) }
 {
@@ -57,16 +90,9 @@ fn make_all(alloc: Global, numbering: &Numbering<'_>) -> Result<MadeAll, AllocEr
     let after_schemas = schemas.fresh.as_slice().len() as u64;
     let axioms = axioms_of(alloc, numbering, domain.axioms.as_slice(), after_schemas)?;
     let after_axioms = sum(after_schemas, axioms.fresh.as_slice().len() as u64)?;
-    let condition = &numbering.problem().goal;
-    let parts = cut(alloc, numbering, condition, true, &[], 0, after_axioms)?;
-    let goal = goal_of(alloc, numbering, parts, after_axioms)?;
-    let later = joined_fresh(axioms.fresh, goal.fresh)?;
-    Ok(MadeAll {
-        schemas: schemas.items,
-        axioms: axioms.items,
-        goal: goal.items,
-        fresh: joined_fresh(schemas.fresh, later)?,
-    })
+    let goal = goal_made(alloc, numbering, after_axioms)?;
+    let all = all_made(schemas, axioms, goal)?;
+    Ok(all)
 }
 
 /// The axioms of the files, and then those of the new predicates.

@@ -1,20 +1,17 @@
 // The schemas of actions.
 ghost use Rattle.std.specs.Prelude.{◌≡◌, ◌++◌, ◌∷◌, [], map, length, IfOk, OnOk};
-ghost use Rattle.normaliser.specs.MadeThings.{IsMadeOf, shared_schema};
+ghost use Rattle.normaliser.specs.MadeThings.{IsMadeOf, schemas_in_scope, schemas_of_parts, shared_schema};
 ghost use Rattle.normal_task.specs.Normalised as spec;
 ghost use Rattle.normal_task.specs.Parts as parts;
 
-use crate::cut::cut;
+use crate::cut::{Here, MadeParts, cut};
 use crate::effects::{Around, rows_of};
 use crate::increases::action_cost;
-use crate::made::Made;
-use crate::moved::sum;
-use crate::numbering::Numbering;
+use crate::made::{Made, joined_lists, made_behind, nothing_made};
 use crate::rows::{joined_ranges, moved_rows};
-use crate::scope::scope_inside;
-use crate::variable::Variable;
 use lists::{List, Text};
-use normal_task::{EffectRow, Fresh, Part, Schema};
+use normal_task::{EffectRow, Part, Schema};
+use numbering::{Numbering, Variable, scope_inside, sum};
 use pddl_parser::Action;
 use std::alloc::{AllocError, Global};
 
@@ -64,16 +61,54 @@ fn schemas_with(
     Ok(List::from_vec(schemas))
 }
 
-/// The two lists of new predicates, one behind the other.
-pub(crate) fn joined_fresh(
-    first: List<Fresh>,
-    second: List<Fresh>,
-) -> Result<List<Fresh>, AllocError>
-    ensures { IfOk result (λ all. all ≡ first ++ second) }
+/// A schema for each part of the precondition, which all have the same effects.
+fn schemas_from<'n, 'a>(
+    alloc: Global,
+    numbering: &'n Numbering<'a>,
+    action: &'a Action,
+    scope: &[Variable<'n, 'a>],
+    parts: MadeParts,
+    rows: Made<EffectRow>,
+) -> Result<Made<Schema>, AllocError>
+    ensures { IfOk result (IsMadeOf (schemas_of_parts numbering.now.domain numbering.now.problem action.now scope.now (record { items = parts.items; fresh = parts.fresh }) (record { items = rows.items; fresh = rows.fresh }))) }
 {
-    let mut all = first.into_vec();
-    all.append(&mut second.into_vec())?;
-    Ok(List::from_vec(all))
+    let ranges = numbering.ranges(alloc, action.parameters.as_slice())?;
+    let shared = Shared {
+        action,
+        scope,
+        ranges: ranges.as_slice(),
+        rows: rows.items.as_slice(),
+    };
+    let items = schemas_with(alloc, numbering, &shared, parts.items)?;
+    let fresh = joined_lists(parts.fresh, rows.fresh)?;
+    Ok(Made { items, fresh })
+}
+
+/// What is made of the precondition, and of the effect behind it.
+fn schemas_in<'n, 'a>(
+    alloc: Global,
+    numbering: &'n Numbering<'a>,
+    action: &'a Action,
+    scope: &[Variable<'n, 'a>],
+    next: u64,
+) -> Result<Made<Schema>, AllocError>
+    ensures { IfOk result (IsMadeOf (schemas_in_scope numbering.now.domain numbering.now.problem action.now scope.now next)) }
+{
+    let around = action.parameters.as_slice().len() as u64;
+    let here = Here {
+        numbering,
+        scope,
+        around,
+    };
+    let parts = cut(alloc, &here, &action.precondition, true, next)?;
+    let start = sum(next, parts.fresh.as_slice().len() as u64)?;
+    let around = Around {
+        required: &[],
+        scope,
+        count: around,
+    };
+    let rows = rows_of(alloc, numbering, &action.effect, &around, start)?;
+    schemas_from(alloc, numbering, action, scope, parts, rows)
 }
 
 /// A schema for each part of the precondition, which all have the same effects.
@@ -85,37 +120,12 @@ fn schemas<'n, 'a>(
 ) -> Result<Made<Schema>, AllocError>
     ensures { IfOk result (IsMadeOf (spec.schemas numbering.now.domain numbering.now.problem action.now next)) }
 {
+    let numbering = &*numbering;
+    let action = &*action;
     let parameters = action.parameters.as_slice();
-    let count = parameters.len() as u64;
     let scope = scope_inside(alloc, numbering, parameters, 0, &[])?;
-    let ranges = numbering.ranges(alloc, parameters)?;
-    let parts = cut(
-        alloc,
-        numbering,
-        &action.precondition,
-        true,
-        scope.as_slice(),
-        count,
-        next,
-    )?;
-    let start = sum(next, parts.fresh.as_slice().len() as u64)?;
-    let around = Around {
-        required: &[],
-        scope: scope.as_slice(),
-        count,
-    };
-    let rows = rows_of(alloc, numbering, &action.effect, &around, start)?;
-    let shared = Shared {
-        action,
-        scope: scope.as_slice(),
-        ranges: ranges.as_slice(),
-        rows: rows.items.as_slice(),
-    };
-    let items = schemas_with(alloc, numbering, &shared, parts.items)?;
-    Ok(Made {
-        items,
-        fresh: joined_fresh(parts.fresh, rows.fresh)?,
-    })
+    let variables = scope.as_slice();
+    schemas_in(alloc, numbering, action, variables, next)
 }
 
 /// The schemas of the actions, one action after another.
@@ -127,16 +137,11 @@ pub(crate) fn schemas_of<'n, 'a>(
 ) -> Result<Made<Schema>, AllocError>
     ensures { IfOk result (IsMadeOf (parts.in_turn (map (spec.schemas numbering.now.domain numbering.now.problem) actions.now) next)) }
 {
-    let mut items = Vec::new(alloc);
-    let mut fresh = Vec::new(alloc);
+    let mut made = nothing_made(alloc);
     for action in actions {
-        let start = sum(next, fresh.len() as u64)?;
-        let made = schemas(alloc, numbering, action, start)?;
-        items.append(&mut made.items.into_vec())?;
-        fresh.append(&mut made.fresh.into_vec())?;
+        let start = sum(next, made.fresh.as_slice().len() as u64)?;
+        let more = schemas(alloc, numbering, action, start)?;
+        made = made_behind(made, more)?;
     }
-    Ok(Made {
-        items: List::from_vec(items),
-        fresh: List::from_vec(fresh),
-    })
+    Ok(made)
 }

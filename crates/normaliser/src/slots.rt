@@ -7,10 +7,9 @@ ghost use Rattle.normaliser.specs.Code.{is_asked};
 ghost use Rattle.normal_task.specs.Parts as spec;
 
 use crate::free::{is_free, is_listed};
-use crate::numbering::Numbering;
-use crate::variable::Variable;
 use lists::List;
 use normal_task::Place;
+use numbering::{Numbering, Variable};
 use pddl_parser::{Condition, Typed};
 use std::alloc::{AllocError, Global};
 
@@ -54,12 +53,12 @@ pub(crate) fn free_slots<'n, 'a>(
 ) -> Result<Vec<Variable<'n, 'a>>, AllocError>
     ensures { IfOk result (λ slots. slots.items ≡ spec.free_slots numbering.now.domain numbering.now.problem variables.now (spec.known numbering.now.domain numbering.now.problem inside.now) scope.now) }
 {
-    let mut slots = Vec::new(alloc);
+    let mut free = Vec::new(alloc);
     let mut left = scope.len();
     while left > 0 {
         left -= 1;
         push_if_free(
-            &mut slots,
+            &mut free,
             numbering,
             variables,
             inside,
@@ -67,7 +66,7 @@ pub(crate) fn free_slots<'n, 'a>(
             &scope[left],
         )?;
     }
-    Ok(slots)
+    Ok(free)
 }
 
 /// These variables alone, numbered in their order.

@@ -1,14 +1,8 @@
 use Rattle.std.proofs.Common.{map, take}
 use Rattle.normal_task.specs.Parts as spec
-use Rattle.normaliser.specs.Code.{IsMade}
+use Rattle.normaliser.specs.Code.{IsMade, combined}
 use Rattle.normaliser.proofs.cut.+cut.Given as goal
 
-abbrev pub invariant-cut_listed-loop-member : goal.invariant-cut_listed-loop-member
-invariant-cut_listed-loop-member l =
-    IsMade (spec.in_turn (map (λ member. member.cut l.positive l.scope l.around) (map (spec.known l.numbering.domain l.numbering.problem) (take l.member-index l.members))) l.next)
-    (record { items = l.items.items; fresh = l.fresh.items })
-
-abbrev pub invariant-cut_paired-loop-member : goal.invariant-cut_paired-loop-member
-invariant-cut_paired-loop-member l =
-    IsMade (spec.all_of l.around (map (λ member. member.cut l.positive l.scope l.around) (map (spec.known l.numbering.domain l.numbering.problem) (take l.member-index l.members))) l.next)
-    (record { items = l.all; fresh = l.fresh.items })
+abbrev pub invariant-cut_members-loop-member : goal.invariant-cut_members-loop-member
+invariant-cut_members-loop-member l =
+    IsMade (combined l.every l.here.around (map (λ member. member.cut l.positive l.here.scope.now l.here.around) (map (spec.known l.here.numbering.now.domain l.here.numbering.now.problem) (take l.member-index l.members))) l.next) l.made

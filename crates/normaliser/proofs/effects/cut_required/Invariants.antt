@@ -5,5 +5,4 @@ use Rattle.normal_task.specs.Parts.{all_of}
 use Rattle.normaliser.proofs.effects.cut_required.Given as goal
 
 abbrev pub invariant-loop-one : goal.invariant-loop-one
-invariant-loop-one l =
-    IsMade (all_of l.around (map (λ cut. cut l.around) (cuts_of l.numbering.domain l.numbering.problem (take l.one-index l.required))) l.next) (record { items = l.all; fresh = l.fresh.items })
+invariant-loop-one l = IsMade (all_of l.around (map (λ cut. cut l.around) (cuts_of l.numbering.domain l.numbering.problem (take l.one-index l.required))) l.next) l.made

@@ -1,6 +1,5 @@
 use Rattle.std.proofs.Common.{List, ◌+◌, length, ap, ◌∙◌}
 use Rattle.pddl_parser.specs.declared.types.Domain.{Domain}
-use Rattle.pddl_parser.specs.declared.types.Problem.{Problem}
 use Rattle.normal_task.specs.declared.parts.Fresh.{Fresh}
 use Rattle.normaliser.proofs.WholeTask.{made-all}
 use Rattle.normaliser.proofs.normal.make_all.Goals as goal
@@ -12,6 +11,5 @@ returns c =
     (length c.as_slice-2.result.now) (ap (λ (l : List Fresh). length l) c.as_slice-2.ensures)
     c.as_slice-3.result.now (c.as_slice-3.ensures ∙ ap (λ (d : Domain). d.axioms) c.domain-domain.ensures) c.in_ok-axioms.axioms.items c.in_ok-axioms.axioms.fresh c.in_ok-axioms.ensures
     c.in_ok-after_axioms.after_axioms (c.in_ok-after_axioms.ensures ∙ ap (λ (l : List Fresh). length c.as_slice-2.result.now + length l) c.as_slice-4.ensures)
-    c.problem.result.now.goal (ap (λ (p : Problem). p.goal) c.problem.ensures) c.in_ok-parts.parts.items c.in_ok-parts.parts.fresh c.in_ok-parts.ensures
     c.in_ok-goal.goal.items c.in_ok-goal.goal.fresh c.in_ok-goal.ensures
-    c.in_ok-later.later c.in_ok-later.ensures c.in_ok-joined_fresh.field-0 c.in_ok-joined_fresh.ensures
+    c.in_ok-all.all c.in_ok-all.ensures

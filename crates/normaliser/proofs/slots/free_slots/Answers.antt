@@ -9,7 +9,7 @@ loop-left-preserved c = record {
   within = omega (arith, c.loop-left.invariant.within);
   so_far =
       asked-step c.args.numbering.now.domain c.args.numbering.now.problem c.args.variables.now c.args.inside.now c.args.scope.now (c.loop-left.left - 1) c.index-scope-left.result
-      (omega (arith, c.loop-left.invariant.within, c.loop-left-test.true)) c.index-scope-left.is c.loop-left.slots.items c.push_if_free.new.slots.items (take (c.loop-left.left - 1) c.args.scope.now) refl
+      (omega (arith, c.loop-left.invariant.within, c.loop-left-test.true)) c.index-scope-left.is c.loop-left.free.items c.push_if_free.new.slots.items (take (c.loop-left.left - 1) c.args.scope.now) refl
       c.in_ok-push_if_free.ensures
       (c.loop-left.invariant.so_far
       ∙ ap (λ n. slots_for (is_asked c.args.numbering.now.domain c.args.numbering.now.problem c.args.variables.now c.args.inside.now (take n c.args.scope.now)) (drop n c.args.scope.now)) (sym (one-less c.loop-left.left c.loop-left-test.true)));

@@ -9,5 +9,5 @@ decreases-loop-left l = l.left
 abbrev pub invariant-loop-left : goal.invariant-loop-left
 invariant-loop-left l = record {
   within : l.left ≤ length l.scope;
-  so_far : l.slots.items ≡ slots_for (is_asked l.numbering.domain l.numbering.problem l.variables l.inside (take l.left l.scope)) (drop l.left l.scope);
+  so_far : l.free.items ≡ slots_for (is_asked l.numbering.domain l.numbering.problem l.variables l.inside (take l.left l.scope)) (drop l.left l.scope);
 }

@@ -1,0 +1,18 @@
+use Rattle.std.proofs.Common.{[], true, ap, subst, ◌∙◌}
+use Rattle.std.specs.Prelude.{IfOk}
+use Rattle.pddl_parser.specs.declared.types.Problem.{Problem}
+use Rattle.normal_task.specs.declared.parts.Part.{Part}
+use Rattle.normal_task.specs.Normalised.{goal_of}
+use Rattle.normal_task.specs.Parts.{Made, parts}
+use Rattle.normaliser.specs.MadeThings.{IsMadeOf}
+use Rattle.normaliser.proofs.SchemaRows.{made-same}
+use Rattle.normaliser.proofs.normal.goal_made.Goals as goal
+
+pub returns : goal.returns
+returns c =
+    let domain = c.args.numbering.now.domain in
+    let problem = c.args.numbering.now.problem in
+    subst (λ (m : Made Part). IfOk c.goal_of.result (IsMadeOf (goal_of domain problem m m.items c.args.next)))
+    (made-same (parts domain problem c.problem.result.now.goal true [] 0 c.args.next) c.in_ok-parts.parts.items c.in_ok-parts.parts.fresh c.in_ok-parts.ensures
+    ∙ ap (λ (x : Problem). parts domain problem x.goal true [] 0 c.args.next) c.problem.ensures)
+    c.goal_of.ensures

@@ -1,0 +1,98 @@
+-- The objects of listed types, by the types that are found below these.
+use Rattle.std.proofs.Common.{◌≡◌, ℕ, ◌<◌, Bool, true, false, ◌||◌, inl, inr, List, [], ◌∷◌, ◌++◌, map, length, get_or, refl, sym, ap, ◌∙◌, subst}
+use Rattle.std.specs.List.{list_any, filter}
+use Rattle.std.proofs.lemmas.List.{map-append}
+use Rattle.lists.proofs.Items.{Among, among_at, same_any}
+use Rattle.pddl_parser.specs.declared.types.Domain.{Domain}
+use Rattle.pddl_parser.specs.declared.types.Named.{Named}
+use Rattle.pddl_parser.specs.declared.types.Problem.{Problem}
+use Rattle.pddl_parser.specs.declared.types.Typed.{Typed}
+use Rattle.pddl_parser.specs.Words.{Name, is_same}
+use Rattle.pddl_parser.specs.Objects.{root, leads, has_type, has_listed_type}
+use Rattle.numbering.specs.declared.numbering.OfType.{OfType}
+use Rattle.numbering.specs.Below.{has, leads_to, has_type_among, is_any, objects_of_type, range_of_types}
+use Rattle.normal_task.specs.Numbers.{object_number}
+use Rattle.numbering.proofs.Ranges.{ranged}
+
+four : (a b c d : Bool) → ((a || b) || (c || d)) ≡ ((a || c) || (b || d))
+four true b c d = refl
+four false true true d = refl
+four false true false d = refl
+four false false true d = refl
+four false false false d = refl
+
+any_or : {X : Type 0} (one other : X → Bool) (xs : List X) → list_any (λ x. one x || other x) xs ≡ (list_any one xs || list_any other xs)
+any_or one other [] = refl
+any_or one other (x ∷ xs) = ap (λ b. (one x || other x) || b) (any_or one other xs) ∙ four (one x) (other x) (list_any one xs) (list_any other xs)
+
+any_none : {X : Type 0} (xs : List X) → list_any (λ (x : X). false) xs ≡ false
+any_none [] = refl
+any_none (x ∷ xs) = any_none xs
+
+any_swapped : {X Y : Type 0} (test : X → Y → Bool) (xs : List X) (ys : List Y) → list_any (λ y. list_any (λ x. test x y) xs) ys ≡ list_any (λ x. list_any (test x) ys) xs
+any_swapped test xs [] = sym (any_none xs)
+any_swapped test xs (y ∷ ys) =
+    ap (λ b. list_any (λ x. test x y) xs || b) (any_swapped test xs ys)
+    ∙ sym (any_or (λ x. test x y) (λ x. list_any (test x) ys) xs)
+
+same_filter : {X : Type 0} (test other : X → Bool) → ((x : X) → test x ≡ other x) → (xs : List X) → filter test xs ≡ filter other xs
+same_filter test other same [] = refl
+same_filter test other same (x ∷ xs) = let rest = same_filter test other same xs in cc (rest, same x)
+
+module _ (types : List Typed) (listed : List Named) (found : List Name) (below : (name : Name) → has found name ≡ leads_to types listed name) where
+  -- some listed type is `object`, or one of the object's own types is found
+  same_types : (object : Typed) → list_any (λ type. has_type types object type.name) listed ≡ (list_any (λ type. is_same type.name root) listed || list_any (λ own. has found own.name) object.types)
+  same_types object =
+      any_or (λ (type : Named). is_same type.name root) (λ (type : Named). list_any (λ (own : Named). leads types (length types) own.name type.name) object.types) listed
+      ∙ ap (λ b. list_any (λ (type : Named). is_same type.name root) listed || b)
+      (any_swapped (λ (own type : Named). leads types (length types) own.name type.name) object.types listed
+      ∙ same_any (λ (own : Named). leads_to types listed own.name) (λ (own : Named). has found own.name) object.types (λ own among. sym (below own.name)))
+
+-- an object is kept alike by the types that are found
+same_listed : (types : List Typed) (listed : List Named) (found : List Name) → ((name : Name) → has found name ≡ leads_to types listed name) → (object : Typed) →
+    has_type_among (is_any listed) found object ≡ has_listed_type types listed object
+same_listed types [] found below object = refl
+same_listed types (type ∷ more) found below object = sym (same_types types (type ∷ more) found below object)
+
+pub range_found : (domain : Domain) (problem : Problem) (types : List Typed) (listed : List Named) (found : List Name) (any : Bool) → types ≡ domain.types → ((name : Name) → has found name ≡ leads_to types listed name) → any ≡ is_any listed →
+    (constants others : List Typed) → constants ≡ domain.constants → others ≡ problem.objects → (start middle end : List ℕ) → start ≡ [] →
+    middle ≡ start ++ map (object_number domain problem) (map (λ object. object.name.name) (filter (has_type_among any found) constants)) →
+    end ≡ middle ++ map (object_number domain problem) (map (λ object. object.name.name) (filter (has_type_among any found) others)) →
+    end ≡ range_of_types domain problem listed
+range_found domain problem types listed found any types_are below any_is constants others constants_are others_are start middle end none first second =
+    ranged (object_number domain problem) (has_type_among any found) constants others start middle end none first second
+    ∙ ap (λ (l : List Typed). map (object_number domain problem) (map (λ object. object.name.name) l))
+    (same_filter (has_type_among any found) (has_listed_type types listed) (λ object. ap (λ b. has_type_among b found object) any_is ∙ same_listed types listed found below object) (constants ++ others)
+    ∙ ap (λ (t : List Typed). filter (has_listed_type t listed) (constants ++ others)) types_are
+    ∙ ap (filter (has_listed_type domain.types listed)) (ap (λ (l : List Typed). l ++ others) constants_are ∙ ap (λ (l : List Typed). domain.constants ++ l) others_are))
+
+-- ---- types whose objects are known
+
+abbrev first_or : {Y : Type 0} → Y → List Y → Y
+first_or {Y} other [] = other
+first_or {Y} other (item ∷ items) = item
+
+abbrev behind_first : {Y : Type 0} → List Y → List Y
+behind_first {Y} [] = []
+behind_first {Y} (item ∷ items) = items
+
+-- two lists that are made of one are the same item by item
+same_among : {X Y : Type 0} (f g : X → Y) (item : X) (xs : List X) → map f xs ≡ map g xs → Among item xs → f item ≡ g item
+same_among f g item [] same among = absurd among
+same_among f g item (x ∷ xs) same (inl here) = ap f (sym here) ∙ ap (first_or (f x)) same ∙ ap g here
+same_among f g item (x ∷ xs) same (inr there) = same_among f g item xs (ap behind_first same) there
+
+module _ (domain : Domain) (problem : Problem) where
+  -- one more of them
+  pub known_more : (known after : List OfType) (one : OfType) → map (λ known. known.objects) known ≡ map (λ known. objects_of_type domain problem known.name.now) known → after ≡ known ++ one ∷ [] →
+      one.objects ≡ objects_of_type domain problem one.name.now → map (λ known. known.objects) after ≡ map (λ known. objects_of_type domain problem known.name.now) after
+  known_more known after one are grown is =
+      ap (map (λ known. known.objects)) grown ∙ map-append (λ known. known.objects) known (one ∷ [])
+      ∙ ap (λ (l : List (List ℕ)). l ++ one.objects ∷ []) are ∙ ap (λ (o : List ℕ). map (λ (k : OfType). objects_of_type domain problem k.name.now) known ++ o ∷ []) is
+      ∙ sym (ap (map (λ known. objects_of_type domain problem known.name.now)) grown ∙ map-append (λ known. objects_of_type domain problem known.name.now) known (one ∷ []))
+
+  -- one of them
+  pub known_at : (known : List OfType) → map (λ known. known.objects) known ≡ map (λ known. objects_of_type domain problem known.name.now) known → (place : ℕ) (one : OfType) → place < length known → one ≡ get_or known place one →
+      one.objects ≡ objects_of_type domain problem one.name.now
+  known_at known are place one within is =
+      same_among (λ (k : OfType). k.objects) (λ (k : OfType). objects_of_type domain problem k.name.now) one known are (subst (λ (k : OfType). Among k known) (sym is) (among_at known place one within))

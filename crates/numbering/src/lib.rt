@@ -1,0 +1,20 @@
+//! The numbers of a checked pair's objects, predicates and functions, the objects that variables range over, and what of
+//! the normal task needs no more: its initial atoms, its values and its predicates.
+#![tactic(auto)]
+
+mod asked;
+mod below;
+mod initial;
+mod keys;
+mod numbering;
+mod numbers;
+mod predicates;
+mod scope;
+mod variable;
+
+pub use initial::{stated_atoms, stated_values};
+pub use numbering::Numbering;
+pub use numbers::{copied_numbers, sum};
+pub use predicates::predicate_rows;
+pub use scope::{place_of, places_of, scope_inside};
+pub use variable::Variable;

@@ -1,0 +1,325 @@
+// The numbers of objects, predicates and functions.
+ghost use Rattle.std.specs.Prelude.{◌≡◌, ◌++◌, ◌∷◌, [], map, length, false, IfOk, IfSome, OnOk};
+ghost use Rattle.std.specs.List.{list_any, filter, IsDistinct};
+ghost use Rattle.names.specs.Names.{is_same};
+ghost use Rattle.pddl_parser.specs.declared.types.Domain.{Domain};
+ghost use Rattle.pddl_parser.specs.declared.types.Problem.{Problem};
+ghost use Rattle.pddl_parser.specs.Objects as typing;
+ghost use Rattle.numbering.specs.Below.{has_type_among, objects_of_type, range_of_types};
+ghost use Rattle.numbering.specs.Below as spec_below;
+ghost use Rattle.normal_task.specs.Numbers as spec;
+
+use crate::asked::asked_types;
+use crate::below::{Hierarchy, has_some};
+use crate::numbers::copied_numbers;
+use lists::List;
+use names::Names;
+use pddl_parser::{Domain, Head, Named, Problem, Typed};
+use std::alloc::{AllocError, Global};
+use std::marker::Model;
+use type_checker::Checked;
+
+/// The objects of a type, by their numbers.
+#[derive(Drop)]
+pub(crate) struct OfType<'a> {
+    name: &'a [u8],
+    objects: List<u64>,
+}
+
+/// The objects, the declared predicates and the declared functions of two files, by their positions. A look-up goes
+/// through a table. Contracts see the two files.
+#[derive(Drop)]
+pub struct Numbering<'a> {
+    domain: &'a Domain,
+    problem: &'a Problem,
+    objects: Names<'a>,
+    predicates: Names<'a>,
+    functions: Names<'a>,
+    hierarchy: Hierarchy<'a>,
+    /// The names of the types whose objects are known, in the order of what is known of them.
+    types: Names<'a>,
+    of_types: Vec<OfType<'a>>,
+}
+
+impl<'a> Model for Numbering<'a> {
+    ghost use Rattle.std.specs.Prelude.{◌≡◌};
+    ghost use Rattle.std.specs.Coded.{codes};
+    ghost use Rattle.pddl_parser.specs.contracts.types.Condition as condition;
+    ghost use Rattle.pddl_parser.specs.contracts.types.Effect as effect;
+    ghost use Rattle.type_checker.specs.Checked.{Pair};
+    ghost use Rattle.std.specs.Prelude.{map};
+    ghost use Rattle.numbering.specs.Below.{objects_of_type};
+    ghost use Rattle.normal_task.specs.Numbers.{object_names, head_names};
+
+    ghost Value = { Pair };
+
+    ghost coded = { Prim.hlevel (codes, condition.the_row.coded, effect.the_row.coded) };
+
+    ghost view = { λ numbering. record { domain = numbering.domain.now; problem = numbering.problem.now } };
+
+    ghost invariant = { λ numbering. (numbering.objects ≡ object_names numbering.domain.now numbering.problem.now) × ((numbering.predicates ≡ head_names numbering.domain.now.predicates) × ((numbering.functions ≡ head_names numbering.domain.now.functions) × ((numbering.hierarchy.entries.now ≡ numbering.domain.now.types) × (map (λ known. known.objects) numbering.of_types.items ≡ map (λ known. objects_of_type numbering.domain.now numbering.problem.now known.name.now) numbering.of_types.items)))) };
+}
+
+impl<'a> Numbering<'a> {
+    /// The numbering of a checked pair, which declares no name twice.
+    pub fn of(alloc: Global, task: &'a Checked) -> Result<Numbering<'a>, AllocError>
+        ensures { IfOk result (λ numbering. numbering ≡ task.now) }
+    {
+        let mut numbering = Numbering::of_names(alloc, task)?;
+        numbering.know_asked(alloc)?;
+        Ok(numbering)
+    }
+
+    /// The numbering, before the objects of any type are looked up.
+    fn of_names(alloc: Global, task: &'a Checked) -> Result<Numbering<'a>, AllocError>
+        ensures { IfOk result (λ numbering. numbering ≡ task.now) }
+    {
+        let domain = task.domain();
+        let objects = names_of_objects(alloc, task)?;
+        let predicates = names_of(alloc, domain.predicates.as_slice())?;
+        let functions = names_of(alloc, domain.functions.as_slice())?;
+        let hierarchy = Hierarchy::new(alloc, domain.types.as_slice())?;
+        Ok(Numbering {
+            domain,
+            problem: task.problem(),
+            objects,
+            predicates,
+            functions,
+            hierarchy,
+            types: Names::new(alloc),
+            of_types: Vec::new(alloc),
+        })
+    }
+
+    /// Looks up once which objects have the types of all variables.
+    fn know_asked(&mut self, alloc: Global) -> Result<(), AllocError>
+        ensures { OnOk result (self.new ≡ self.old) }
+    {
+        let asked = asked_types(alloc, self.domain, self.problem)?;
+        self.know_types(alloc, &asked)
+    }
+
+    /// The domain.
+    pub fn domain(&self) -> &'a Domain
+        ensures { result.now ≡ self.now.domain }
+    {
+        self.domain
+    }
+
+    /// The problem.
+    pub fn problem(&self) -> &'a Problem
+        ensures { result.now ≡ self.now.problem }
+    {
+        self.problem
+    }
+
+    /// The number of the object of this name.
+    pub fn object(&self, name: &[u8]) -> u64
+        ensures { result ≡ spec.object_number self.now.domain self.now.problem name.now }
+    {
+        self.objects.position(name) as u64
+    }
+
+    /// The number of the declared predicate of this name.
+    pub fn predicate(&self, name: &[u8]) -> u64
+        ensures { result ≡ spec.predicate_number self.now.domain name.now }
+    {
+        self.predicates.position(name) as u64
+    }
+
+    /// The number of the declared function of this name.
+    pub fn function(&self, name: &[u8]) -> u64
+        ensures { result ≡ spec.function_number self.now.domain name.now }
+    {
+        self.functions.position(name) as u64
+    }
+
+    /// How many predicates are declared.
+    pub fn domain_predicates(&self) -> u64
+        ensures { result ≡ length self.now.domain.predicates }
+    {
+        self.domain.predicates.as_slice().len() as u64
+    }
+
+    /// The numbers of the objects that the variable ranges over, in their order.
+    pub fn range(&self, alloc: Global, variable: &'a Typed) -> Result<List<u64>, AllocError>
+        ensures { IfOk result (λ range. range ≡ spec.range_of self.now.domain self.now.problem variable.now) }
+    {
+        let listed = variable.types.as_slice();
+        match self.known_range(listed) {
+            Some(range) => copied_numbers(alloc, range),
+            None => self.range_of_types(alloc, listed),
+        }
+    }
+
+    /// The numbers of the objects of the listed type, if they are known.
+    fn known_range(&self, listed: &[Named]) -> Option<&[u64]>
+        ensures { IfSome result (λ range. range.now ≡ range_of_types self.now.domain self.now.problem listed.now) }
+    {
+        let name = one_type(listed)?;
+        let place = self.types.position(name);
+        if place >= self.of_types.len() {
+            return None;
+        }
+        let known = &self.of_types[place];
+        if known.name == name {
+            Some(known.objects.as_slice())
+        } else {
+            None
+        }
+    }
+
+    /// The numbers of the objects that have a listed type.
+    fn range_of_types(&self, alloc: Global, listed: &'a [Named]) -> Result<List<u64>, AllocError>
+        ensures { IfOk result (λ range. range ≡ range_of_types self.now.domain self.now.problem listed.now) }
+    {
+        let below = self.hierarchy.below(alloc, listed)?;
+        let is_any = is_any(listed);
+        let mut numbers = Vec::new(alloc);
+        self.push_numbers(
+            &mut numbers,
+            is_any,
+            &below,
+            self.domain().constants.as_slice(),
+        )?;
+        self.push_numbers(
+            &mut numbers,
+            is_any,
+            &below,
+            self.problem().objects.as_slice(),
+        )?;
+        Ok(List::from_vec(numbers))
+    }
+
+    /// Adds the numbers of those of the objects that have one of the types, or of all of them.
+    fn push_numbers(
+        &self,
+        numbers: &mut Vec<u64>,
+        is_any: bool,
+        below: &Names<'_>,
+        objects: &[Typed],
+    ) -> Result<(), AllocError>
+        ensures { OnOk result (numbers.new.items ≡ numbers.old.items ++ map (spec.object_number self.now.domain self.now.problem) (map (λ object. object.name.name) (filter (has_type_among is_any below.now) objects.now))) }
+    {
+        for object in objects {
+            if is_any || has_some(below, object.types.as_slice()) {
+                numbers.push(self.object(object.name.name.as_slice()))?;
+            }
+        }
+        Ok(())
+    }
+
+    /// Looks up once which objects have the type, if one type alone is listed.
+    fn know_type(&mut self, alloc: Global, listed: &'a [Named]) -> Result<(), AllocError>
+        ensures { OnOk result (self.new ≡ self.old) }
+    {
+        let Some(name) = one_type(listed) else {
+            return Ok(());
+        };
+        if !self.types.has(name) {
+            let objects = self.range_of_types(alloc, listed)?;
+            self.of_types.push(OfType { name, objects })?;
+            self.types.add(name)?;
+        }
+        Ok(())
+    }
+
+    /// Looks up once which objects have each of the types.
+    fn know_types(&mut self, alloc: Global, asked: &[&'a [Named]]) -> Result<(), AllocError>
+        ensures { OnOk result (self.new ≡ self.old) }
+    {
+        for listed in asked {
+            self.know_type(alloc, *listed)?;
+        }
+        Ok(())
+    }
+
+    /// What each of the variables ranges over.
+    pub fn ranges(
+        &self,
+        alloc: Global,
+        variables: &'a [Typed],
+    ) -> Result<List<List<u64>>, AllocError>
+        ensures { IfOk result (λ ranges. ranges ≡ spec.ranges_of self.now.domain self.now.problem variables.now) }
+    {
+        let mut ranges = Vec::new(alloc);
+        for variable in variables {
+            ranges.push(self.range(alloc, variable)?)?;
+        }
+        Ok(List::from_vec(ranges))
+    }
+}
+
+/// The names of all objects.
+fn names_of_objects<'a>(alloc: Global, task: &'a Checked) -> Result<Names<'a>, AllocError>
+    ensures { IfOk result (λ names. names ≡ spec.object_names task.now.domain task.now.problem) }
+{
+    let domain = task.domain();
+    let problem = task.problem();
+    let mut objects = Names::new(alloc);
+    add_objects(&mut objects, domain.constants.as_slice())?;
+    add_objects(&mut objects, problem.objects.as_slice())?;
+    Ok(objects)
+}
+
+/// Adds the names of the objects, of which none is there.
+fn add_objects<'a>(names: &mut Names<'a>, objects: &'a [Typed]) -> Result<(), AllocError>
+    requires { IsDistinct is_same (names.old ++ map (λ object. object.name.name) objects.now) }
+    ensures { OnOk result (names.new ≡ names.old ++ map (λ object. object.name.name) objects.now) }
+{
+    for object in objects {
+        add_new(names, object.name.name.as_slice())?;
+    }
+    Ok(())
+}
+
+/// The names of the heads, of which no two are the same.
+fn names_of<'a>(alloc: Global, heads: &'a [Head]) -> Result<Names<'a>, AllocError>
+    requires { IsDistinct is_same (spec.head_names heads.now) }
+    ensures { IfOk result (λ names. names ≡ spec.head_names heads.now) }
+{
+    let mut names = Names::new(alloc);
+    for head in heads {
+        add_new(&mut names, head.name.name.as_slice())?;
+    }
+    Ok(names)
+}
+
+/// Adds a name that isn't there.
+fn add_new<'a>(names: &mut Names<'a>, name: &'a [u8]) -> Result<(), AllocError>
+    requires { list_any (is_same name.now) names.old ≡ false }
+    ensures { OnOk result (names.new ≡ names.old ++ name.now ∷ []) }
+{
+    names.add(name)?;
+    Ok(())
+}
+
+/// The type that is listed alone, where `object` stands for no type at all.
+fn one_type(listed: &[Named]) -> Option<&[u8]>
+    ensures { (domain : Domain) (problem : Problem) → IfSome result (λ type. objects_of_type domain problem type.now ≡ range_of_types domain problem listed.now) }
+{
+    match listed {
+        [] => Some(b"object".as_slice()),
+        [named] => Some(named.name.as_slice()),
+        _ => None,
+    }
+}
+
+/// Whether no type is listed, or `object` is.
+fn is_any(listed: &[Named]) -> bool
+    ensures { result ≡ spec_below.is_any listed.now }
+{
+    match listed {
+        [] => true,
+        _ => has_root(listed),
+    }
+}
+
+/// Whether one of the types is `object`.
+fn has_root(listed: &[Named]) -> bool
+    ensures { result ≡ list_any (λ type. is_same type.name typing.root) listed.now }
+{
+    listed
+        .iter()
+        .any(|named| named.name.as_slice() == b"object".as_slice())
+}

@@ -1,0 +1,22 @@
+// Numbers that are counted on.
+ghost use Rattle.std.specs.Prelude.{◌≡◌, ◌+◌, IfOk};
+
+use lists::List;
+use std::alloc::{AllocError, Global};
+
+/// The sum, or want of memory where it isn't a `u64`.
+pub fn sum(number: u64, more: u64) -> Result<u64, AllocError>
+    ensures { IfOk result (λ sum. sum ≡ number + more) }
+{
+    match number.checked_add(more) {
+        Some(sum) => Ok(sum),
+        None => Err(AllocError),
+    }
+}
+
+/// The same numbers.
+pub fn copied_numbers(alloc: Global, numbers: &[u64]) -> Result<List<u64>, AllocError>
+    ensures { IfOk result (λ copy. copy ≡ numbers.now) }
+{
+    Ok(List::from_vec(Vec::from_slice(alloc, numbers)?))
+}
