@@ -50,7 +50,15 @@ fn is_printed(alloc: Global, row: &Row) -> Result<bool, AllocError> {
     let mut outside = prepared(alloc, row.domain.as_bytes(), row.problem.as_bytes())?;
     outside.room(100_000)?;
     let is_done = answers(alloc, &WORDS, &mut outside, Status::Done)?;
-    let [candidates, invariants, variables, facts, groups, operators, axioms] = row.numbers;
+    let [
+        candidates,
+        invariants,
+        variables,
+        facts,
+        groups,
+        operators,
+        axioms,
+    ] = row.numbers;
     let summary = format!(in alloc;
         "Translator candidates: {candidates}\nTranslator invariants: {invariants}\nTranslator variables: {variables}\nTranslator facts: {facts}\nTranslator mutex groups: {groups}\nTranslator operators: {operators}\nTranslator axioms: {axioms}\n"
     )?;
