@@ -1,5 +1,5 @@
 -- What a condition is cut into, one case for each variant, and what a loop over members has made.
-use Rattle.std.proofs.Common.{append-nil, ◌≡◌, ℕ, ◌+◌, Bool, true, false, not, List, [], ◌∷◌, ◌++◌, map, length, refl, ap, ◌∙◌, sym}
+use Rattle.std.proofs.Common.{append-nil, ◌≡◌, ℕ, ◌+◌, Bool, true, false, not, List, [], ◌∷◌, ◌++◌, length, refl, ap, ◌∙◌, sym}
 use Rattle.std.specs.Prelude.{if◌then◌else◌}
 use Rattle.pddl_parser.specs.declared.types.Condition.{Condition, Condition-F}
 use Rattle.pddl_parser.specs.declared.types.Condition.TheVariants as conditions
@@ -9,7 +9,7 @@ use Rattle.pddl_parser.specs.declared.types.Typed.{Typed}
 use Rattle.pddl_parser.proofs.ConditionCases as c
 use Rattle.normal_task.specs.declared.parts.Part.{Part}
 use Rattle.normal_task.specs.declared.parts.Fresh.{Fresh}
-use Rattle.normal_task.specs.Parts.{Scope, Made, in_turn, all_of, paired, Known, known, known_step, cut_step, parts, none_inside, exists_inside}
+use Rattle.normal_task.specs.Parts.{Scope, Made, paired, Known, known, known_step, cut_step, parts, none_inside, exists_inside}
 use Rattle.normaliser.specs.Code.{combined}
 use Rattle.normaliser.proofs.LeftToRight.{paired-last}
 use Rattle.normaliser.proofs.TurnSteps.{turn-more, pairs-more}

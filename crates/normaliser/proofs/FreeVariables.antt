@@ -5,16 +5,13 @@ use Rattle.std.specs.List.{list_any}
 use Rattle.std.proofs.lemmas.List.{take_more}
 use Rattle.std.proofs.lemmas.List.Folds.{list_any-append}
 use Rattle.std.proofs.Math.Seq.{drop-cons}
-use Rattle.pddl_parser.specs.declared.types.Condition.{Condition, Condition-F}
-use Rattle.pddl_parser.specs.declared.types.Condition.TheVariants as conditions
+use Rattle.pddl_parser.specs.declared.types.Condition.{Condition}
 use Rattle.pddl_parser.specs.declared.types.Domain.{Domain}
 use Rattle.pddl_parser.specs.declared.types.Problem.{Problem}
 use Rattle.pddl_parser.specs.declared.types.Typed.{Typed}
 use Rattle.pddl_parser.specs.Words.{Name, is_same}
-use Rattle.pddl_parser.proofs.ConditionCases as c
 use Rattle.normaliser.specs.Code.{is_asked}
-use Rattle.normal_task.specs.declared.parts.Part.{Part}
-use Rattle.normal_task.specs.Parts.{Slot, Scope, Made, Known, known_step, known, cut_step, parts, with_slot, slots_for, renumbered, is_listed, none_inside}
+use Rattle.normal_task.specs.Parts.{Slot, Scope, known, with_slot, slots_for, renumbered, is_listed}
 use Rattle.normal_task.proofs.Scopes.{append-assoc, renumbered-more}
 
 pub one-less : (left : ℕ) → 0 < left → left - 1 + 1 ≡ left

@@ -7,10 +7,8 @@ use Rattle.pddl_parser.specs.declared.types.Domain.{Domain}
 use Rattle.pddl_parser.specs.declared.types.Problem.{Problem}
 use Rattle.normal_task.specs.declared.task.AxiomRow.{AxiomRow}
 use Rattle.normal_task.specs.declared.task.EffectRow.{EffectRow}
-use Rattle.normal_task.specs.declared.task.Schema.{Schema}
 use Rattle.normaliser.specs.MadeThings.{schemas_of_parts, schemas_in_scope}
-use Rattle.normal_task.specs.Normalised.{parameter_scope, precondition_parts, effect_rows, moved_row, schema, schemas, rows_of, axiom_row, fresh_rows}
-use Rattle.normal_task.specs.Numbers.{ranges_of}
+use Rattle.normal_task.specs.Normalised.{rows_of, axiom_row, fresh_rows}
 use Rattle.normal_task.specs.declared.parts.Part.{Part}
 use Rattle.normal_task.specs.declared.parts.Fresh.{Fresh}
 use Rattle.normal_task.specs.Parts.{Scope, Made, parts, fresh_number}

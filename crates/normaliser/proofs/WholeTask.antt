@@ -1,5 +1,5 @@
 -- What comes of the actions, the axioms and the goal.
-use Rattle.std.proofs.Common.{◌≡◌, ℕ, ◌+◌, Bool, List, [], ◌++◌, true, map, length, ap, ◌∙◌}
+use Rattle.std.proofs.Common.{◌≡◌, ℕ, ◌+◌, Bool, List, [], ◌++◌, map, length, ap, ◌∙◌}
 use Rattle.std.specs.List.{flat_map}
 use Rattle.pddl_parser.specs.declared.types.Action.{Action}
 use Rattle.pddl_parser.specs.declared.types.Derived.{Derived}
@@ -19,7 +19,6 @@ use Rattle.normal_task.specs.Numbers.{object_names}
 use Rattle.normaliser.specs.declared.normal.MadeAll.{MadeAll}
 use Rattle.normaliser.specs.MadeThings.{IsMadeAll, goal_from}
 use Rattle.normal_task.specs.Normalised.{schemas, axiom_rows, made_schemas, made_axioms, after_schemas, after_axioms, made_goal, all_fresh, declared_row, fresh_predicates, fresh_rows, once_after, stated, value_row, is_same_value, normal}
-use Rattle.normal_task.specs.declared.parts.Part.{Part}
 use Rattle.normal_task.specs.declared.parts.Fresh.{Fresh}
 use Rattle.normal_task.specs.Parts.{Made, in_turn}
 

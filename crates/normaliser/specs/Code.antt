@@ -5,7 +5,7 @@ use Rattle.pddl_parser.specs.declared.types.Domain.{Domain}
 use Rattle.pddl_parser.specs.declared.types.Problem.{Problem}
 use Rattle.pddl_parser.specs.declared.types.Typed.{Typed}
 use Rattle.pddl_parser.specs.Words.{Name, is_same}
-use Rattle.std.specs.Prelude.{◌≡◌, ℕ, Bool, List, [], ◌∷◌, Option, Some, None, not, ◌&&◌, length, if◌then◌else◌}
+use Rattle.std.specs.Prelude.{◌≡◌, ℕ, Bool, List, [], ◌∷◌, Option, Some, None, not, ◌&&◌, if◌then◌else◌}
 use Rattle.normaliser.specs.declared.cut.MadeParts.{MadeParts}
 use Rattle.normal_task.specs.declared.parts.Part.{Part}
 use Rattle.normal_task.specs.Parts.{Made, Slot, in_turn, all_of, known, is_listed}
