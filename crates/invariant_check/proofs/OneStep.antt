@@ -32,7 +32,7 @@ use Rattle.invariant_check.specs.Contradictory.{is_same_place, in_one_class, all
 use Rattle.invariant_check.specs.Law.{is_basic}
 use Rattle.invariant_check.proofs.Bindings.{place-within, literal-within, literal-more, places-kept, places-given, all-met-given, listed-passes, choice-append, choice-typed, fittings-choose}
 use Rattle.invariant_check.proofs.Contradiction.{equal_objects, never_contradictory}
-use Rattle.invariant_check.proofs.Covering.{covering, covered}
+use Rattle.invariant_check.proofs.Covering.{Covering, covering, covered}
 use Rattle.invariant_check.proofs.Lists.{true-false, same_places, same_numbers, number_itself, same_atom, atom_itself, at_positions-map, zip_equal}
 
 -- ---- an effect that writes an atom

@@ -3,6 +3,7 @@ use Rattle.std.specs.Prelude.{ℕ, true, false, Some, None, List, [], ◌∷◌,
 use Rattle.std.specs.List.{range_with_len}
 use Rattle.normal_task.specs.declared.task.CostRow.TheVariants.{Number}
 use Rattle.normal_task.specs.declared.task.EffectRow.{EffectRow}
+use Rattle.normal_task.specs.declared.task.GroundAtom.{GroundAtom}
 use Rattle.normal_task.specs.declared.task.Literal.{Literal}
 use Rattle.normal_task.specs.declared.task.Literal.TheVariants.{Holds}
 use Rattle.normal_task.specs.declared.task.Normal.{Normal}
@@ -27,6 +28,13 @@ q terms = Holds true 1 terms
 
 abbrev pub not_q : List Place → Literal
 not_q terms = Holds false 1 terms
+
+-- r, which has no arguments, is true, or false
+abbrev pub r : Literal
+r = Holds true 2 []
+
+abbrev pub not_r : Literal
+not_r = Holds false 2 []
 
 -- variables, and the objects a and b
 abbrev pub x : Place
@@ -102,6 +110,10 @@ p_and_q_of_one = of_parts 1 (whole 1 0 ∷ whole 1 1 ∷ [])
 -- {p} of one argument, which is counted
 abbrev pub counted_p : Candidate
 counted_p = of_parts 0 (counting 0 ∷ [])
+
+-- the atom of the predicate with this object
+abbrev pub of_object : ℕ → ℕ → GroundAtom
+of_object predicate object = record { predicate = predicate; objects = object ∷ [] }
 
 -- ---- tasks with one action
 

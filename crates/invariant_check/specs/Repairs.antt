@@ -10,8 +10,8 @@ use Rattle.invariant_check.specs.declared.types.Candidate.{Candidate}
 use Rattle.invariant_check.specs.declared.types.Part.{Part}
 use Rattle.invariant_check.specs.declared.types.Verdict.{Verdict}
 use Rattle.invariant_check.specs.declared.types.Verdict.TheVariants.{Accepted, Dropped, Unbalanced}
-use Rattle.invariant_check.specs.Extensions.{extensions}
 use Rattle.invariant_check.specs.Accepted.{is_light, is_balanced_at, has_balance}
+use Rattle.invariant_check.specs.Extensions.{extensions}
 
 -- ---- repairs
 

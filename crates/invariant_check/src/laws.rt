@@ -1,13 +1,14 @@
 //! Laws of invariants. The functions do nothing: their clauses are the laws.
 
 ghost use Rattle.std.specs.Prelude.{◌≡◌, true, false, [], ◌∷◌, map};
-ghost use Rattle.normal_task.specs.declared.task.Literal.TheVariants.{Holds, Equal};
+ghost use Rattle.normal_task.specs.declared.task.Literal.TheVariants.{Equal};
 ghost use Rattle.normal_task.specs.declared.task.Normal.{Normal};
 ghost use Rattle.invariant_check.specs.declared.types.Candidate.{Candidate};
 ghost use Rattle.invariant_check.specs.declared.types.Verdict.TheVariants.{Accepted, Dropped, Unbalanced};
 ghost use Rattle.invariant_check.specs.Accepted.{is_light, is_balanced, is_accepted};
+ghost use Rattle.invariant_check.specs.Candidates.{covers};
 ghost use Rattle.invariant_check.specs.Contradictory.{in_one_class, is_contradictory};
-ghost use Rattle.invariant_check.specs.Examples.{p, not_p, q, not_q, x, y, z, a, b, both_objects, adds, deletes, only_p, p_and_q, p_and_q_of_one, counted_p, one_action, action_of_one, action_of_two, switch, back, late, predicates_of, of_parts, counting};
+ghost use Rattle.invariant_check.specs.Examples.{p, not_p, q, not_q, r, not_r, x, y, z, a, b, both_objects, adds, deletes, only_p, p_and_q, p_and_q_of_one, counted_p, one_action, action_of_one, action_of_two, switch, back, late, predicates_of, of_parts, of_object, counting, with_schemas, action};
 ghost use Rattle.invariant_check.specs.Law.{InvariantsAreSound, InvariantsAreSoundInFiles, WeightsStayAtMostOne, ClassesAreClosures};
 ghost use Rattle.invariant_check.specs.Repairs.{repairs_at, verdict, is_accepted_verdict};
 
@@ -27,6 +28,15 @@ pub fn classes_are_closures()
 /// A candidate is accepted exactly where it is light and balanced.
 pub fn accepted_exactly()
     ensures { (task : Normal) (candidate : Candidate) → is_accepted_verdict (verdict task candidate) ≡ is_accepted task candidate }
+{}
+
+/// What an instance covers: the atoms of a part that have its objects at the places of the parameters.
+pub fn covering_examples()
+    ensures of_the_first_part { covers p_and_q_of_one (0 ∷ []) (of_object 0 0) ≡ true }
+    ensures of_the_second_part { covers p_and_q_of_one (0 ∷ []) (of_object 1 0) ≡ true }
+    ensures of_no_part { covers p_and_q_of_one (0 ∷ []) (of_object 2 0) ≡ false }
+    ensures other_object { covers p_and_q_of_one (0 ∷ []) (of_object 0 1) ≡ false }
+    ensures counted { covers counted_p [] (of_object 0 1) ≡ true }
 {}
 
 /// Lists of literals that are contradictory, and some that aren't, by what makes the difference.
@@ -54,7 +64,9 @@ pub fn light_examples()
     ensures of_another_predicate { is_light (one_action [] (adds [] [] 0 [] ∷ adds [] [] 1 [] ∷ [])) only_p ≡ true }
     ensures one_deleted { is_light (one_action [] (adds [] [] 0 [] ∷ deletes [] [] 1 [] ∷ [])) p_and_q ≡ true }
     ensures first_held_before { is_light (one_action (p [] ∷ []) (adds [] [] 0 [] ∷ adds [] [] 1 [] ∷ [])) p_and_q ≡ true }
-    ensures conditions_exclude { is_light (one_action [] (adds [] (not_q [] ∷ not_p [] ∷ []) 0 [] ∷ adds [] (p [] ∷ []) 1 [] ∷ [])) p_and_q ≡ true }
+    ensures conditions_exclude { is_light (one_action [] (adds [] (r ∷ []) 0 [] ∷ adds [] (not_r ∷ []) 1 [] ∷ [])) p_and_q ≡ true }
+    ensures ranges_exclude { is_light (with_schemas 1 (action [] [] (adds ((0 ∷ []) ∷ []) [] 0 (x ∷ []) ∷ adds ((1 ∷ []) ∷ []) [] 1 (x ∷ []) ∷ []) ∷ [])) p_and_q_of_one ≡ true }
+    ensures one_object { is_light (action_of_one [] (adds (both_objects ∷ []) (Equal true y a ∷ []) 0 (y ∷ []) ∷ [])) counted_p ≡ true }
     ensures beside_itself { is_light (action_of_one [] (adds (both_objects ∷ []) [] 0 (y ∷ []) ∷ [])) counted_p ≡ false }
     ensures once_an_instance { is_light (action_of_one [] (adds (both_objects ∷ []) [] 0 (y ∷ []) ∷ [])) p_and_q_of_one ≡ true }
 {}
@@ -66,10 +78,11 @@ pub fn balanced_examples()
     ensures true_already { is_balanced (one_action (p [] ∷ []) (adds [] [] 0 [] ∷ [])) only_p ≡ true }
     ensures not_required { is_balanced (one_action [] (adds [] [] 0 [] ∷ deletes [] [] 1 [] ∷ [])) p_and_q ≡ false }
     ensures not_deleted { is_balanced (one_action (q [] ∷ []) (adds [] [] 0 [] ∷ adds [] [] 1 [] ∷ [])) p_and_q ≡ false }
-    ensures deleted_where_it_adds { is_balanced (one_action (q [] ∷ []) (adds [] (Holds true 2 [] ∷ []) 0 [] ∷ deletes [] (Holds true 2 [] ∷ []) 1 [] ∷ [])) p_and_q ≡ true }
-    ensures deleted_elsewhere { is_balanced (one_action (q [] ∷ []) (adds [] [] 0 [] ∷ deletes [] (Holds true 2 [] ∷ []) 1 [] ∷ [])) p_and_q ≡ false }
+    ensures deleted_where_it_adds { is_balanced (one_action (q [] ∷ []) (adds [] (r ∷ []) 0 [] ∷ deletes [] (r ∷ []) 1 [] ∷ [])) p_and_q ≡ true }
+    ensures deleted_elsewhere { is_balanced (one_action (q [] ∷ []) (adds [] [] 0 [] ∷ deletes [] (r ∷ []) 1 [] ∷ [])) p_and_q ≡ false }
     ensures restored { is_balanced (one_action (q [] ∷ []) (adds [] [] 0 [] ∷ deletes [] [] 1 [] ∷ adds [] [] 1 [] ∷ [])) p_and_q ≡ false }
-    ensures never_restored { is_balanced (one_action (q [] ∷ not_p [] ∷ []) (adds [] [] 0 [] ∷ deletes [] [] 1 [] ∷ adds [] (p [] ∷ []) 1 [] ∷ [])) p_and_q ≡ true }
+    ensures never_restored { is_balanced (one_action (q [] ∷ r ∷ []) (adds [] [] 0 [] ∷ deletes [] [] 1 [] ∷ adds [] (not_r ∷ []) 1 [] ∷ [])) p_and_q ≡ true }
+    ensures restored_where_not_new { is_balanced (one_action (q [] ∷ []) (adds [] [] 0 [] ∷ deletes [] [] 1 [] ∷ adds [] (p [] ∷ []) 1 [] ∷ [])) p_and_q ≡ true }
     ensures of_the_instance { is_balanced (action_of_one (q (x ∷ []) ∷ []) (adds [] [] 0 (x ∷ []) ∷ deletes [] [] 1 (x ∷ []) ∷ [])) p_and_q_of_one ≡ true }
     ensures of_another_instance { is_balanced (action_of_two (q (y ∷ []) ∷ []) (adds [] [] 0 (x ∷ []) ∷ deletes [] [] 1 (y ∷ []) ∷ [])) p_and_q_of_one ≡ false }
     ensures for_all_objects { is_balanced (action_of_one (q (x ∷ []) ∷ []) (adds [] [] 0 (x ∷ []) ∷ deletes (both_objects ∷ []) [] 1 (y ∷ []) ∷ [])) p_and_q_of_one ≡ true }
