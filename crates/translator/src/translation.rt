@@ -7,7 +7,7 @@ ghost use Rattle.pddl_parser.specs.Outcome.{Reads, faults_of};
 ghost use Rattle.pddl_parser.specs.Reading.{domain_reading, problem_reading};
 ghost use Rattle.pddl_parser.specs.Spelled.{IsWellSpelled, IsWellSpelledProblem};
 ghost use Rattle.normal_task.specs.Lawful.{IsLawful as IsLawfulNormal};
-ghost use Rattle.normal_task.specs.Normalised.{normal};
+ghost use Rattle.normal_task.specs.Normalised as spec;
 ghost use Rattle.invariant_guess.specs.Trial.{IsFound};
 ghost use Rattle.static_matcher.specs.Lawful.{IsLawful as IsLawfulGround};
 ghost use Rattle.relaxed_reach.specs.Lawful.{IsLawful};
@@ -76,15 +76,14 @@ struct Made {
 /// The invariants of the pair's normal task, and the task to be written.
 fn made_of(alloc: Global, checked: &Checked) -> Result<Made, AllocError>
     requires { IsChecked checked.now }
-    ensures found { IfOk result (λ made. IsFound (normal checked.now.domain checked.now.problem) most_candidates made.found) }
-    ensures task { IfOk result (λ made. IsRunTask (normal checked.now.domain checked.now.problem) made.task) }
+    ensures found { IfOk result (λ made. IsFound (spec.normal checked.now.domain checked.now.problem) most_candidates made.found) }
+    ensures task { IfOk result (λ made. IsRunTask (spec.normal checked.now.domain checked.now.problem) made.task) }
 {
     lawful();
     let normal = normalise(alloc, checked)?;
-    Ok(Made {
-        found: find(alloc, &normal, MOST_CANDIDATES)?,
-        task: run_task(alloc, &normal)?,
-    })
+    let found = find(alloc, &normal, MOST_CANDIDATES)?;
+    let task = run_task(alloc, &normal)?;
+    Ok(Made { found, task })
 }
 
 /// The task of a normal task: its instances, those that can be reached, and the encoding of these.
