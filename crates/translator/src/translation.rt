@@ -67,7 +67,7 @@ pub(crate) fn translate_texts(
 }
 
 /// What the passes make of a pair without faults.
-#[derive(Debug, Drop)]
+#[derive(Drop)]
 struct Made {
     found: Found,
     task: SasTask,
