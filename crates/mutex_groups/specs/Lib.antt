@@ -1,4 +1,0 @@
-pub mod Groups
-pub mod WellFormed
-pub mod Laws
-pub mod Found
