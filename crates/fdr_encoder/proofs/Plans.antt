@@ -2,7 +2,8 @@
 use Rattle.std.proofs.Common.{Option, Some, None, ◌≡◌, ℕ, ◌<◌, ◌≤◌, true, false, not, eqb, List, [], ◌∷◌, map, length, get_or, refl, sym, ap, ◌∙◌, subst, inl, inr, arith}
 use Rattle.std.specs.Option.{option_map_or}
 use Rattle.std.specs.List.{Contains, All, filter, range_with_len}
-use Rattle.std.proofs.lemmas.Bool.{cases_Bool, cases_lt, cond-true, cond-false, eqb-true, and_parts, false≢true}
+use Rattle.std.proofs.Math.Bool.{and-true}
+use Rattle.std.proofs.lemmas.Bool.{cases_Bool, cases_lt, cond-true, cond-false, eqb-true, and_parts, both_ways, false_from_ne_true, false≢true}
 use Rattle.std.proofs.lemmas.List.Elements.{All-contains}
 use Rattle.std.proofs.lemmas.List.FromFn.{length-map-range_with_len, get_or-map-range_with_len}
 use Rattle.std.proofs.lemmas.List.Sorted.{Contains-permutation, IsPermutation-sym}
@@ -17,25 +18,26 @@ use Rattle.sas_task.specs.declared.parts.Operator.{Operator}
 use Rattle.sas_task.specs.Task.{Task}
 use Rattle.sas_task.specs.Valid.{IsValid, layer_of}
 use Rattle.sas_task.specs.Values.{all_hold, values}
-use Rattle.sas_task.specs.Solution.{Step, IsApplicable, IsReachable as IsReachableVector, MeetsGoal as MeetsTaskGoal, NeverDisagrees, cost_in}
+use Rattle.sas_task.specs.Solution.{Step, ChangingStep, IsApplicable, IsReachable as IsReachableVector, MeetsGoal as MeetsTaskGoal, NeverDisagrees, cost_in}
 use Rattle.sas_task.specs.Keeps.{AtMostOne as AtMostOnePair}
 use Rattle.sas_task.proofs.Members.{flat_map_member, range_member, all_from_members}
 use Rattle.sas_task.proofs.Successors.{Lists, Carries, successor_lists, lists_successor, carried_agrees}
 use Rattle.sas_task.proofs.States.{reachable_is_state}
 use Rattle.static_matcher.specs.Literals.{ActionRow, LiteralTask, holds, initial, meaning}
-use Rattle.planning.specs.Task.{State, IsFull, Takes, successor}
+use Rattle.planning.specs.Task.{State, IsFull, Takes, TakesBusy, IsIdle, successor}
 use Rattle.planning.specs.Plan.{IsReachable, MeetsGoal}
 use Rattle.relaxed_reach.specs.declared.types.Reached.{Reached}
 use Rattle.relaxed_reach.specs.declared.types.ReachedAction.{ReachedAction}
+use Rattle.relaxed_reach.specs.declared.types.ReachedEffect.{ReachedEffect}
 use Rattle.relaxed_reach.specs.ReachedTask.{is_derived, action_row, reached_task}
 use Rattle.fdr_encoder.specs.Places.{Cover, pair, set_of, has, first_place, last_value, value_in}
 use Rattle.fdr_encoder.specs.Effects.{effects_of, simplified}
-use Rattle.relaxed_reach.specs.Lawful.{IsLawfulAction, IsLawful}
+use Rattle.relaxed_reach.specs.Lawful.{IsLawfulEffect, IsLawfulAction, IsLawful}
 use Rattle.fdr_encoder.specs.Encoding.{is_groups, group_of, groups_of, IsSameOperator, IsEncoding}
 use Rattle.fdr_encoder.specs.Simulates.{IsCover, IsMutex, Shows, Correspond, Simulates}
-use Rattle.fdr_encoder.proofs.Lists.{member_map, map_member, filter_member}
-use Rattle.fdr_encoder.proofs.Sets.{has_member, same_place}
-use Rattle.fdr_encoder.proofs.After.{after, successor_is}
+use Rattle.fdr_encoder.proofs.Lists.{any_member, member_map, map_member, filter_member}
+use Rattle.fdr_encoder.proofs.Sets.{has_member, place_of_true, true_at_place, same_place}
+use Rattle.fdr_encoder.proofs.After.{adds_fact, deletes_fact, is_added, is_deleted, after, successor_is}
 use Rattle.fdr_encoder.proofs.Placed.{AreExclusive}
 use Rattle.fdr_encoder.proofs.SplitHolds.{split_on, split_back, split_pairs}
 use Rattle.fdr_encoder.proofs.OneStep.{IsPlaced, effect_from, sets, moves}
@@ -248,6 +250,56 @@ module _ (reached : Reached) (lawful : IsLawful reached) (cover : Cover) (ok : I
         };
       }
 
+  -- what is true in one state of the vector is true in the other
+  also_true : (state next : State ℕ) (vector : List ℕ) → Related state vector → Related next vector → (f : ℕ) → f < length reached.facts → state f ≡ true → next f ≡ true
+  also_true state next vector here there f below is =
+      let in' = ok.covered f below in
+      let set = set_of cover in'.0 in
+      let same : value_in cover next in'.0 ≡ value_in cover state in'.0 = sym (low_of next vector there.lists in'.0 in'.1) ∙ low_of state vector here.lists in'.0 in'.1 in
+      true_at_place set f in'.2 next (same ∙ place_of_true set f in'.2 state (one_state state here.is_reached in'.0 in'.1) is)
+
+  -- an action leaves what is no fact
+  leaves_others : (state full : State ℕ) (a : ReachedAction) → Contains reached.actions a → (f : ℕ) → length reached.facts ≤ f → after full a state f ≡ state f
+  leaves_others state full a in' f past =
+      let outside = λ (e : ReachedEffect) (e-in : Contains a.effects e) (here : e.fact ≡ f).
+      let low = (All-contains (IsLawfulEffect reached) a.effects e (lawful_action a in').each_effect e-in).fact in
+      let high : length reached.facts ≤ e.fact = subst (λ g. length reached.facts ≤ g) (sym here) past in
+      omega (arith, low, high) in
+      let unadded : is_added full a f ≡ false = false_from_ne_true (is_added full a f) (λ h.
+      let e = any_member (adds_fact full f) a.effects h in
+      outside e.0 e.1 (eqb-true e.0.fact f (and_parts (eqb e.0.fact f) _ (and_parts e.0.adds _ e.2).1).0)) in
+      let undeleted : is_deleted full a f ≡ false = false_from_ne_true (is_deleted full a f) (λ h.
+      let e = any_member (deletes_fact full f) a.effects h in
+      outside e.0 e.1 (eqb-true e.0.fact f (and_parts (eqb e.0.fact f) _ (and_parts (not e.0.adds) _ e.2).1).0)) in
+      ap (λ b. b || (state f && not (is_deleted full a f))) unadded ∙ ap (λ b. state f && not b) undeleted ∙ and-true (state f)
+
+  -- a step between two states of one vector is idle
+  idle_between : (state next : State ℕ) (vector : List ℕ) → Related state vector → Related next vector → (row : ActionRow ℕ) → Takes (meaning T) state row next → IsIdle state next
+  idle_between state next vector here there row step f =
+      elim (cases_lt f (length reached.facts)) [
+        | inl below ↦
+            elim (cases_Bool (state f)) [
+              | inl is ↦ also_true state next vector here there f below is ∙ sym is
+              | inr no' ↦ false_from_ne_true (next f) (λ is. both_ways (state f) no' (also_true next state vector there here f below is)) ∙ sym no'
+            ]
+        | inr past ↦
+            let a = map_member action_row reached.actions row step.of_task in
+            step.follows f ∙ ap (λ (r : ActionRow ℕ). successor (meaning T) state step.full r f) (sym a.2) ∙ successor_is reached step.full state a.0 f ∙ leaves_others state step.full a.0 a.1 f past
+      ]
+
+  -- a step that isn't idle changes the vector
+  busy_step_on : (state : State ℕ) (vector : List ℕ) → Related state vector → (row : ActionRow ℕ) (next : State ℕ) → TakesBusy (meaning T) state row next → Follows (ChangingStep task) (λ o. o.name) (cost_in task) (λ v. Related next v) vector row.name row.cost
+  busy_step_on state vector related row next busy =
+      let f = step_on state vector related row next busy.0 in
+      record {
+        action = f.action;
+        next = f.next;
+        step = (f.step, λ same. busy.1 (idle_between state next vector related (subst (Related next) same f.related) row busy.0));
+        same_name = f.same_name;
+        same_cost = f.same_cost;
+        related = f.related;
+      }
+
   starts : Related (initial T) task.state
   starts =
       record {
@@ -384,6 +436,7 @@ module _ (reached : Reached) (lawful : IsLawful reached) (cover : Cover) (ok : I
         full = λ state full vector c is-full. shows_full state vector (relates state vector c) full is-full;
         sound_plans = run_follows (Step task) (λ o. o.name) (cost_in task) (Takes (meaning T)) (λ a. a.name) (λ a. a.cost) (λ v s. Related s v) step_back task.state (MeetsTaskGoal task) (initial T) (MeetsGoal (meaning T)) starts goal_back;
         complete_plans = run_follows (Takes (meaning T)) (λ a. a.name) (λ a. a.cost) (Step task) (λ o. o.name) (cost_in task) Related step_on (initial T) (MeetsGoal (meaning T)) task.state (MeetsTaskGoal task) starts goal_on;
+        busy_plans = run_follows (TakesBusy (meaning T)) (λ a. a.name) (λ a. a.cost) (ChangingStep task) (λ o. o.name) (cost_in task) Related busy_step_on (initial T) (MeetsGoal (meaning T)) task.state (MeetsTaskGoal task) starts goal_on;
         is_sound = record {
           exclusive = λ vector is. all_from_members (λ (g : Group). AtMostOnePair (values task vector) g.facts) task.groups (group_exclusive vector is);
           agrees = agrees;

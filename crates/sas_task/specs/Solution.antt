@@ -47,6 +47,14 @@ cost_in task operator = if task.metric then operator.cost else 1
 abbrev pub HasSolution : Task → List (List ℕ) → ℕ → Type 0
 HasSolution task names cost = HasRun (Step task) (λ o. o.name) (cost_in task) task.state (MeetsGoal task) names cost
 
+-- a step that changes the state
+abbrev pub ChangingStep : Task → List ℕ → Operator → List ℕ → Type 0
+ChangingStep task state operator next = Step task state operator next × (next ≢ state)
+
+-- the same of a solution whose every step changes the state
+abbrev pub HasChangingSolution : Task → List (List ℕ) → ℕ → Type 0
+HasChangingSolution task names cost = HasRun (ChangingStep task) (λ o. o.name) (cost_in task) task.state (MeetsGoal task) names cost
+
 -- no operator that is applicable in a reachable state disagrees there
 abbrev pub NeverDisagrees : Task → Type 0
 NeverDisagrees task =

@@ -1,0 +1,15 @@
+mod Lists
+mod Sorted
+mod Turns
+mod Searched
+mod Compared
+mod Exact
+mod NewNumbers
+mod KeptValues
+mod Mirror
+mod Seen
+mod Shape
+mod Instance
+mod Validity
+mod Assembled
+mod OneProjection
