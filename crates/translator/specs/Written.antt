@@ -48,7 +48,7 @@ pub record IsTextOf (domain : Domain) (problem : Problem) (bytes : List ℕ) (su
   pub found : Found
   pub is_found : IsFound (normal domain problem) most_candidates found
   pub written : IsWritten found task bytes summary
-  pub is_run_task : IsRunTask (normal domain problem) task
+  pub is_run_task : IsRunTask (normal domain problem) found task
   pub translates : Translates domain problem task
 
 -- what is to be written where a run comes to this

@@ -1,20 +1,25 @@
 //! The law over all passes. The function does nothing: its clauses are the law.
 
+ghost use Rattle.std.specs.Prelude.{ℕ};
 ghost use Rattle.type_checker.specs.Checked.{Pair, IsChecked};
 ghost use Rattle.normal_task.specs.Normalised.{normal};
+ghost use Rattle.invariant_guess.specs.declared.types.Found.{Found};
+ghost use Rattle.invariant_guess.specs.Trial.{IsFound};
 ghost use Rattle.sas_task.specs.Task.{Task};
-ghost use Rattle.sas_task.specs.Valid.{IsValid};
 ghost use Rattle.translator.specs.RunTask.{IsRunTask};
 ghost use Rattle.translator.specs.Theorem.{Translates};
 
 use fdr_encoder::laws::{covers, in_any_order, simulation};
+use invariant_guess::laws::finds;
+use mutex_groups::laws::{groups_are_exclusive, groups_of_facts};
 use normal_task::laws::same_task;
 use pddl_parser::laws::idle_steps;
+use task_simplifier::laws::projection_keeps;
 
-/// A valid task that the passes make of a pair without faults translates the pair.
+/// The task that the passes make of a pair without faults translates the pair.
 pub(crate) fn run_task_translates()
-    ensures { (pair : Pair) (task : Task) → IsChecked pair → IsRunTask (normal pair.domain pair.problem) task → IsValid task →
-        Translates pair.domain pair.problem task }
+    ensures { (pair : Pair) (most : ℕ) (found : Found) (task : Task) → IsChecked pair → IsFound (normal pair.domain pair.problem) most found →
+        IsRunTask (normal pair.domain pair.problem) found task → Translates pair.domain pair.problem task }
 {
     idle_steps();
     same_task();
@@ -26,7 +31,11 @@ pub(crate) fn run_task_translates()
     static_matcher::laws::instances_ranked();
     static_matcher::laws::no_recursion();
     relaxed_reach::laws::same_meaning();
+    finds();
+    groups_are_exclusive();
+    groups_of_facts();
     covers();
     in_any_order();
     simulation();
+    projection_keeps();
 }

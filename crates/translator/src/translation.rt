@@ -1,6 +1,7 @@
 //! From two texts to the text of a task.
 
-ghost use Rattle.std.specs.Prelude.{◌≡◌, ◌<◌, [], IfOk, IfErr, length, sum_by};
+ghost use Rattle.std.specs.Prelude.{◌≡◌, ◌<◌, [], true, IfOk, IfErr, length, sum_by};
+ghost use Rattle.std.specs.List.{list_all};
 ghost use Rattle.pddl_lexer.specs.Nested.{tree};
 ghost use Rattle.pddl_lexer.specs.Faults.{tree_faults};
 ghost use Rattle.pddl_parser.specs.Outcome.{Reads, faults_of};
@@ -8,13 +9,15 @@ ghost use Rattle.pddl_parser.specs.Reading.{domain_reading, problem_reading};
 ghost use Rattle.pddl_parser.specs.Spelled.{IsWellSpelled, IsWellSpelledProblem};
 ghost use Rattle.normal_task.specs.Lawful.{IsLawful as IsLawfulNormal};
 ghost use Rattle.normal_task.specs.Normalised as spec;
+ghost use Rattle.invariant_check.specs.Accepted.{is_accepted};
+ghost use Rattle.invariant_check.specs.WellFormed.{is_well_formed};
 ghost use Rattle.invariant_guess.specs.Trial.{IsFound};
 ghost use Rattle.static_matcher.specs.Lawful.{IsLawful as IsLawfulGround};
 ghost use Rattle.relaxed_reach.specs.Lawful.{IsLawful};
 ghost use Rattle.relaxed_reach.specs.Reachable.{IsReachedTask};
 ghost use Rattle.type_checker.specs.Checked.{IsChecked};
 ghost use Rattle.translator.specs.Run.{of_texts};
-ghost use Rattle.translator.specs.RunTask.{IsRunTask, most_candidates};
+ghost use Rattle.translator.specs.RunTask.{IsRunEncoding, IsRunTask, most_candidates};
 ghost use Rattle.translator.specs.declared.outcome.End.TheVariants.{NoMemory};
 ghost use Rattle.translator.specs.Written.{IsSummaryOf, IsWritten, IsTextWhere, StopsWhere, StopsAt};
 
@@ -22,7 +25,11 @@ use crate::law::run_task_translates;
 use crate::outcome::{End, Summary};
 use axiom_layers::layers;
 use fdr_encoder::encode;
+use group_cover::cover;
+use invariant_guess::laws::finds;
 use invariant_guess::{Found, find};
+use mutex_groups::groups;
+use mutex_groups::laws::groups_of_facts;
 use normal_task::Normal;
 use normal_task::laws::lawful;
 use normaliser::normalise;
@@ -35,6 +42,7 @@ use static_matcher::{Ground, instances};
 use std::alloc::{AllocError, Global};
 use std::marker::Brand;
 use std::sync::ledger::{Blank, Ledger};
+use task_simplifier::simplify;
 use type_checker::{Checked, Side, check};
 
 /// The most candidates for invariants that are tried.
@@ -77,24 +85,41 @@ struct Made {
 fn made_of(alloc: Global, checked: &Checked) -> Result<Made, AllocError>
     requires { IsChecked checked.now }
     ensures found { IfOk result (λ made. IsFound (spec.normal checked.now.domain checked.now.problem) most_candidates made.found) }
-    ensures task { IfOk result (λ made. IsRunTask (spec.normal checked.now.domain checked.now.problem) made.task) }
+    ensures task { IfOk result (λ made. IsRunTask (spec.normal checked.now.domain checked.now.problem) made.found made.task) }
 {
     lawful();
+    finds();
     let normal = normalise(alloc, checked)?;
     let found = find(alloc, &normal, MOST_CANDIDATES)?;
-    let task = run_task(alloc, &normal)?;
+    let task = run_task(alloc, &normal, &found)?;
     Ok(Made { found, task })
 }
 
-/// The task of a normal task: its instances, those that can be reached, and the encoding of these.
-fn run_task(alloc: Global, normal: &Normal) -> Result<SasTask, AllocError>
+/// The task of a normal task and of the invariants that were found: the projection of its encoding.
+fn run_task(alloc: Global, normal: &Normal, found: &Found) -> Result<SasTask, AllocError>
     requires lawful { IsLawfulNormal normal.now }
-    ensures { IfOk result (IsRunTask normal.now) }
+    requires well_formed { list_all (is_well_formed normal.now) found.now.accepted ≡ true }
+    requires accepted { list_all (is_accepted normal.now) found.now.accepted ≡ true }
+    ensures { IfOk result (IsRunTask normal.now found.now) }
 {
+    let encoded = encoded(alloc, normal, found)?;
+    simplify(alloc, encoded)
+}
+
+/// The encoding of what can be reached of the normal task's instances, over the cover by the groups of the invariants.
+fn encoded(alloc: Global, normal: &Normal, found: &Found) -> Result<SasTask, AllocError>
+    requires lawful { IsLawfulNormal normal.now }
+    requires well_formed { list_all (is_well_formed normal.now) found.now.accepted ≡ true }
+    requires accepted { list_all (is_accepted normal.now) found.now.accepted ≡ true }
+    ensures { IfOk result (IsRunEncoding normal.now found.now) }
+{
+    groups_of_facts();
     let ground = instances(alloc, normal)?;
     let reached = reached::<Brand>(alloc, &ground, Blank::new(1))?;
     let layers = layers(alloc, &reached)?;
-    encode(alloc, &reached, &layers)
+    let groups = groups(alloc, normal, found.accepted.as_slice(), &reached)?;
+    let cover = cover(alloc, reached.facts.as_slice().len() as u64, &groups)?;
+    encode(alloc, &reached, &cover, &groups, &layers)
 }
 
 /// What can be reached of a ground task. Its steps are counted in the blank's ledger, which nothing asks for.

@@ -1,4 +1,4 @@
-use Rattle.translator.proofs.translation.run_task.Given as goal
+use Rattle.translator.proofs.translation.encoded.Given as goal
 
 abbrev pub ghosts-reached : goal.ghosts-reached
 ghosts-reached a = record { name = a.blank.name; parts = a.blank.parts }
