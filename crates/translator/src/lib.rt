@@ -6,8 +6,6 @@ mod law;
 mod message;
 mod outcome;
 mod process;
-#[cfg(test)]
-mod tests;
 mod translation;
 mod work;
 

@@ -1,26 +1,30 @@
 //! What is written for pairs of files. Every text was worked by hand from the rules of the output.
 
 use super::{WORDS, answers, prepared};
-use crate::Status;
+use translator::Status;
 use std::alloc::{AllocError, Global};
 use std::process::Abort;
 use std::test::*;
 
 /// A pair of files and the task that is written for it. In its lines ` / ` stands for a line feed.
-struct Row {
-    domain: &'static str,
-    problem: &'static str,
-    metric: &'static str,
-    /// The layer of each variable, and how its one fact is shown.
-    variables: &'static [(&'static str, &'static str)],
-    state: &'static str,
-    goal: &'static str,
-    operators: &'static [&'static str],
-    rules: &'static [&'static str],
+pub(super) struct Row {
+    pub(super) domain: &'static str,
+    pub(super) problem: &'static str,
+    pub(super) metric: &'static str,
+    /// The layer of each variable, and its values.
+    pub(super) variables: &'static [(&'static str, &'static str)],
+    pub(super) groups: &'static [&'static str],
+    pub(super) state: &'static str,
+    pub(super) goal: &'static str,
+    pub(super) operators: &'static [&'static str],
+    pub(super) rules: &'static [&'static str],
     /// How many candidates for invariants are tried, and how many of them are accepted.
-    found: (u64, u64),
-    /// The numbers of variables, of facts, of operators and of rules.
-    sizes: (u64, u64, u64, u64),
+    pub(super) found: (u64, u64),
+}
+
+/// How many lines the text has.
+fn count(lines: &str) -> usize {
+    lines.split(" / ").count()
 }
 
 fn push_lines(text: &mut String, lines: &str) -> Result<(), AllocError> {
@@ -31,18 +35,31 @@ fn push_lines(text: &mut String, lines: &str) -> Result<(), AllocError> {
     Ok(())
 }
 
+fn push_count(alloc: Global, text: &mut String, count: usize) -> Result<(), AllocError> {
+    let line = format!(in alloc; "{count}\n")?;
+    text.push_str(&line)
+}
+
 fn push_variables(
     alloc: Global,
     text: &mut String,
     variables: &[(&str, &str)],
 ) -> Result<(), AllocError> {
-    let count = format!(in alloc; "{}\n", variables.len())?;
-    text.push_str(&count)?;
-    for (number, (layer, fact)) in variables.iter().enumerate() {
-        let block = format!(in alloc;
-            "begin_variable\nvar{number}\n{layer}\n2\nAtom {fact}\nNegatedAtom {fact}\nend_variable\n"
-        )?;
-        text.push_str(&block)?;
+    push_count(alloc, text, variables.len())?;
+    for (number, (layer, values)) in variables.iter().enumerate() {
+        let range = count(values);
+        let block = format!(in alloc; "begin_variable / var{number} / {layer} / {range} / {values} / end_variable")?;
+        push_lines(text, &block)?;
+    }
+    Ok(())
+}
+
+fn push_groups(alloc: Global, text: &mut String, groups: &[&str]) -> Result<(), AllocError> {
+    push_count(alloc, text, groups.len())?;
+    for facts in groups {
+        let size = count(facts);
+        let block = format!(in alloc; "begin_mutex_group / {size} / {facts} / end_mutex_group")?;
+        push_lines(text, &block)?;
     }
     Ok(())
 }
@@ -54,8 +71,7 @@ fn push_blocks(
     sort: &str,
     blocks: &[&str],
 ) -> Result<(), AllocError> {
-    let count = format!(in alloc; "{}\n", blocks.len())?;
-    text.push_str(&count)?;
+    push_count(alloc, text, blocks.len())?;
     for block in blocks {
         let block = format!(in alloc; "begin_{sort} / {block} / end_{sort}")?;
         push_lines(text, &block)?;
@@ -70,7 +86,8 @@ impl Row {
         let metric = format!(in alloc; "begin_metric / {} / end_metric", self.metric)?;
         push_lines(&mut text, &metric)?;
         push_variables(alloc, &mut text, self.variables)?;
-        let state = format!(in alloc; "0 / begin_state / {} / end_state", self.state)?;
+        push_groups(alloc, &mut text, self.groups)?;
+        let state = format!(in alloc; "begin_state / {} / end_state", self.state)?;
         push_lines(&mut text, &state)?;
         let goal = format!(in alloc; "begin_goal / {} / end_goal", self.goal)?;
         push_lines(&mut text, &goal)?;
@@ -79,11 +96,19 @@ impl Row {
         Ok(text)
     }
 
+    /// The lines that are printed: what was found, and the sizes of the task.
     fn summary(&self, alloc: Global) -> Result<String, AllocError> {
         let (candidates, invariants) = self.found;
-        let (variables, facts, operators, rules) = self.sizes;
+        let variables = self.variables.len();
+        let mut facts = 0u64;
+        for (_, values) in self.variables {
+            facts = facts.saturating_add(count(values) as u64);
+        }
+        let groups = self.groups.len();
+        let operators = self.operators.len();
+        let rules = self.rules.len();
         format!(in alloc;
-            "Translator candidates: {candidates}\nTranslator invariants: {invariants}\nTranslator variables: {variables}\nTranslator facts: {facts}\nTranslator mutex groups: 0\nTranslator operators: {operators}\nTranslator axioms: {rules}\n"
+            "Translator candidates: {candidates}\nTranslator invariants: {invariants}\nTranslator variables: {variables}\nTranslator facts: {facts}\nTranslator mutex groups: {groups}\nTranslator operators: {operators}\nTranslator axioms: {rules}\n"
         )
     }
 
@@ -102,7 +127,11 @@ impl Row {
     }
 }
 
-fn assert_rows(rt: &impl Abort, alloc: Global, rows: &[Row]) -> Result<(), AllocError> {
+pub(super) fn assert_rows(
+    rt: &impl Abort,
+    alloc: Global,
+    rows: &[Row],
+) -> Result<(), AllocError> {
     for (number, row) in rows.iter().enumerate() {
         assert!(rt; row.is_written(alloc)?, "row {number}");
     }
@@ -122,52 +151,52 @@ static GROUNDING: [Row; 8] = [
         domain: SHOP,
         problem: "(define (problem s) (:domain shop) (:objects a b) (:init (= (total-cost) 0) (= (price a) 7)) (:goal (done a)) (:metric minimize (total-cost)))",
         metric: "1",
-        variables: &[("-1", "done(a)")],
+        variables: &[("-1", "Atom done(a) / NegatedAtom done(a)")],
+        groups: &[],
         state: "1",
         goal: "1 / 0 0",
         operators: &["go a / 0 / 1 / 0 0 -1 0 / 7"],
         rules: &[],
         found: (2, 0),
-        sizes: (1, 2, 1, 0),
     },
     // Without the metric costs don't count.
     Row {
         domain: SHOP,
         problem: "(define (problem s) (:domain shop) (:objects a b) (:init (= (total-cost) 0) (= (price a) 7)) (:goal (done a)))",
         metric: "0",
-        variables: &[("-1", "done(a)"), ("-1", "done(b)")],
+        variables: &[("-1", "Atom done(a) / NegatedAtom done(a)"), ("-1", "Atom done(b) / NegatedAtom done(b)")],
+        groups: &[],
         state: "1 / 1",
         goal: "1 / 0 0",
         operators: &["go a / 0 / 1 / 0 0 -1 0 / 1", "go b / 0 / 1 / 0 1 -1 0 / 1"],
         rules: &[],
         found: (2, 0),
-        sizes: (2, 4, 2, 0),
     },
     // An argument need not fit the type that its predicate declares.
     Row {
         domain: FIT,
         problem: "(define (problem f) (:domain fit) (:objects a - t b - u) (:init (p b)) (:goal (done)))",
         metric: "0",
-        variables: &[("-1", "done()")],
+        variables: &[("-1", "Atom done() / NegatedAtom done()")],
+        groups: &[],
         state: "1",
         goal: "1 / 0 0",
         operators: &["go b / 0 / 1 / 0 0 -1 0 / 1"],
         rules: &[],
         found: (1, 0),
-        sizes: (1, 2, 1, 0),
     },
-    // A goal out of reach is a derived variable without a rule.
+    // A goal out of reach is given to the holder, which never has the value that it needs.
     Row {
         domain: FIT,
         problem: "(define (problem f) (:domain fit) (:objects a - t b - u) (:init (p a)) (:goal (done)))",
         metric: "0",
-        variables: &[("0", "goal@split()")],
+        variables: &[("-1", "Atom goal@holder() / NegatedAtom goal@holder()")],
+        groups: &[],
         state: "1",
         goal: "1 / 0 0",
         operators: &[],
         rules: &[],
         found: (1, 0),
-        sizes: (1, 2, 0, 0),
     },
     // A static negative literal; an inequality of two parameters, and an equality with a constant: of the nine pairs
     // only `a b` and `c b` are left, and `c` is locked.
@@ -176,13 +205,13 @@ static GROUNDING: [Row; 8] = [
  (:action unlock :parameters (?x ?y) :precondition (and (not (locked ?x)) (not (= ?x ?y)) (= ?y b)) :effect (open ?x)))",
         problem: "(define (problem d) (:domain doors) (:objects a c) (:init (locked c)) (:goal (open a)))",
         metric: "0",
-        variables: &[("-1", "open(a)")],
+        variables: &[("-1", "Atom open(a) / NegatedAtom open(a)")],
+        groups: &[],
         state: "1",
         goal: "1 / 0 0",
         operators: &["unlock a b / 0 / 1 / 0 0 -1 0 / 1"],
         rules: &[],
         found: (2, 0),
-        sizes: (1, 2, 1, 0),
     },
     // A parameter of a type without objects gives no operator.
     Row {
@@ -190,20 +219,21 @@ static GROUNDING: [Row; 8] = [
  (:action first :parameters (?x - spare) :effect (q)) (:action second :effect (p)))",
         problem: "(define (problem n) (:domain none) (:init) (:goal (p)))",
         metric: "0",
-        variables: &[("-1", "p()")],
+        variables: &[("-1", "Atom p() / NegatedAtom p()")],
+        groups: &[],
         state: "1",
         goal: "1 / 0 0",
         operators: &["second / 0 / 1 / 0 0 -1 0 / 1"],
         rules: &[],
         found: (2, 0),
-        sizes: (1, 2, 1, 0),
     },
     // A disjunction gives two operators of one name.
     Row {
         domain: "(define (domain two) (:predicates (on) (off) (dim)) (:action flip :precondition (or (off) (dim)) :effect (on)) (:action fade :precondition (off) :effect (dim)))",
         problem: "(define (problem t) (:domain two) (:init (off)) (:goal (on)))",
         metric: "0",
-        variables: &[("-1", "on()"), ("-1", "dim()")],
+        variables: &[("-1", "Atom on() / NegatedAtom on()"), ("-1", "Atom dim() / NegatedAtom dim()")],
+        groups: &[],
         state: "1 / 1",
         goal: "1 / 0 0",
         operators: &[
@@ -213,14 +243,14 @@ static GROUNDING: [Row; 8] = [
         ],
         rules: &[],
         found: (2, 0),
-        sizes: (2, 4, 3, 0),
     },
     // A fact that is reached only once an atom is deleted.
     Row {
         domain: "(define (domain late) (:predicates (p) (g)) (:action wipe :precondition (p) :effect (not (p))) (:action go :precondition (not (p)) :effect (g)))",
         problem: "(define (problem l) (:domain late) (:init (p)) (:goal (g)))",
         metric: "0",
-        variables: &[("-1", "p()"), ("-1", "g()")],
+        variables: &[("-1", "Atom p() / NegatedAtom p()"), ("-1", "Atom g() / NegatedAtom g()")],
+        groups: &[],
         state: "0 / 1",
         goal: "1 / 1 0",
         operators: &[
@@ -229,7 +259,6 @@ static GROUNDING: [Row; 8] = [
         ],
         rules: &[],
         found: (2, 1),
-        sizes: (2, 4, 2, 0),
     },
 ];
 
@@ -253,98 +282,108 @@ static CONDITIONS: [Row; 9] = [
         domain: LAMP,
         problem: ONE,
         metric: "0",
-        variables: &[("-1", "on()"), ("-1", "off()")],
-        state: "1 / 0",
+        variables: &[("-1", "Atom on() / Atom off()")],
+        groups: &["0 0 / 0 1"],
+        state: "1",
         goal: "1 / 0 0",
-        operators: &["flip / 0 / 2 / 0 0 -1 0 / 0 1 0 1 / 1"],
+        operators: &["flip / 0 / 1 / 0 0 1 0 / 1"],
         rules: &[],
         found: (3, 2),
-        sizes: (2, 4, 1, 0),
     },
-    // Some object of such a type: nothing can be done.
+    // Some object of such a type: nothing can be done, and `off` is true for good.
     Row {
         domain: DARK,
         problem: ONE,
         metric: "0",
-        variables: &[("-1", "off()"), ("0", "goal@split()")],
-        state: "0 / 1",
-        goal: "1 / 1 0",
+        variables: &[("-1", "Atom goal@holder() / NegatedAtom goal@holder()")],
+        groups: &[],
+        state: "1",
+        goal: "1 / 0 0",
         operators: &[],
         rules: &[],
         found: (3, 2),
-        sizes: (2, 4, 0, 0),
     },
     // A goal out of reach.
     Row {
         domain: LAMP,
         problem: "(define (problem one) (:domain switch) (:init) (:goal (on)))",
         metric: "0",
-        variables: &[("0", "goal@split()")],
+        variables: &[("-1", "Atom goal@holder() / NegatedAtom goal@holder()")],
+        groups: &[],
         state: "1",
         goal: "1 / 0 0",
         operators: &[],
         rules: &[],
         found: (3, 2),
-        sizes: (1, 2, 0, 0),
     },
     // A goal without alternatives is false.
     Row {
         domain: LAMP,
         problem: "(define (problem one) (:domain switch) (:init (off)) (:goal (or)))",
         metric: "0",
-        variables: &[("-1", "on()"), ("-1", "off()"), ("0", "goal@split()")],
-        state: "1 / 0 / 1",
-        goal: "1 / 2 0",
-        operators: &["flip / 0 / 2 / 0 0 -1 0 / 0 1 0 1 / 1"],
+        variables: &[
+            ("-1", "Atom on() / Atom off()"),
+            ("-1", "Atom goal@holder() / NegatedAtom goal@holder()"),
+        ],
+        groups: &["0 0 / 0 1"],
+        state: "1 / 1",
+        goal: "1 / 1 0",
+        operators: &["flip / 0 / 1 / 0 0 1 0 / 1"],
         rules: &[],
         found: (3, 2),
-        sizes: (3, 6, 1, 0),
     },
-    // A goal that holds at once, of an atom that no operator changes any more.
+    // A goal that holds at once, of an atom that no operator changes any more: its variable has one value, and goes.
     Row {
         domain: LAMP,
         problem: "(define (problem one) (:domain switch) (:init (on)) (:goal (on)))",
         metric: "0",
-        variables: &[("-1", "on()")],
+        variables: &[("-1", "Atom goal@holder() / NegatedAtom goal@holder()")],
+        groups: &[],
         state: "0",
         goal: "1 / 0 0",
         operators: &[],
         rules: &[],
         found: (3, 2),
-        sizes: (1, 2, 0, 0),
     },
     // A goal that always holds asks for nothing.
     Row {
         domain: "(define (domain switch) (:predicates (on) (off) (lit)) (:action flip :precondition (off) :effect (and (on) (not (off)))))",
         problem: "(define (problem one) (:domain switch) (:init (lit) (off)) (:goal (lit)))",
         metric: "0",
-        variables: &[("-1", "on()"), ("-1", "off()")],
+        variables: &[
+            ("-1", "Atom on() / Atom off()"),
+            ("-1", "Atom goal@holder() / NegatedAtom goal@holder()"),
+        ],
+        groups: &["0 0 / 0 1"],
         state: "1 / 0",
-        goal: "0",
-        operators: &["flip / 0 / 2 / 0 0 -1 0 / 0 1 0 1 / 1"],
+        goal: "1 / 1 0",
+        operators: &["flip / 0 / 1 / 0 0 1 0 / 1"],
         rules: &[],
         found: (3, 2),
-        sizes: (2, 4, 1, 0),
     },
-    // A goal of a negative literal.
+    // A goal of a negative literal: `on`, or none of the two, which never comes.
     Row {
         domain: LAMP,
         problem: "(define (problem one) (:domain switch) (:init (off)) (:goal (not (off))))",
         metric: "0",
-        variables: &[("-1", "on()"), ("-1", "off()")],
-        state: "1 / 0",
-        goal: "1 / 1 1",
-        operators: &["flip / 0 / 2 / 0 0 -1 0 / 0 1 0 1 / 1"],
-        rules: &[],
+        variables: &[
+            ("-1", "Atom on() / Atom off()"),
+            ("0", "Atom goal@split() / NegatedAtom goal@split()"),
+        ],
+        groups: &["0 0 / 0 1"],
+        state: "1 / 1",
+        goal: "1 / 1 0",
+        operators: &["flip / 0 / 1 / 0 0 1 0 / 1"],
+        rules: &["1 / 0 0 / 1 1 0"],
         found: (3, 2),
-        sizes: (2, 4, 1, 0),
     },
     // A goal with two alternatives is a derived atom with two rules.
     Row {
         domain: "(define (domain choice) (:predicates (p) (q)) (:action left :effect (p)) (:action right :effect (q)))",
         problem: "(define (problem c) (:domain choice) (:init) (:goal (or (p) (not (q)))))",
         metric: "0",
-        variables: &[("-1", "p()"), ("-1", "q()"), ("0", "new-axiom@0()")],
+        variables: &[("-1", "Atom p() / NegatedAtom p()"), ("-1", "Atom q() / NegatedAtom q()"), ("0", "Atom new-axiom@0() / NegatedAtom new-axiom@0()")],
+        groups: &[],
         state: "1 / 1 / 1",
         goal: "1 / 2 0",
         operators: &[
@@ -353,14 +392,14 @@ static CONDITIONS: [Row; 9] = [
         ],
         rules: &["1 / 0 0 / 2 1 0", "1 / 1 1 / 2 1 0"],
         found: (2, 0),
-        sizes: (3, 6, 2, 2),
     },
     // So is one that asks for some object.
     Row {
         domain: "(define (domain some) (:predicates (p ?x)) (:action set :parameters (?x) :effect (p ?x)))",
         problem: "(define (problem e) (:domain some) (:objects a b) (:init) (:goal (exists (?x) (p ?x))))",
         metric: "0",
-        variables: &[("-1", "p(a)"), ("-1", "p(b)"), ("0", "new-axiom@0()")],
+        variables: &[("-1", "Atom p(a) / NegatedAtom p(a)"), ("-1", "Atom p(b) / NegatedAtom p(b)"), ("0", "Atom new-axiom@0() / NegatedAtom new-axiom@0()")],
+        groups: &[],
         state: "1 / 1 / 1",
         goal: "1 / 2 0",
         operators: &[
@@ -369,7 +408,6 @@ static CONDITIONS: [Row; 9] = [
         ],
         rules: &["1 / 0 0 / 2 1 0", "1 / 1 0 / 2 1 0"],
         found: (2, 0),
-        sizes: (3, 6, 2, 2),
     },
 ];
 
@@ -384,20 +422,21 @@ static EFFECTS: [Row; 6] = [
         domain: "(define (domain w) (:predicates (p)) (:action wipe :effect (not (p))))",
         problem: "(define (problem w) (:domain w) (:init (p)) (:goal (not (p))))",
         metric: "0",
-        variables: &[("-1", "p()")],
+        variables: &[("-1", "Atom p() / NegatedAtom p()")],
+        groups: &[],
         state: "0",
         goal: "1 / 0 1",
         operators: &["wipe / 0 / 1 / 0 0 -1 1 / 1"],
         rules: &[],
         found: (1, 1),
-        sizes: (1, 2, 1, 0),
     },
     // A delete effect yields to an add effect that fires.
     Row {
         domain: "(define (domain touch) (:predicates (p) (q)) (:action drop-p :precondition (p) :effect (not (p))) (:action touch :effect (and (not (q)) (when (p) (q)))))",
         problem: "(define (problem t) (:domain touch) (:init (p) (q)) (:goal (not (q))))",
         metric: "0",
-        variables: &[("-1", "p()"), ("-1", "q()")],
+        variables: &[("-1", "Atom p() / NegatedAtom p()"), ("-1", "Atom q() / NegatedAtom q()")],
+        groups: &[],
         state: "0 / 0",
         goal: "1 / 1 1",
         operators: &[
@@ -406,14 +445,14 @@ static EFFECTS: [Row; 6] = [
         ],
         rules: &[],
         found: (2, 1),
-        sizes: (2, 4, 2, 0),
     },
     // It fires where either literal of the add effect's condition is false, so there are two effects.
     Row {
         domain: "(define (domain yield) (:predicates (p) (q) (r)) (:action act :effect (and (not (q)) (when (and (p) (not (r))) (q)))) (:action change :effect (and (not (p)) (r))))",
         problem: "(define (problem y) (:domain yield) (:init (p) (q)) (:goal (not (q))))",
         metric: "0",
-        variables: &[("-1", "p()"), ("-1", "q()"), ("-1", "r()")],
+        variables: &[("-1", "Atom p() / NegatedAtom p()"), ("-1", "Atom q() / NegatedAtom q()"), ("-1", "Atom r() / NegatedAtom r()")],
+        groups: &[],
         state: "0 / 0 / 1",
         goal: "1 / 1 1",
         operators: &[
@@ -422,20 +461,19 @@ static EFFECTS: [Row; 6] = [
         ],
         rules: &[],
         found: (3, 1),
-        sizes: (3, 6, 2, 0),
     },
     // What is deleted and added is true.
     Row {
         domain: "(define (domain both) (:predicates (p) (q)) (:action act :effect (and (not (p)) (p) (q))))",
         problem: "(define (problem b) (:domain both) (:init) (:goal (q)))",
         metric: "0",
-        variables: &[("-1", "p()"), ("-1", "q()")],
+        variables: &[("-1", "Atom p() / NegatedAtom p()"), ("-1", "Atom q() / NegatedAtom q()")],
+        groups: &[],
         state: "1 / 1",
         goal: "1 / 1 0",
         operators: &["act / 0 / 2 / 0 0 -1 0 / 0 1 -1 0 / 1"],
         rules: &[],
         found: (2, 0),
-        sizes: (2, 4, 1, 0),
     },
     // A derived atom in the goal, in an effect's condition, and negated in an axiom's body, in three layers.
     Row {
@@ -444,18 +482,18 @@ static EFFECTS: [Row; 6] = [
         problem: "(define (problem w) (:domain watch) (:init) (:goal (and (seen) (lit))))",
         metric: "0",
         variables: &[
-            ("-1", "p()"),
-            ("0", "lit()"),
-            ("1", "dark()"),
-            ("2", "calm()"),
-            ("-1", "seen()"),
+            ("-1", "Atom p() / NegatedAtom p()"),
+            ("0", "Atom lit() / NegatedAtom lit()"),
+            ("1", "Atom dark() / NegatedAtom dark()"),
+            ("2", "Atom calm() / NegatedAtom calm()"),
+            ("-1", "Atom seen() / NegatedAtom seen()"),
         ],
+        groups: &[],
         state: "1 / 1 / 1 / 1 / 1",
         goal: "2 / 1 0 / 4 0",
         operators: &["toggle / 0 / 2 / 0 0 -1 0 / 1 3 0 4 -1 0 / 1"],
         rules: &["1 / 0 0 / 1 1 0", "1 / 1 1 / 2 1 0", "1 / 2 0 / 3 1 0"],
         found: (2, 0),
-        sizes: (5, 10, 1, 3),
     },
     // An axiom over all objects rests on a new atom, in a layer below its own.
     Row {
@@ -463,12 +501,13 @@ static EFFECTS: [Row; 6] = [
         problem: "(define (problem a) (:domain all) (:objects a b) (:init) (:goal (r)))",
         metric: "0",
         variables: &[
-            ("-1", "p(a)"),
-            ("-1", "p(b)"),
-            ("1", "q()"),
-            ("2", "r()"),
-            ("0", "new-axiom@0()"),
+            ("-1", "Atom p(a) / NegatedAtom p(a)"),
+            ("-1", "Atom p(b) / NegatedAtom p(b)"),
+            ("1", "Atom q() / NegatedAtom q()"),
+            ("2", "Atom r() / NegatedAtom r()"),
+            ("0", "Atom new-axiom@0() / NegatedAtom new-axiom@0()"),
         ],
+        groups: &[],
         state: "1 / 1 / 1 / 1 / 1",
         goal: "1 / 3 0",
         operators: &[
@@ -482,7 +521,6 @@ static EFFECTS: [Row; 6] = [
             "1 / 1 1 / 4 1 0",
         ],
         found: (2, 0),
-        sizes: (5, 10, 2, 4),
     },
 ];
 
@@ -520,29 +558,24 @@ static EVERYTHING: [Row; 1] = [Row {
 ",
     metric: "1",
     variables: &[
-        ("-1", "at(red, home)"),
-        ("-1", "at(red, shop)"),
-        ("0", "safe(red)"),
-        ("-1", "tired()"),
-        ("1", "new-axiom@0()"),
-        ("1", "new-axiom@1()"),
+        ("-1", "Atom at(red, home) / Atom at(red, shop)"),
+        ("0", "Atom safe(red) / NegatedAtom safe(red)"),
+        ("1", "Atom new-axiom@0() / NegatedAtom new-axiom@0()"),
+        ("1", "Atom new-axiom@1() / NegatedAtom new-axiom@1()"),
     ],
-    state: "1 / 0 / 1 / 1 / 1 / 1",
-    goal: "1 / 5 0",
+    groups: &["0 0 / 0 1"],
+    state: "1 / 1 / 1 / 1",
+    goal: "1 / 3 0",
     operators: &[
-        "go red shop home / 1 / 4 1 / 3 / 0 0 -1 0 / 0 1 0 1 / 1 0 0 3 1 0 / 2",
-        "go red shop home / 2 / 2 0 / 4 1 / 4 / 0 0 -1 0 / 0 1 0 1 / 1 0 0 3 -1 0 / 2 0 1 3 0 3 -1 1 / 2",
-        "pay / 0 / 0 / 3",
-        "rest / 0 / 0 / 0",
-        "wait / 0 / 0 / 0",
+        "go red shop home / 2 / 1 0 / 2 1 / 1 / 0 0 1 0 / 2",
+        "go red shop home / 1 / 2 1 / 1 / 0 0 1 0 / 2",
     ],
     rules: &[
-        "1 / 0 0 / 2 1 0",
-        "1 / 2 0 / 4 1 0",
-        "2 / 0 0 / 2 0 / 5 1 0",
+        "1 / 0 0 / 1 1 0",
+        "1 / 1 0 / 2 1 0",
+        "2 / 0 0 / 1 0 / 3 1 0",
     ],
     found: (4, 1),
-    sizes: (6, 12, 5, 3),
 }];
 
 #[test]

@@ -1,7 +1,7 @@
 //! The top call on the real files and the standard output.
 
 use super::{DOMAIN, PROBLEM, TEXT};
-use crate::{Status, translate};
+use translator::{Status, translate};
 use std::alloc::AllocError;
 use std::fs;
 use std::test::*;

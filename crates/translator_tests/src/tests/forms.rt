@@ -1,7 +1,7 @@
 //! Odd forms that are translated.
 
 use super::{Outside, WORDS, answers, is_written, prepared};
-use crate::Status;
+use translator::Status;
 use std::alloc::{AllocError, Global};
 use std::test::*;
 
@@ -25,7 +25,8 @@ fn requirements_and_line_ends_change_nothing(rt: HostRuntime) -> Result<(), Allo
     Ok(())
 }
 
-/// The switch domain with a hundred more predicates, which nothing changes, and two actions without an effect.
+/// The switch domain with a hundred more predicates, which nothing changes, and two actions without an effect, which aren't
+/// written.
 fn large_domain(alloc: Global) -> Result<String, AllocError> {
     let mut domain = String::from_str(alloc, "(define (domain switch) (:predicates (on) (off)")?;
     for number in 0..100 {
@@ -40,10 +41,10 @@ fn large_domain(alloc: Global) -> Result<String, AllocError> {
 
 const LARGE_SUMMARY: &[u8] = b"Translator candidates: 3
 Translator invariants: 2
-Translator variables: 2
-Translator facts: 4
-Translator mutex groups: 0
-Translator operators: 3
+Translator variables: 1
+Translator facts: 2
+Translator mutex groups: 1
+Translator operators: 1
 Translator axioms: 0
 ";
 

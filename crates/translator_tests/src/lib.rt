@@ -1,0 +1,7 @@
+//! Tests of the top call, over files and a console in memory, and over the real ones.
+//!
+//! They stand apart from the crate that they test, since each proof of a test counts, and that crate is large.
+#![tactic(auto)]
+
+#[cfg(test)]
+mod tests;
