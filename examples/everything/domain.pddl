@@ -10,33 +10,35 @@
 ; its `exists` binds a variable. Layers: safe(red) rests on no derived fact and has layer 0, both new ones rest on it
 ; and have layer 1.
 ;
-;   var0 at(red, home)     var1 at(red, shop)     var2 safe(red), layer 0
-;   var3 tired()           var4 new-axiom@0(), layer 1          var5 new-axiom@1(), layer 1
-;
-; At the start only at(red, shop) holds: the state is 1 0 1 1 1 1. The goal is var5 = 0, and the metric is 1.
-;
-; `go red shop home` where red isn't tired: it requires var1 = 0, var3 = 1 and var4 = 1. It sets var0 to 0 and var1 to
-; 1. It sets var3 to 0 where var0 = 0. That tiredness ends can't happen, since red isn't tired. Cost 2.
-;
-; `go red shop home` where red is safe: it requires var1 = 0, var2 = 0 and var4 = 1. It sets var0 to 0 and var1 to 1. It
-; sets var3 to 0 where var0 = 0, and to 1 where var3 = 0 and var0 = 1: being tired again goes before no longer being
-; tired. Cost 2.
-;
-; `pay` costs 3, `rest` and `wait` cost nothing, and none of them has an effect.
-;
 ; Candidates for invariants, by predicate: at with both arguments, with its truck counted, with its place counted; and
 ; tired. None has a predicate to add, since no other has as many arguments. `go` adds and deletes at for one truck and two
 ; places, so that of these only the one that counts the place is balanced: a truck is at one place at most. Tiredness is
-; added where nothing is deleted.
+; added where nothing is deleted. So red's two places are a mutex group, and one variable:
 ;
-; Rules, in the order of the axioms: var2 is 0 where var0 is; var4 is 0 where var2 is; var5 is 0 where var0 and var2 are.
+;   var0 at(red, home) 0, at(red, shop) 1, none of those 2     var1 safe(red), layer 0     var2 tired()
+;   var3 new-axiom@0(), layer 1                                var4 new-axiom@1(), layer 1
+;
+; At the start only at(red, shop) holds: the state is 1 1 1 1 1. The goal is var4 = 0, and the metric is 1.
+;
+; `go red shop home` where red isn't tired: it requires var0 = 1, var2 = 1 and var3 = 1, and sets var0 to 0. It would set
+; var2 to 0 where var0 = 0, which its condition excludes, and end tiredness, which its condition excludes too. Cost 2.
+;
+; `go red shop home` where red is safe: it requires var0 = 1, var1 = 0 and var3 = 1. It sets var0 to 0, and var2 to 1.
+;
+; `pay` costs 3, `rest` and `wait` cost nothing, and none of them has an effect.
+;
+; Rules, in the order of the axioms: var1 is 0 where var0 is; var3 is 0 where var1 is; var4 is 0 where var0 and var1 are.
+;
+; What is written is less. Red is always at one of the two places, so that var0 keeps two values. Nobody ever gets tired:
+; var2 keeps the value 1 alone and goes, with the conditions and the effect on it. The new atoms become var2 and var3. The
+; operator of safety comes first, by its conditions, and the three operators without effects go.
 ;
 ;   Translator candidates: 4
 ;   Translator invariants: 1
-;   Translator variables: 6
-;   Translator facts: 12
-;   Translator mutex groups: 0
-;   Translator operators: 5
+;   Translator variables: 4
+;   Translator facts: 8
+;   Translator mutex groups: 1
+;   Translator operators: 2
 ;   Translator axioms: 3
 (define (domain all)
  (:requirements :strips :typing :adl :derived-predicates :action-costs)
