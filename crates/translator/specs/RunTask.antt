@@ -10,10 +10,6 @@ use Rattle.fdr_encoder.specs.Covers.{singles}
 use Rattle.fdr_encoder.specs.Ordered.{IsEncodingInOrder}
 use Rattle.sas_task.specs.Task.{Task}
 
--- the most candidates for invariants that are tried
-abbrev pub most_candidates : ℕ
-most_candidates = 100000
-
 -- The task encodes, with one variable for each fact and no groups, what can be reached of the instances of the normal task.
 pub record IsRunTask (made : Normal) (task : Task) : Type 0 where
   pub grounded : Ground

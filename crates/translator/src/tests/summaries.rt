@@ -1,6 +1,6 @@
 //! What is printed of the search for invariants and of the written task. Every number was worked by hand.
 
-use super::{WORDS, answers, prepared};
+use super::{CANDIDATES, DOMAIN, PROBLEM, WORDS, answers, prepared};
 use crate::Status;
 use std::alloc::{AllocError, Global};
 use std::test::*;
@@ -46,10 +46,7 @@ static ROWS: [Row; 3] = [
     },
 ];
 
-fn is_printed(alloc: Global, row: &Row) -> Result<bool, AllocError> {
-    let mut outside = prepared(alloc, row.domain.as_bytes(), row.problem.as_bytes())?;
-    outside.room(100_000)?;
-    let is_done = answers(alloc, &WORDS, &mut outside, Status::Done)?;
+fn summary(alloc: Global, numbers: &[u64; 7]) -> Result<String, AllocError> {
     let [
         candidates,
         invariants,
@@ -58,10 +55,17 @@ fn is_printed(alloc: Global, row: &Row) -> Result<bool, AllocError> {
         groups,
         operators,
         axioms,
-    ] = row.numbers;
-    let summary = format!(in alloc;
+    ] = *numbers;
+    format!(in alloc;
         "Translator candidates: {candidates}\nTranslator invariants: {invariants}\nTranslator variables: {variables}\nTranslator facts: {facts}\nTranslator mutex groups: {groups}\nTranslator operators: {operators}\nTranslator axioms: {axioms}\n"
-    )?;
+    )
+}
+
+fn is_printed(alloc: Global, row: &Row) -> Result<bool, AllocError> {
+    let mut outside = prepared(alloc, row.domain.as_bytes(), row.problem.as_bytes())?;
+    outside.room(100_000)?;
+    let is_done = answers(alloc, &WORDS, &mut outside, Status::Done)?;
+    let summary = summary(alloc, &row.numbers)?;
     Ok(is_done && outside.has_printed(summary.as_bytes()))
 }
 
@@ -69,6 +73,38 @@ fn is_printed(alloc: Global, row: &Row) -> Result<bool, AllocError> {
 fn the_search_for_invariants_is_summed_up(rt: HostRuntime) -> Result<(), AllocError> {
     for (number, row) in ROWS.iter().enumerate() {
         assert!(rt; is_printed(rt.alloc(), row)?, "row {number}");
+    }
+    Ok(())
+}
+
+/// The switch task where so many candidates are tried at most, with its numbers. `{on}` is tried first. It isn't
+/// balanced, since `flip` adds `on` and deletes no `on`, and its one repair is `{on, off}`, which then stands third.
+/// `{off}` is second, and balanced, since nothing adds `off`. `{on, off}` is balanced, since `flip` deletes the `off`
+/// that it needs, and it has no repair.
+static LIMITS: [(&str, [u64; 7]); 6] = [
+    ("0", [0, 0, 2, 4, 0, 1, 0]),
+    ("1", [1, 0, 2, 4, 0, 1, 0]),
+    ("2", [2, 1, 2, 4, 0, 1, 0]),
+    ("3", [3, 2, 2, 4, 0, 1, 0]),
+    ("0002", [2, 1, 2, 4, 0, 1, 0]),
+    ("2147483647", [3, 2, 2, 4, 0, 1, 0]),
+];
+
+fn is_printed_within(alloc: Global, limit: &str, numbers: &[u64; 7]) -> Result<bool, AllocError> {
+    let mut outside = prepared(alloc, DOMAIN, PROBLEM)?;
+    let words = ["translate", "d.pddl", "p.pddl", CANDIDATES, limit];
+    let is_done = answers(alloc, &words, &mut outside, Status::Done)?;
+    let summary = summary(alloc, numbers)?;
+    Ok(is_done && outside.has_printed(summary.as_bytes()))
+}
+
+#[test]
+fn no_more_candidates_are_tried_than_the_words_say(rt: HostRuntime) -> Result<(), AllocError> {
+    for (limit, numbers) in &LIMITS {
+        assert!(rt;
+            is_printed_within(rt.alloc(), limit, numbers)?,
+            "at most {limit}"
+        );
     }
     Ok(())
 }

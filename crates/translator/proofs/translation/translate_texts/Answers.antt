@@ -49,7 +49,7 @@ returns-clause-ok c =
     let comes = translated c.args.domain.now c.args.problem.now c.in_ok-domain_tree.ensures.faultless c.in_ok-problem_tree.ensures.faultless _ _
     c.in_ok-domain_tree.ensures.tree c.in_ok-problem_tree.ensures.tree c.in_ok-domain.domain c.in_ok-domain.ensures.reading c.in_ok-problem.problem c.in_ok-problem.ensures.reading pair c.in_ok-checked.ensures in
     let is_checked = checked_pair c.in_ok-domain.domain c.in_ok-problem.problem pair c.in_ok-checked.ensures c.in_ok-domain.ensures.spelled c.in_ok-problem.ensures.spelled in
-    text_of_run (of_texts c.args.domain.now c.args.problem.now) pair.domain pair.problem made.found made.task c.written.result comes c.in_ok-made.ensures.found c.in_ok-made.ensures.task
+    text_of_run (of_texts c.args.domain.now c.args.problem.now) pair.domain pair.problem c.args.max_candidates made.found made.task c.written.result comes c.in_ok-made.ensures.found c.in_ok-made.ensures.task
     (λ valid. c.run_task_translates.ensures pair made.task is_checked c.in_ok-made.ensures.task valid) c.written.ensures.ok
 
 pub returns-clause-err : goal.returns-clause-err
