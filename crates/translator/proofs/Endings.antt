@@ -3,6 +3,7 @@ use Rattle.std.proofs.Common.{◌≡◌, ℕ, List, sym, ◌∙◌, subst}
 use Rattle.std.specs.declared.option.Option.{Option}
 use Rattle.std.specs.declared.option.Option.TheVariants.{Some, None}
 use Rattle.tl_device.specs.Contents.{Contents}
+use Rattle.command_line.specs.Accepted.{Asked}
 use Rattle.translator.specs.declared.outcome.Summary.{Summary}
 use Rattle.translator.specs.Run.{Ending, ComesTo, ComesToIfTold}
 use Rattle.translator.specs.Written.{IsTextWhere, IsTextOfFiles}
@@ -16,6 +17,7 @@ as_if_told None domain problem e comes = absurd comes
 as_if_told (Some files) domain problem e comes = comes
 
 -- where something is written, the run comes to what it is written for
-pub text_where : (files : Option Contents) (domain problem text : List ℕ) (summary : Summary) (e : Ending) → IsTextOfFiles files domain problem text summary → ComesTo files domain problem e → IsTextWhere e text summary
-text_where None domain problem text summary e is_text comes = absurd comes
-text_where (Some files) domain problem text summary e is_text comes = subst (λ end. IsTextWhere end text summary) comes is_text
+pub text_where : (files : Option Contents) (asked : Asked) (text : List ℕ) (summary : Summary) (e : Ending) → IsTextOfFiles files asked text summary → ComesTo files asked.domain asked.problem e
+    → IsTextWhere e asked.max_candidates text summary
+text_where None asked text summary e is_text comes = absurd comes
+text_where (Some files) asked text summary e is_text comes = subst (λ end. IsTextWhere end asked.max_candidates text summary) comes is_text

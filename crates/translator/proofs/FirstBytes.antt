@@ -9,6 +9,7 @@ use Rattle.translator.specs.declared.outcome.Summary.{Summary}
 use Rattle.std.specs.Prelude.{Ok, Err}
 use Rattle.translator.specs.declared.outcome.End.TheVariants.{NoMemory, CannotRead, CannotWrite, Faulty}
 use Rattle.translator.specs.Outcome.{Outcome, status_of}
+use Rattle.command_line.specs.Accepted.{Asked}
 use Rattle.translator.specs.Messages.{usage_line, memory_line, unreadable_line, unwritable_line, fault_line, summary_lines, line_of}
 
 -- T
@@ -27,13 +28,17 @@ usage_first : first usage_line ≡ 117
 unfolding usage_line first
 usage_first = refl
 
-line_first : (outcome : Outcome) (domain problem : List ℕ) → status_of outcome ≢ statuses.Done → first (line_of outcome domain problem) ≡ 116
+memory_first : first memory_line ≡ 116
+unfolding memory_line first
+memory_first = refl
+
+line_first : (outcome : Outcome) (asked : Asked) → status_of outcome ≢ statuses.Done → first (line_of outcome asked) ≡ 116
 unfolding memory_line unreadable_line unwritable_line fault_line first
-line_first (Ok summary) domain problem other = absurd (other refl)
-line_first (Err NoMemory) domain problem other = refl
-line_first (Err (CannotRead side)) domain problem other = refl
-line_first (Err CannotWrite) domain problem other = refl
-line_first (Err (Faulty side fault)) domain problem other = refl
+line_first (Ok summary) asked other = absurd (other refl)
+line_first (Err NoMemory) asked other = refl
+line_first (Err (CannotRead side)) asked other = refl
+line_first (Err CannotWrite) asked other = refl
+line_first (Err (Faulty side fault)) asked other = refl
 
 summary_first : (summary : Summary) → first (summary_lines summary) ≡ 84
 unfolding summary_lines first
@@ -42,9 +47,12 @@ summary_first summary = refl
 pub usage_small : (rest : List ℕ) → usage_line ≢ capital ∷ rest
 usage_small rest is = let a = usage_first in let b = begins usage_line rest is in omega (arith, a, b)
 
-pub line_small : (outcome : Outcome) (domain problem : List ℕ) → status_of outcome ≢ statuses.Done → (rest : List ℕ) → line_of outcome domain problem ≢ capital ∷ rest
-line_small outcome domain problem other rest is =
-    let a = line_first outcome domain problem other in let b = begins (line_of outcome domain problem) rest is in omega (arith, a, b)
+pub memory_small : (rest : List ℕ) → memory_line ≢ capital ∷ rest
+memory_small rest is = let a = memory_first in let b = begins memory_line rest is in omega (arith, a, b)
+
+pub line_small : (outcome : Outcome) (asked : Asked) → status_of outcome ≢ statuses.Done → (rest : List ℕ) → line_of outcome asked ≢ capital ∷ rest
+line_small outcome asked other rest is =
+    let a = line_first outcome asked other in let b = begins (line_of outcome asked) rest is in omega (arith, a, b)
 
 pub begins_capital : (summary : Summary) (byte : ℕ) (rest : List ℕ) → summary_lines summary ≡ byte ∷ rest → byte ≡ capital
 unfolding first

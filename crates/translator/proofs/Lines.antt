@@ -5,7 +5,7 @@ use Rattle.pddl_lexer.specs.Kinds.{text}
 use Rattle.pddl_lexer.specs.declared.fault.Fault.{Fault}
 use Rattle.translator.specs.declared.outcome.Summary.{Summary}
 use Rattle.translator.specs.declared.message.Phrase.TheVariants as phrases
-use Rattle.translator.specs.Messages.{unreadable_line, fault_line, summary_lines}
+use Rattle.translator.specs.Messages.{unreadable_line, unwritable_line, fault_line, summary_lines}
 use Rattle.translator.specs.Pieces.{bytes_of, joined}
 
 run_on : (before : List ℕ) (parts : List (List ℕ)) → before ++ joined parts ≡ fold (λ line part. line ++ part) before parts
@@ -15,6 +15,10 @@ run_on before (part ∷ parts) = sym (append_assoc before part (joined parts)) �
 pub unreadable_pieces : (name : List ℕ) → joined (bytes_of phrases.CannotRead ∷ name ∷ bytes_of phrases.LineFeed ∷ []) ≡ unreadable_line name
 unfolding bytes_of unreadable_line
 unreadable_pieces name = run_on (codes "translate: cannot read ") (name ∷ codes "\n" ∷ [])
+
+pub unwritable_pieces : (name : List ℕ) → joined (bytes_of phrases.CannotWrite ∷ name ∷ bytes_of phrases.LineFeed ∷ []) ≡ unwritable_line name
+unfolding bytes_of unwritable_line
+unwritable_pieces name = run_on (codes "translate: cannot write ") (name ∷ codes "\n" ∷ [])
 
 pub fault_pieces : (name : List ℕ) (fault : Fault) →
     joined (bytes_of phrases.Prefix ∷ name ∷ bytes_of phrases.BeforeLine ∷ decimal fault.line ∷ bytes_of phrases.AfterLine ∷ text fault.kind ∷ bytes_of phrases.LineFeed ∷ []) ≡ fault_line name fault

@@ -25,6 +25,7 @@ use Rattle.type_checker.specs.Checked.{Pair, IsChecked, head, ChecksTo}
 use Rattle.type_checker.specs.Faults.{SidedFault, check_faults}
 use Rattle.type_checker.specs.declared.end.Side.{Side}
 use Rattle.type_checker.specs.declared.end.Side.TheVariants as sides
+use Rattle.command_line.specs.Accepted.{Asked}
 use Rattle.translator.specs.declared.outcome.Summary.{Summary}
 use Rattle.translator.specs.declared.outcome.End.{End}
 use Rattle.translator.specs.declared.outcome.End.TheVariants.{NoMemory, CannotRead, CannotWrite, Faulty}
@@ -244,11 +245,12 @@ both_read None domain problem text other e holds within holds' within' is = tt
 both_read (Some files) domain problem text other e holds within holds' within' is =
     after_domain files domain problem text holds within ∙ after_problem files domain problem text other holds' within' ∙ is
 
-pub text_of_both : (files : Option Contents) (domain problem text other bytes : List ℕ) (summary : Summary) → Holds files domain text → length text ≤ limit → Holds files problem other → length other ≤ limit
-    → IsTextWhere (of_texts text other) bytes summary → IsTextOfFiles files domain problem bytes summary
-text_of_both None domain problem text other bytes summary holds within holds' within' written = tt
-text_of_both (Some files) domain problem text other bytes summary holds within holds' within' written =
-    subst (λ (e : Ending). IsTextWhere e bytes summary) (sym (after_domain files domain problem text holds within ∙ after_problem files domain problem text other holds' within')) written
+pub text_of_both : (files : Option Contents) (asked : Asked) (text other bytes : List ℕ) (summary : Summary) → Holds files asked.domain text → length text ≤ limit
+    → Holds files asked.problem other → length other ≤ limit → IsTextWhere (of_texts text other) asked.max_candidates bytes summary → IsTextOfFiles files asked bytes summary
+text_of_both None asked text other bytes summary holds within holds' within' written = tt
+text_of_both (Some files) asked text other bytes summary holds within holds' within' written =
+    subst (λ (e : Ending). IsTextWhere e asked.max_candidates bytes summary)
+    (sym (after_domain files asked.domain asked.problem text holds within ∙ after_problem files asked.domain asked.problem text other holds' within')) written
 
 -- ---- the same, from what stood between the calls
 
@@ -268,12 +270,12 @@ pub record AreRead (files mid : Option Contents) (domain problem text other text
   pub text_is : text' ≡ text
   pub other_is : other' ≡ other
 
-pub read_text : (files mid : Option Contents) (domain problem text other text' other' bytes : List ℕ) (summary : Summary) → AreRead files mid domain problem text other text' other'
-    → IsTextWhere (of_texts text' other') bytes summary → IsTextOfFiles files domain problem bytes summary
-read_text files mid domain problem text other text' other' bytes summary are written =
-    let here = subst (λ (t : List ℕ). IsTextWhere (of_texts t other') bytes summary) are.text_is written in
-    let there = subst (λ (t : List ℕ). IsTextWhere (of_texts text t) bytes summary) are.other_is here in
-    text_of_both files domain problem text other bytes summary are.holds are.within (subst (λ (f : Option Contents). Holds f problem other) are.same are.holds_other) are.within_other there
+pub read_text : (files mid : Option Contents) (asked : Asked) (text other text' other' bytes : List ℕ) (summary : Summary) → AreRead files mid asked.domain asked.problem text other text' other'
+    → IsTextWhere (of_texts text' other') asked.max_candidates bytes summary → IsTextOfFiles files asked bytes summary
+read_text files mid asked text other text' other' bytes summary are written =
+    let here = subst (λ (t : List ℕ). IsTextWhere (of_texts t other') asked.max_candidates bytes summary) are.text_is written in
+    let there = subst (λ (t : List ℕ). IsTextWhere (of_texts text t) asked.max_candidates bytes summary) are.other_is here in
+    text_of_both files asked text other bytes summary are.holds are.within (subst (λ (f : Option Contents). Holds f asked.problem other) are.same are.holds_other) are.within_other there
 
 pub read_ending : (files mid : Option Contents) (domain problem text other text' other' : List ℕ) (e : Ending) → AreRead files mid domain problem text other text' other'
     → of_texts text' other' ≡ e → ComesToIfTold files domain problem e
@@ -290,14 +292,16 @@ texts_stop files mid domain problem text other text' other' reads reads_now (Fau
     (same, read_ending files mid domain problem text other text' other' (Refused side fault) are stops)
 
 -- what two texts give, as what the files give
-module _ (files mid : Option Contents) (domain problem text other text' other' : List ℕ) (are : AreRead files mid domain problem text other text' other') where
-  pub files_text : (result : Result Translation End) → IfOk result (λ t. IsTextWhere (of_texts text' other') t.text.items t.summary) → IfOk result (λ t. IsTextOfFiles files domain problem t.text.items t.summary)
-  files_text (Ok t) written = read_text files mid domain problem text other text' other' t.text.items t.summary are written
+module _ (files mid : Option Contents) (asked : Asked) (text other text' other' : List ℕ) (are : AreRead files mid asked.domain asked.problem text other text' other') where
+  pub files_text : (result : Result Translation End) → IfOk result (λ t. IsTextWhere (of_texts text' other') asked.max_candidates t.text.items t.summary)
+      → IfOk result (λ t. IsTextOfFiles files asked t.text.items t.summary)
+  files_text (Ok t) written = read_text files mid asked text other text' other' t.text.items t.summary are written
   files_text (Err why) written = tt
 
-  pub files_end : (reads reads_now : ℕ) (result : Result Translation End) → reads_now ≡ reads → IfErr result (StopsWhere (of_texts text' other')) → IfErr result (StopsOnFiles files domain problem reads reads_now)
+  pub files_end : (reads reads_now : ℕ) (result : Result Translation End) → reads_now ≡ reads → IfErr result (StopsWhere (of_texts text' other'))
+      → IfErr result (StopsOnFiles files asked.domain asked.problem reads reads_now)
   files_end reads reads_now (Ok t) same stops = tt
-  files_end reads reads_now (Err why) same stops = texts_stop files mid domain problem text other text' other' reads reads_now why are same stops
+  files_end reads reads_now (Err why) same stops = texts_stop files mid asked.domain asked.problem text other text' other' reads reads_now why are same stops
 
 pub none_asked : (asked : Option (List ℕ)) (domain problem : List ℕ) (e : Ending) (result : Result Translation End) → IfErr result (StopsWhere e) → IfErr result (AsksFor asked domain problem)
 none_asked asked domain problem e (Ok t) stops = tt

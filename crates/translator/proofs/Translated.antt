@@ -39,7 +39,7 @@ use Rattle.translator.specs.declared.outcome.End.{End}
 use Rattle.translator.specs.declared.outcome.End.TheVariants.{NoMemory}
 use Rattle.translator.specs.declared.translation.Translation.{Translation}
 use Rattle.translator.specs.Run.{Ending, Translated}
-use Rattle.translator.specs.RunTask.{IsRunEncoding, IsRunTask, most_candidates}
+use Rattle.translator.specs.RunTask.{IsRunEncoding, IsRunTask}
 use Rattle.translator.specs.Theorem.{Translates}
 use Rattle.translator.specs.Written.{IsWritten, IsTextWhere, StopsWhere}
 use Rattle.translator.proofs.Texts.{memory_stops}
@@ -108,13 +108,13 @@ run_task_of made found encoded (Ok task) encoding projection = record { encoded 
 run_task_of made found encoded (Err end) encoding projection = tt
 
 -- the text of the task of a run is what the run is to write
-pub text_of_run : (e : Ending) (domain : Domain) (problem : Problem) (found : Found) (task : Task) (result : Result Translation End) → e ≡ Translated domain problem
-    → IsFound (normal domain problem) most_candidates found → IsRunTask (normal domain problem) found task
-    → Translates domain problem task → IfOk result (λ t. IsWritten found task t.text.items t.summary) → IfOk result (λ t. IsTextWhere e t.text.items t.summary)
-text_of_run e domain problem found task (Ok t) is is_found run law written =
-    subst (λ (x : Ending). IsTextWhere x t.text.items t.summary) (sym is)
+pub text_of_run : (e : Ending) (domain : Domain) (problem : Problem) (max_candidates : ℕ) (found : Found) (task : Task) (result : Result Translation End) → e ≡ Translated domain problem
+    → IsFound (normal domain problem) max_candidates found → IsRunTask (normal domain problem) found task
+    → Translates domain problem task → IfOk result (λ t. IsWritten found task t.text.items t.summary) → IfOk result (λ t. IsTextWhere e max_candidates t.text.items t.summary)
+text_of_run e domain problem max_candidates found task (Ok t) is is_found run law written =
+    subst (λ (x : Ending). IsTextWhere x max_candidates t.text.items t.summary) (sym is)
     (record { task = task; found = found; is_found = is_found; written = written; is_run_task = run; translates = law })
-text_of_run e domain problem found task (Err why) is is_found run law written = tt
+text_of_run e domain problem max_candidates found task (Err why) is is_found run law written = tt
 
 -- a text isn't written only for want of memory
 pub unwritten : (e : Ending) (result : Result Translation End) → IfErr result (λ why. why ≡ NoMemory) → IfErr result (StopsWhere e)

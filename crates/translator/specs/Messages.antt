@@ -6,6 +6,7 @@ use Rattle.translator.specs.declared.outcome.Summary.{Summary}
 use Rattle.translator.specs.declared.outcome.End.TheVariants.{NoMemory, CannotRead, CannotWrite, Faulty}
 use Rattle.translator.specs.Outcome.{Outcome}
 use Rattle.translator.specs.Run.{name_of}
+use Rattle.command_line.specs.Accepted.{Asked}
 
 -- the line that refuses the words
 unfoldable pub usage_line : List ℕ
@@ -19,9 +20,9 @@ memory_line = codes "translate: out of memory\n"
 unfoldable pub unreadable_line : List ℕ → List ℕ
 unreadable_line name = codes "translate: cannot read " ++ name ++ codes "\n"
 
--- the line on an output file that can't be written
-unfoldable pub unwritable_line : List ℕ
-unwritable_line = codes "translate: cannot write output.sas\n"
+-- the line that names a file that can't be written
+unfoldable pub unwritable_line : List ℕ → List ℕ
+unwritable_line name = codes "translate: cannot write " ++ name ++ codes "\n"
 
 -- the line on a fault, with its file and its line
 unfoldable pub fault_line : List ℕ → Fault → List ℕ
@@ -35,10 +36,10 @@ summary_lines summary =
     ++ codes "\nTranslator mutex groups: " ++ decimal summary.mutex_groups ++ codes "\nTranslator operators: " ++ decimal summary.operators
     ++ codes "\nTranslator axioms: " ++ decimal summary.axioms ++ codes "\n"
 
--- what is printed after the work, where the input files have these names
-abbrev pub line_of : Outcome → List ℕ → List ℕ → List ℕ
-line_of (Ok summary) domain problem = summary_lines summary
-line_of (Err NoMemory) domain problem = memory_line
-line_of (Err (CannotRead side)) domain problem = unreadable_line (name_of side domain problem)
-line_of (Err CannotWrite) domain problem = unwritable_line
-line_of (Err (Faulty side fault)) domain problem = fault_line (name_of side domain problem) fault
+-- what is printed after the work on what the words asked for
+abbrev pub line_of : Outcome → Asked → List ℕ
+line_of (Ok summary) asked = summary_lines summary
+line_of (Err NoMemory) asked = memory_line
+line_of (Err (CannotRead side)) asked = unreadable_line (name_of side asked.domain asked.problem)
+line_of (Err CannotWrite) asked = unwritable_line asked.output
+line_of (Err (Faulty side fault)) asked = fault_line (name_of side asked.domain asked.problem) fault

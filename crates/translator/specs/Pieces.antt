@@ -5,13 +5,13 @@ use Rattle.translator.specs.declared.message.Phrase.{Phrase}
 use Rattle.translator.specs.declared.message.Phrase.TheVariants as phrases
 use Rattle.translator.specs.declared.message.Piece.{Piece}
 use Rattle.translator.specs.declared.message.Piece.TheVariants as pieces
-use Rattle.translator.specs.Messages.{usage_line, memory_line, unwritable_line}
+use Rattle.translator.specs.Messages.{usage_line, memory_line}
 
 -- the bytes of a fixed part
 unfoldable pub bytes_of : Phrase → List ℕ
 bytes_of phrases.Usage = usage_line
 bytes_of phrases.OutOfMemory = memory_line
-bytes_of phrases.CannotWrite = unwritable_line
+bytes_of phrases.CannotWrite = codes "translate: cannot write "
 bytes_of phrases.CannotRead = codes "translate: cannot read "
 bytes_of phrases.Prefix = codes "translate: "
 bytes_of phrases.BeforeLine = codes ":"

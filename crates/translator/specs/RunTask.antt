@@ -14,10 +14,6 @@ use Rattle.task_simplifier.specs.Projection.{IsProjection}
 use Rattle.sas_task.specs.Task.{Task}
 use Rattle.sas_task.specs.Valid.{IsValid}
 
--- the most candidates for invariants that are tried
-abbrev pub most_candidates : ℕ
-most_candidates = 100000
-
 -- The task encodes what can be reached of the instances of the normal task, over the cover of the facts by the mutex groups of the candidates that were found.
 pub record IsRunEncoding (made : Normal) (found : Found) (encoded : Task) : Type 0 where
   pub grounded : Ground

@@ -20,9 +20,10 @@ use Rattle.translator.specs.declared.outcome.Summary.{Summary}
 use Rattle.translator.specs.declared.outcome.End.{End}
 use Rattle.translator.specs.declared.outcome.End.TheVariants.{NoMemory, CannotRead, CannotWrite, Faulty}
 use Rattle.translator.specs.Outcome.{Outcome}
-use Rattle.translator.specs.RunTask.{IsRunTask, most_candidates}
+use Rattle.translator.specs.RunTask.{IsRunTask}
 use Rattle.translator.specs.Theorem.{Translates}
-use Rattle.translator.specs.Run.{Ending, Absent, Refused, Translated, ending, ComesTo, ComesToIfTold, limit, name_of, output_name}
+use Rattle.translator.specs.Run.{Ending, Absent, Refused, Translated, ending, ComesTo, ComesToIfTold, limit, name_of}
+use Rattle.command_line.specs.Accepted.{Asked}
 
 -- how many candidates for invariants were tried and accepted, and the sizes of the task
 pub record IsSummaryOf (found : Found) (task : Task) (summary : Summary) : Type 0 where
@@ -42,25 +43,25 @@ pub record IsWritten (found : Found) (task : Task) (bytes : List ℕ) (summary :
   pub sizes : IsSummaryOf found task summary
 
 -- The bytes are the text of one valid task, which the passes make of the domain and the problem and which translates them; the summary has
--- its sizes, and what the search for invariants of the normal task found.
-pub record IsTextOf (domain : Domain) (problem : Problem) (bytes : List ℕ) (summary : Summary) : Type 0 where
+-- its sizes, and what the search for invariants of the normal task found, over so many candidates at most.
+pub record IsTextOf (domain : Domain) (problem : Problem) (max_candidates : ℕ) (bytes : List ℕ) (summary : Summary) : Type 0 where
   pub task : Task
   pub found : Found
-  pub is_found : IsFound (normal domain problem) most_candidates found
+  pub is_found : IsFound (normal domain problem) max_candidates found
   pub written : IsWritten found task bytes summary
   pub is_run_task : IsRunTask (normal domain problem) found task
   pub translates : Translates domain problem task
 
--- what is to be written where a run comes to this
-abbrev pub IsTextWhere : Ending → List ℕ → Summary → Type 0
-IsTextWhere (Absent side) bytes summary = ⊥
-IsTextWhere (Refused side fault) bytes summary = ⊥
-IsTextWhere (Translated domain problem) bytes summary = IsTextOf domain problem bytes summary
+-- what is to be written where a run comes to this, and tries so many candidates at most
+abbrev pub IsTextWhere : Ending → ℕ → List ℕ → Summary → Type 0
+IsTextWhere (Absent side) max_candidates bytes summary = ⊥
+IsTextWhere (Refused side fault) max_candidates bytes summary = ⊥
+IsTextWhere (Translated domain problem) max_candidates bytes summary = IsTextOf domain problem max_candidates bytes summary
 
--- what is to be written by a run on these files, where they are told
-abbrev pub IsTextOfFiles : Option Contents → List ℕ → List ℕ → List ℕ → Summary → Type 0
-IsTextOfFiles None domain problem bytes summary = ⊤
-IsTextOfFiles (Some files) domain problem bytes summary = IsTextWhere (ending files domain problem) bytes summary
+-- what is to be written by a run on these files for what the words asked for, where the files are told
+abbrev pub IsTextOfFiles : Option Contents → Asked → List ℕ → Summary → Type 0
+IsTextOfFiles None asked bytes summary = ⊤
+IsTextOfFiles (Some files) asked bytes summary = IsTextWhere (ending files asked.domain asked.problem) asked.max_candidates bytes summary
 
 -- why two texts give nothing to write
 abbrev pub StopsWhere : Ending → End → Type 0
@@ -101,13 +102,13 @@ AsksFor asked domain problem (CannotRead side) = IsAskedFor asked (name_of side 
 AsksFor asked domain problem CannotWrite = ⊤
 AsksFor asked domain problem (Faulty side fault) = ⊤
 
--- the output file holds the text, and the other files what they held
-abbrev pub IsWhole : Option Contents → Option Contents → List ℕ → Type 0
-IsWhole before now text = now ≡ grown (emptied before output_name) output_name text
+-- the output file of this name holds the text, and the other files what they held
+abbrev pub IsWhole : List ℕ → Option Contents → Option Contents → List ℕ → Type 0
+IsWhole output before now text = now ≡ grown (emptied before output) output text
 
 -- a failed write left the files as they were, or a front of the text in the output file
-abbrev pub IsLeftInPart : Option Contents → Option Contents → List ℕ → Type 0
-IsLeftInPart before now text = (now ≡ before) ⊎ GrownInPart (emptied before output_name) now output_name text
+abbrev pub IsLeftInPart : List ℕ → Option Contents → Option Contents → List ℕ → Type 0
+IsLeftInPart output before now text = (now ≡ before) ⊎ GrownInPart (emptied before output) now output text
 
 -- What the files tell before and after the work on them.
 pub record Work : Type 0 where
@@ -153,33 +154,33 @@ pub record IsUntouched (work : Work) : Type 0 where
   pub writes : work.writes_now ≡ work.writes
 
 -- the output file holds the whole text
-pub record IsDone (work : Work) (domain problem : List ℕ) (summary : Summary) : Type 0 where
+pub record IsDone (work : Work) (asked : Asked) (summary : Summary) : Type 0 where
   pub text : List ℕ
-  pub is_text : IsTextOfFiles work.files domain problem text summary
-  pub whole : IsWhole work.files work.files_now text
+  pub is_text : IsTextOfFiles work.files asked text summary
+  pub whole : IsWhole asked.output work.files work.files_now text
   pub reads : work.reads_now ≡ work.reads
   pub writes : work.writes_now ≡ work.writes
 
 -- the text could not be written whole
-pub record IsUnwritten (work : Work) (domain problem : List ℕ) : Type 0 where
+pub record IsUnwritten (work : Work) (asked : Asked) : Type 0 where
   pub text : List ℕ
   pub summary : Summary
-  pub is_text : IsTextOfFiles work.files domain problem text summary
-  pub part : IsLeftInPart work.files work.files_now text
+  pub is_text : IsTextOfFiles work.files asked text summary
+  pub part : IsLeftInPart asked.output work.files work.files_now text
   pub reads : work.reads_now ≡ work.reads
   pub later : work.writes ≤ work.writes_now
   pub rose : Rose work.writes work.writes_now
 
 -- there was nothing to write
-pub record IsStopped (work : Work) (domain problem : List ℕ) (why : End) : Type 0 where
-  pub stops : StopsOnFiles work.files domain problem work.reads work.reads_now why
-  pub asked : AsksFor work.asked_now domain problem why
+pub record IsStopped (work : Work) (asked : Asked) (why : End) : Type 0 where
+  pub stops : StopsOnFiles work.files asked.domain asked.problem work.reads work.reads_now why
+  pub last : AsksFor work.asked_now asked.domain asked.problem why
   pub untouched : IsUntouched work
 
--- how the work on the files of these names ends
-abbrev pub WorkEnds : Work → List ℕ → List ℕ → Outcome → Type 0
-WorkEnds work domain problem (Ok summary) = IsDone work domain problem summary
-WorkEnds work domain problem (Err NoMemory) = IsStopped work domain problem NoMemory
-WorkEnds work domain problem (Err (CannotRead side)) = IsStopped work domain problem (CannotRead side)
-WorkEnds work domain problem (Err CannotWrite) = IsUnwritten work domain problem
-WorkEnds work domain problem (Err (Faulty side fault)) = IsStopped work domain problem (Faulty side fault)
+-- how the work on what the words asked for ends
+abbrev pub WorkEnds : Work → Asked → Outcome → Type 0
+WorkEnds work asked (Ok summary) = IsDone work asked summary
+WorkEnds work asked (Err NoMemory) = IsStopped work asked NoMemory
+WorkEnds work asked (Err (CannotRead side)) = IsStopped work asked (CannotRead side)
+WorkEnds work asked (Err CannotWrite) = IsUnwritten work asked
+WorkEnds work asked (Err (Faulty side fault)) = IsStopped work asked (Faulty side fault)

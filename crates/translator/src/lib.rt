@@ -1,4 +1,4 @@
-//! The translator: a PDDL domain and problem in, `output.sas` out.
+//! The translator: the words of a command line, a PDDL domain and a PDDL problem in, the text of a task out.
 #![tactic(auto)]
 
 mod command;

@@ -5,11 +5,13 @@ ghost use Rattle.std.specs.List.{flat_map};
 ghost use Rattle.std.specs.Io.KnownBytes.{append_known};
 ghost use Rattle.tl_device.specs.Causes.{HasCause};
 ghost use Rattle.tl_device.specs.Contents.{PrintedInPart};
-ghost use Rattle.translator.specs.Messages.{usage_line, unreadable_line, fault_line, summary_lines, line_of};
+ghost use Rattle.translator.specs.Messages.{usage_line, memory_line, unreadable_line, unwritable_line, fault_line, summary_lines, line_of};
 ghost use Rattle.translator.specs.Pieces.{bytes_of, piece_bytes};
 ghost use Rattle.translator.specs.Run.{name_of};
+ghost use Rattle.command_line.specs.Accepted.{asked_by};
 
 use crate::outcome::{End, Summary};
+use command_line::Accepted;
 use itoa::Buffer;
 use pddl_lexer::Fault;
 use tl_device::{Console, Failed, say_all};
@@ -36,14 +38,14 @@ pub(crate) enum Phrase {
 }
 
 impl Phrase {
-    #[tactic(auto, unfolding(crate::specs::Pieces::bytes_of, crate::specs::Messages::usage_line, crate::specs::Messages::memory_line, crate::specs::Messages::unwritable_line))]
+    #[tactic(auto, unfolding(crate::specs::Pieces::bytes_of, crate::specs::Messages::usage_line, crate::specs::Messages::memory_line))]
     fn bytes(self) -> &'static [u8]
         ensures { result.now ≡ bytes_of self }
     {
         match self {
             Phrase::Usage => b"usage: translate DOMAIN PROBLEM [options]\n",
             Phrase::OutOfMemory => b"translate: out of memory\n",
-            Phrase::CannotWrite => b"translate: cannot write output.sas\n",
+            Phrase::CannotWrite => b"translate: cannot write ",
             Phrase::CannotRead => b"translate: cannot read ",
             Phrase::Prefix => b"translate: ",
             Phrase::BeforeLine => b":",
@@ -109,6 +111,16 @@ pub(crate) fn say_usage<C: Console>(console: &mut C) -> Result<(), Failed>
     say_phrase(console, Phrase::Usage)
 }
 
+/// Says that memory ran out.
+#[tactic(auto, unfolding(crate::specs::Pieces::bytes_of))]
+pub(crate) fn say_no_memory<C: Console>(console: &mut C) -> Result<(), Failed>
+    ensures ok { OnOk result (C.printed console.new ≡ append_known (C.printed console.old) memory_line) }
+    ensures err { OnErr result (PrintedInPart (C.printed console.old) (C.printed console.new) memory_line) }
+    ensures cause { HasCause (C.faults console.old) (C.faults console.new) result }
+{
+    say_phrase(console, Phrase::OutOfMemory)
+}
+
 /// The name of the file on this side.
 fn name_of<'a>(side: Side, domain: &'a str, problem: &'a str) -> &'a str
     ensures { result.now ≡ name_of side domain.now problem.now }
@@ -157,6 +169,19 @@ fn say_unreadable<C: Console>(console: &mut C, name: &str) -> Result<(), Failed>
     say_pieces(console, &pieces)
 }
 
+fn say_unwritable<C: Console>(console: &mut C, name: &str) -> Result<(), Failed>
+    ensures ok { OnOk result (C.printed console.new ≡ append_known (C.printed console.old) (unwritable_line name.now)) }
+    ensures err { OnErr result (PrintedInPart (C.printed console.old) (C.printed console.new) (unwritable_line name.now)) }
+    ensures cause { HasCause (C.faults console.old) (C.faults console.new) result }
+{
+    let pieces = [
+        Piece::Fixed(Phrase::CannotWrite),
+        Piece::Name(name),
+        Piece::Fixed(Phrase::LineFeed),
+    ];
+    say_pieces(console, &pieces)
+}
+
 fn say_fault<C: Console>(console: &mut C, name: &str, fault: Fault) -> Result<(), Failed>
     ensures ok { OnOk result (C.printed console.new ≡ append_known (C.printed console.old) (fault_line name.now fault)) }
     ensures err { OnErr result (PrintedInPart (C.printed console.old) (C.printed console.new) (fault_line name.now fault)) }
@@ -174,26 +199,26 @@ fn say_fault<C: Console>(console: &mut C, name: &str, fault: Fault) -> Result<()
     say_pieces(console, &pieces)
 }
 
-/// Says how the work ended, where the input files have these names.
-#[tactic(auto, unfolding(crate::specs::Pieces::bytes_of))]
+/// Says how the work ended on what the words asked for.
 pub(crate) fn say_outcome<C: Console>(
     console: &mut C,
     outcome: &Result<Summary, End>,
-    domain: &str,
-    problem: &str,
+    accepted: &Accepted<'_>,
 ) -> Result<(), Failed>
-    ensures ok { OnOk result (C.printed console.new ≡ append_known (C.printed console.old) (line_of outcome.now domain.now problem.now)) }
-    ensures err { OnErr result (PrintedInPart (C.printed console.old) (C.printed console.new) (line_of outcome.now domain.now problem.now)) }
+    ensures ok { OnOk result (C.printed console.new ≡ append_known (C.printed console.old) (line_of outcome.now (asked_by accepted.now))) }
+    ensures err { OnErr result (PrintedInPart (C.printed console.old) (C.printed console.new) (line_of outcome.now (asked_by accepted.now))) }
     ensures cause { HasCause (C.faults console.old) (C.faults console.new) result }
 {
     match outcome {
         Ok(summary) => say_summary(console, summary),
-        Err(End::NoMemory) => say_phrase(console, Phrase::OutOfMemory),
-        Err(End::CannotRead(side)) => say_unreadable(console, name_of(*side, domain, problem)),
-        Err(End::CannotWrite) => say_phrase(console, Phrase::CannotWrite),
+        Err(End::NoMemory) => say_no_memory(console),
+        Err(End::CannotRead(side)) => {
+            say_unreadable(console, name_of(*side, accepted.domain, accepted.problem))
+        }
+        Err(End::CannotWrite) => say_unwritable(console, accepted.output),
         Err(End::Faulty(side, fault)) => say_fault(
             console,
-            name_of(*side, domain, problem),
+            name_of(*side, accepted.domain, accepted.problem),
             *fault,
         ),
     }

@@ -17,7 +17,7 @@ ghost use Rattle.relaxed_reach.specs.Lawful.{IsLawful};
 ghost use Rattle.relaxed_reach.specs.Reachable.{IsReachedTask};
 ghost use Rattle.type_checker.specs.Checked.{IsChecked};
 ghost use Rattle.translator.specs.Run.{of_texts};
-ghost use Rattle.translator.specs.RunTask.{IsRunEncoding, IsRunTask, most_candidates};
+ghost use Rattle.translator.specs.RunTask.{IsRunEncoding, IsRunTask};
 ghost use Rattle.translator.specs.declared.outcome.End.TheVariants.{NoMemory};
 ghost use Rattle.translator.specs.Written.{IsSummaryOf, IsWritten, IsTextWhere, StopsWhere, StopsAt};
 
@@ -45,9 +45,6 @@ use std::sync::ledger::{Blank, Ledger};
 use task_simplifier::simplify;
 use type_checker::{Checked, Side, check};
 
-/// The most candidates for invariants that are tried.
-const MOST_CANDIDATES: u64 = 100_000;
-
 /// The text of a task, with its sizes and those of the search for invariants.
 #[derive(Debug, Drop)]
 pub(crate) struct Translation {
@@ -55,13 +52,15 @@ pub(crate) struct Translation {
     pub(crate) summary: Summary,
 }
 
-/// The text of the task that two texts mean. The first fault of the two ends it, or want of memory.
+/// The text of the task that two texts mean, where at most so many candidates for invariants are tried. The first fault
+/// of the two ends it, or want of memory.
 pub(crate) fn translate_texts(
     alloc: Global,
     domain: &[u8],
     problem: &[u8],
+    max_candidates: u32,
 ) -> Result<Translation, End>
-    ensures ok { IfOk result (λ t. IsTextWhere (of_texts domain.now problem.now) t.text.items t.summary) }
+    ensures ok { IfOk result (λ t. IsTextWhere (of_texts domain.now problem.now) max_candidates t.text.items t.summary) }
     ensures err { IfErr result (StopsWhere (of_texts domain.now problem.now)) }
 {
     let domain_tree = tree_of(alloc, Side::Domain, domain)?;
@@ -69,7 +68,7 @@ pub(crate) fn translate_texts(
     let domain = domain_of(alloc, domain_tree)?;
     let problem = problem_of(alloc, problem_tree)?;
     let checked = check(alloc, domain, problem)?;
-    let made = made_of(alloc, &checked)?;
+    let made = made_of(alloc, &checked, max_candidates)?;
     run_task_translates();
     written(alloc, made)
 }
@@ -81,16 +80,16 @@ struct Made {
     task: SasTask,
 }
 
-/// The invariants of the pair's normal task, and the task to be written.
-fn made_of(alloc: Global, checked: &Checked) -> Result<Made, AllocError>
+/// The invariants of the pair's normal task, of at most so many candidates, and the task to be written.
+fn made_of(alloc: Global, checked: &Checked, max_candidates: u32) -> Result<Made, AllocError>
     requires { IsChecked checked.now }
-    ensures found { IfOk result (λ made. IsFound (spec.normal checked.now.domain checked.now.problem) most_candidates made.found) }
+    ensures found { IfOk result (λ made. IsFound (spec.normal checked.now.domain checked.now.problem) max_candidates made.found) }
     ensures task { IfOk result (λ made. IsRunTask (spec.normal checked.now.domain checked.now.problem) made.found made.task) }
 {
     lawful();
     finds();
     let normal = normalise(alloc, checked)?;
-    let found = find(alloc, &normal, MOST_CANDIDATES)?;
+    let found = find(alloc, &normal, max_candidates as u64)?;
     let task = run_task(alloc, &normal, &found)?;
     Ok(Made { found, task })
 }

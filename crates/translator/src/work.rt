@@ -3,11 +3,13 @@
 ghost use Rattle.std.specs.Prelude.{◌≡◌, ◌≤◌, OnOk, OnErr, IfOk, IfErr, length};
 ghost use Rattle.tl_device.specs.Causes.{HasCause};
 ghost use Rattle.tl_device.specs.Contents.{Holds, IsAskedFor};
-ghost use Rattle.translator.specs.Run.{limit, output_name};
+ghost use Rattle.translator.specs.Run.{limit};
+ghost use Rattle.command_line.specs.Accepted.{asked_by};
 ghost use Rattle.translator.specs.Written.{IsTextOfFiles, StopsOnInput, StopsOnFiles, AsksFor, IsWhole, IsLeftInPart, WorkEnds, work_of};
 
 use crate::outcome::{End, Summary};
 use crate::translation::{Translation, translate_texts};
+use command_line::Accepted;
 use pddl_lexer::{Fault, Kind};
 use std::alloc::Global;
 use tl_device::{Failed, Files, ReadEnd, put_all, read_all};
@@ -16,21 +18,17 @@ use type_checker::Side;
 /// The most bytes of an input file.
 const LIMIT: u64 = 16_777_216;
 
-/// The name of the output file.
-const OUTPUT: &str = "output.sas";
-
 /// Reads both files, and writes the text of their task. The problem file is opened once the domain file is read, and
 /// the output file is created once its whole text is made.
 pub(crate) fn work<F: Files>(
     alloc: Global,
-    domain: &str,
-    problem: &str,
+    accepted: &Accepted<'_>,
     files: &mut F,
 ) -> Result<Summary, End>
-    ensures { WorkEnds (work_of F.Files files.old files.new) domain.now problem.now result }
+    ensures { WorkEnds (work_of F.Files files.old files.new) (asked_by accepted.now) result }
 {
-    let translation = prepared(alloc, domain, problem, files)?;
-    match write_output(files, &translation.text) {
+    let translation = prepared(alloc, accepted, files)?;
+    match write_output(files, accepted.output, &translation.text) {
         Ok(()) => Ok(translation.summary),
         Err(_) => Err(End::CannotWrite),
     }
@@ -39,13 +37,12 @@ pub(crate) fn work<F: Files>(
 /// What is to be written, before anything is.
 fn prepared<F: Files>(
     alloc: Global,
-    domain: &str,
-    problem: &str,
+    accepted: &Accepted<'_>,
     files: &mut F,
 ) -> Result<Translation, End>
-    ensures ok { IfOk result (λ t. IsTextOfFiles (F.files files.old) domain.now problem.now t.text.items t.summary) }
-    ensures err { IfErr result (StopsOnFiles (F.files files.old) domain.now problem.now (F.read_faults files.old) (F.read_faults files.new)) }
-    ensures asked { IfErr result (AsksFor (F.asked files.new) domain.now problem.now) }
+    ensures ok { IfOk result (λ t. IsTextOfFiles (F.files files.old) (asked_by accepted.now) t.text.items t.summary) }
+    ensures err { IfErr result (StopsOnFiles (F.files files.old) accepted.now.domain.now accepted.now.problem.now (F.read_faults files.old) (F.read_faults files.new)) }
+    ensures asked { IfErr result (AsksFor (F.asked files.new) accepted.now.domain.now accepted.now.problem.now) }
     ensures reads { OnOk result (F.read_faults files.new ≡ F.read_faults files.old) }
 
     // What it leaves as it was.
@@ -54,9 +51,9 @@ fn prepared<F: Files>(
     ensures writing { F.writing files.new ≡ F.writing files.old }
     ensures writes { F.write_faults files.new ≡ F.write_faults files.old }
 {
-    let domain_text = read_input(alloc, files, domain, Side::Domain)?;
-    let problem_text = read_input(alloc, files, problem, Side::Problem)?;
-    translate_texts(alloc, &domain_text, &problem_text)
+    let domain_text = read_input(alloc, files, accepted.domain, Side::Domain)?;
+    let problem_text = read_input(alloc, files, accepted.problem, Side::Problem)?;
+    translate_texts(alloc, &domain_text, &problem_text, accepted.max_candidates)
 }
 
 /// The bytes of an input file.
@@ -93,12 +90,12 @@ fn read_input<F: Files>(
 }
 
 /// Creates the output file and writes the text.
-fn write_output<F: Files>(files: &mut F, text: &[u8]) -> Result<(), Failed>
-    ensures ok { OnOk result (IsWhole (F.files files.old) (F.files files.new) text.now) }
-    ensures err { OnErr result (IsLeftInPart (F.files files.old) (F.files files.new) text.now) }
+fn write_output<F: Files>(files: &mut F, output: &str, text: &[u8]) -> Result<(), Failed>
+    ensures ok { OnOk result (IsWhole output.now (F.files files.old) (F.files files.new) text.now) }
+    ensures err { OnErr result (IsLeftInPart output.now (F.files files.old) (F.files files.new) text.now) }
     ensures cause { HasCause (F.write_faults files.old) (F.write_faults files.new) result }
     ensures reads { F.read_faults files.new ≡ F.read_faults files.old }
 {
-    files.create_file(OUTPUT)?;
+    files.create_file(output)?;
     put_all(files, text)
 }

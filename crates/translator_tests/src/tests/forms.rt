@@ -1,9 +1,9 @@
 //! Odd forms that are translated.
 
 use super::{Outside, WORDS, answers, is_written, prepared};
-use translator::Status;
 use std::alloc::{AllocError, Global};
 use std::test::*;
+use translator::Status;
 
 /// Requirements in the problem, and carriage returns in both files.
 static SWITCHES: [(&[u8], &[u8]); 2] = [

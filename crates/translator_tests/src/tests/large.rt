@@ -1,9 +1,9 @@
 //! Larger tasks, whose texts follow a rule.
 
 use super::{PROBLEM, WORDS, answers, prepared};
-use translator::Status;
 use std::alloc::{AllocError, Global};
 use std::test::*;
+use translator::Status;
 
 const GRIPPER: &[u8] = b"(define (domain gripper)
  (:requirements :strips :typing)
@@ -36,7 +36,8 @@ static ROOMS: [&str; 2] = ["rooma", "roomb"];
 static GRIPPERS: [&str; 2] = ["left", "right"];
 
 /// What each of the two hands has: nothing, or one of the balls.
-static HANDS: &str = "begin_variable\nvar0\n-1\n5\nAtom free(left)\nAtom carry(ball1, left)\nAtom carry(ball2, left)\nAtom carry(ball3, left)\nAtom carry(ball4, left)\nend_variable
+static HANDS: &str =
+    "begin_variable\nvar0\n-1\n5\nAtom free(left)\nAtom carry(ball1, left)\nAtom carry(ball2, left)\nAtom carry(ball3, left)\nAtom carry(ball4, left)\nend_variable
 begin_variable\nvar1\n-1\n5\nAtom free(right)\nAtom carry(ball1, right)\nAtom carry(ball2, right)\nAtom carry(ball3, right)\nAtom carry(ball4, right)\nend_variable
 ";
 

@@ -1,11 +1,11 @@
 //! The top call on the real files and the standard output.
 
 use super::{DOMAIN, PROBLEM, TEXT};
-use translator::{Status, translate};
 use std::alloc::AllocError;
 use std::fs;
 use std::test::*;
 use tl_device::{RealConsole, RealFiles};
+use translator::{Status, translate};
 
 fn words(rt: &HostRuntime, names: [&str; 3]) -> Result<Vec<String>, AllocError> {
     let mut words = Vec::new(rt.alloc());

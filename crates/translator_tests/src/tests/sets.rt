@@ -4,7 +4,8 @@ use super::written::{Row, assert_rows};
 use std::alloc::AllocError;
 use std::test::*;
 
-const BLOCKS: &str = "(define (domain blocks) (:predicates (on ?x ?y) (ontable ?x) (clear ?x) (handempty) (holding ?x))
+const BLOCKS: &str =
+    "(define (domain blocks) (:predicates (on ?x ?y) (ontable ?x) (clear ?x) (handempty) (holding ?x))
  (:action pick-up :parameters (?x) :precondition (and (clear ?x) (ontable ?x) (handempty))
   :effect (and (not (ontable ?x)) (not (clear ?x)) (not (handempty)) (holding ?x)))
  (:action put-down :parameters (?x) :precondition (holding ?x)
@@ -23,9 +24,18 @@ static THREE_BLOCKS: [Row; 1] = [Row {
  (:init (ontable a) (ontable b) (ontable c) (clear a) (clear b) (clear c) (handempty)) (:goal (and (on a b) (on b c))))",
     metric: "0",
     variables: &[
-        ("-1", "Atom on(a, a) / Atom on(a, b) / Atom on(a, c) / Atom ontable(a) / Atom holding(a)"),
-        ("-1", "Atom on(b, a) / Atom on(b, b) / Atom on(b, c) / Atom ontable(b) / Atom holding(b)"),
-        ("-1", "Atom on(c, a) / Atom on(c, b) / Atom on(c, c) / Atom ontable(c) / Atom holding(c)"),
+        (
+            "-1",
+            "Atom on(a, a) / Atom on(a, b) / Atom on(a, c) / Atom ontable(a) / Atom holding(a)",
+        ),
+        (
+            "-1",
+            "Atom on(b, a) / Atom on(b, b) / Atom on(b, c) / Atom ontable(b) / Atom holding(b)",
+        ),
+        (
+            "-1",
+            "Atom on(c, a) / Atom on(c, b) / Atom on(c, c) / Atom ontable(c) / Atom holding(c)",
+        ),
         ("-1", "Atom clear(a) / NegatedAtom clear(a)"),
         ("-1", "Atom clear(b) / NegatedAtom clear(b)"),
         ("-1", "Atom clear(c) / NegatedAtom clear(c)"),
@@ -136,7 +146,10 @@ static NEGATED: [Row; 3] = [
         problem: "(define (problem b) (:domain bell) (:objects l2 l3 l4) (:init (at l1)) (:goal (rung)))",
         metric: "0",
         variables: &[
-            ("-1", "Atom at(l1) / Atom at(l2) / Atom at(l3) / Atom at(l4)"),
+            (
+                "-1",
+                "Atom at(l1) / Atom at(l2) / Atom at(l3) / Atom at(l4)",
+            ),
             ("-1", "Atom rung() / NegatedAtom rung()"),
         ],
         groups: &["0 0 / 0 1 / 0 2 / 0 3"],
@@ -152,7 +165,10 @@ static NEGATED: [Row; 3] = [
         problem: "(define (problem b) (:domain bell) (:objects l2 l3 l4) (:init (at l1)) (:goal (not (at l1))))",
         metric: "0",
         variables: &[
-            ("-1", "Atom at(l1) / Atom at(l2) / Atom at(l3) / Atom at(l4)"),
+            (
+                "-1",
+                "Atom at(l1) / Atom at(l2) / Atom at(l3) / Atom at(l4)",
+            ),
             ("-1", "Atom rung() / NegatedAtom rung()"),
             ("0", "Atom goal@split() / NegatedAtom goal@split()"),
         ],

@@ -1,10 +1,10 @@
 //! What is written for pairs of files. Every text was worked by hand from the rules of the output.
 
 use super::{WORDS, answers, prepared};
-use translator::Status;
 use std::alloc::{AllocError, Global};
 use std::process::Abort;
 use std::test::*;
+use translator::Status;
 
 /// A pair of files and the task that is written for it. In its lines ` / ` stands for a line feed.
 pub(super) struct Row {
@@ -48,7 +48,9 @@ fn push_variables(
     push_count(alloc, text, variables.len())?;
     for (number, (layer, values)) in variables.iter().enumerate() {
         let range = count(values);
-        let block = format!(in alloc; "begin_variable / var{number} / {layer} / {range} / {values} / end_variable")?;
+        let block = format!(in alloc;
+            "begin_variable / var{number} / {layer} / {range} / {values} / end_variable"
+        )?;
         push_lines(text, &block)?;
     }
     Ok(())
@@ -127,11 +129,7 @@ impl Row {
     }
 }
 
-pub(super) fn assert_rows(
-    rt: &impl Abort,
-    alloc: Global,
-    rows: &[Row],
-) -> Result<(), AllocError> {
+pub(super) fn assert_rows(rt: &impl Abort, alloc: Global, rows: &[Row]) -> Result<(), AllocError> {
     for (number, row) in rows.iter().enumerate() {
         assert!(rt; row.is_written(alloc)?, "row {number}");
     }
@@ -164,7 +162,10 @@ static GROUNDING: [Row; 8] = [
         domain: SHOP,
         problem: "(define (problem s) (:domain shop) (:objects a b) (:init (= (total-cost) 0) (= (price a) 7)) (:goal (done a)))",
         metric: "0",
-        variables: &[("-1", "Atom done(a) / NegatedAtom done(a)"), ("-1", "Atom done(b) / NegatedAtom done(b)")],
+        variables: &[
+            ("-1", "Atom done(a) / NegatedAtom done(a)"),
+            ("-1", "Atom done(b) / NegatedAtom done(b)"),
+        ],
         groups: &[],
         state: "1 / 1",
         goal: "1 / 0 0",
@@ -232,7 +233,10 @@ static GROUNDING: [Row; 8] = [
         domain: "(define (domain two) (:predicates (on) (off) (dim)) (:action flip :precondition (or (off) (dim)) :effect (on)) (:action fade :precondition (off) :effect (dim)))",
         problem: "(define (problem t) (:domain two) (:init (off)) (:goal (on)))",
         metric: "0",
-        variables: &[("-1", "Atom on() / NegatedAtom on()"), ("-1", "Atom dim() / NegatedAtom dim()")],
+        variables: &[
+            ("-1", "Atom on() / NegatedAtom on()"),
+            ("-1", "Atom dim() / NegatedAtom dim()"),
+        ],
         groups: &[],
         state: "1 / 1",
         goal: "1 / 0 0",
@@ -249,7 +253,10 @@ static GROUNDING: [Row; 8] = [
         domain: "(define (domain late) (:predicates (p) (g)) (:action wipe :precondition (p) :effect (not (p))) (:action go :precondition (not (p)) :effect (g)))",
         problem: "(define (problem l) (:domain late) (:init (p)) (:goal (g)))",
         metric: "0",
-        variables: &[("-1", "Atom p() / NegatedAtom p()"), ("-1", "Atom g() / NegatedAtom g()")],
+        variables: &[
+            ("-1", "Atom p() / NegatedAtom p()"),
+            ("-1", "Atom g() / NegatedAtom g()"),
+        ],
         groups: &[],
         state: "0 / 1",
         goal: "1 / 1 0",
@@ -382,7 +389,11 @@ static CONDITIONS: [Row; 9] = [
         domain: "(define (domain choice) (:predicates (p) (q)) (:action left :effect (p)) (:action right :effect (q)))",
         problem: "(define (problem c) (:domain choice) (:init) (:goal (or (p) (not (q)))))",
         metric: "0",
-        variables: &[("-1", "Atom p() / NegatedAtom p()"), ("-1", "Atom q() / NegatedAtom q()"), ("0", "Atom new-axiom@0() / NegatedAtom new-axiom@0()")],
+        variables: &[
+            ("-1", "Atom p() / NegatedAtom p()"),
+            ("-1", "Atom q() / NegatedAtom q()"),
+            ("0", "Atom new-axiom@0() / NegatedAtom new-axiom@0()"),
+        ],
         groups: &[],
         state: "1 / 1 / 1",
         goal: "1 / 2 0",
@@ -398,7 +409,11 @@ static CONDITIONS: [Row; 9] = [
         domain: "(define (domain some) (:predicates (p ?x)) (:action set :parameters (?x) :effect (p ?x)))",
         problem: "(define (problem e) (:domain some) (:objects a b) (:init) (:goal (exists (?x) (p ?x))))",
         metric: "0",
-        variables: &[("-1", "Atom p(a) / NegatedAtom p(a)"), ("-1", "Atom p(b) / NegatedAtom p(b)"), ("0", "Atom new-axiom@0() / NegatedAtom new-axiom@0()")],
+        variables: &[
+            ("-1", "Atom p(a) / NegatedAtom p(a)"),
+            ("-1", "Atom p(b) / NegatedAtom p(b)"),
+            ("0", "Atom new-axiom@0() / NegatedAtom new-axiom@0()"),
+        ],
         groups: &[],
         state: "1 / 1 / 1",
         goal: "1 / 2 0",
@@ -435,7 +450,10 @@ static EFFECTS: [Row; 6] = [
         domain: "(define (domain touch) (:predicates (p) (q)) (:action drop-p :precondition (p) :effect (not (p))) (:action touch :effect (and (not (q)) (when (p) (q)))))",
         problem: "(define (problem t) (:domain touch) (:init (p) (q)) (:goal (not (q))))",
         metric: "0",
-        variables: &[("-1", "Atom p() / NegatedAtom p()"), ("-1", "Atom q() / NegatedAtom q()")],
+        variables: &[
+            ("-1", "Atom p() / NegatedAtom p()"),
+            ("-1", "Atom q() / NegatedAtom q()"),
+        ],
         groups: &[],
         state: "0 / 0",
         goal: "1 / 1 1",
@@ -451,7 +469,11 @@ static EFFECTS: [Row; 6] = [
         domain: "(define (domain yield) (:predicates (p) (q) (r)) (:action act :effect (and (not (q)) (when (and (p) (not (r))) (q)))) (:action change :effect (and (not (p)) (r))))",
         problem: "(define (problem y) (:domain yield) (:init (p) (q)) (:goal (not (q))))",
         metric: "0",
-        variables: &[("-1", "Atom p() / NegatedAtom p()"), ("-1", "Atom q() / NegatedAtom q()"), ("-1", "Atom r() / NegatedAtom r()")],
+        variables: &[
+            ("-1", "Atom p() / NegatedAtom p()"),
+            ("-1", "Atom q() / NegatedAtom q()"),
+            ("-1", "Atom r() / NegatedAtom r()"),
+        ],
         groups: &[],
         state: "0 / 0 / 1",
         goal: "1 / 1 1",
@@ -467,7 +489,10 @@ static EFFECTS: [Row; 6] = [
         domain: "(define (domain both) (:predicates (p) (q)) (:action act :effect (and (not (p)) (p) (q))))",
         problem: "(define (problem b) (:domain both) (:init) (:goal (q)))",
         metric: "0",
-        variables: &[("-1", "Atom p() / NegatedAtom p()"), ("-1", "Atom q() / NegatedAtom q()")],
+        variables: &[
+            ("-1", "Atom p() / NegatedAtom p()"),
+            ("-1", "Atom q() / NegatedAtom q()"),
+        ],
         groups: &[],
         state: "1 / 1",
         goal: "1 / 1 0",

@@ -1,15 +1,16 @@
-use Rattle.std.proofs.Common.{refl}
-use Rattle.translator.proofs.Clauses.{refusal, outcome_said, outcome_broke}
+use Rattle.std.proofs.Common.{refl, sym, subst, ap, ◌∙◌, option_map}
+use Rattle.command_line.specs.Accepted.{asked_by}
+use Rattle.translator.proofs.Clauses.{refusal, no_memory, asking}
 use Rattle.translator.proofs.command.called.Goals as goal
 
-pub returns-in_default : goal.returns-in_default
-returns-in_default g c =
-    refusal _ _ _ _ _ _ _ c.in_default.ensures (record { files = refl; created = refl; writing = refl; writes = refl }) refl c.refuse.ensures
+pub returns-in-Ok-Some : goal.returns-in-Ok-Some
+returns-in-Ok-Some g c =
+    asking _ _ _ _ _ _ _ _ (sym c.in-Ok-Some.ensures ∙ ap (option_map asked_by) c.in-Ok-Some.field-0-is) c.translate_files.ensures
 
-pub returns-in-Ok : goal.returns-in-Ok
-returns-in-Ok g c =
-    outcome_said _ _ _ _ _ _ _ _ _ _ c.of.ensures c.in-Some.ensures c.work-outcome.ensures c.in-Ok.ensures.ok c.in-Ok.ensures.cause.same
+pub returns-in-Ok-None : goal.returns-in-Ok-None
+returns-in-Ok-None g c =
+    refusal _ _ _ _ _ _ _ (sym c.in-Ok-None.ensures ∙ ap (option_map asked_by) c.in-Ok-None.field-0-is) (record { files = refl; created = refl; writing = refl; writes = refl }) refl c.refuse.ensures
 
 pub returns : goal.returns
 returns g c =
-    outcome_broke _ _ _ _ _ _ _ _ _ c.in-Some.ensures c.work-outcome.ensures c.in-Err.ensures.err c.in-Err.ensures.cause.rose
+    no_memory _ _ _ _ _ _ _ (record { files = refl; created = refl; writing = refl; writes = refl }) refl c.tell_no_memory.ensures

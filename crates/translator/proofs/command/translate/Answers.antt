@@ -50,10 +50,10 @@ pub returns-clause-begun : goal.returns-clause-begun
 returns-clause-begun g c = summary_begun _ _ _ _ _ _ _ c.called.ensures
 
 pub returns-clause-fault_printed : goal.returns-clause-fault_printed
-returns-clause-fault_printed g c = λ domain problem side fault named comes is. fault_printed _ _ _ _ _ _ _ c.called.ensures domain problem side fault named comes is
+returns-clause-fault_printed g c = λ asked side fault named comes is. fault_printed _ _ _ _ _ _ _ c.called.ensures asked side fault named comes is
 
 pub returns-clause-unread_printed : goal.returns-clause-unread_printed
 returns-clause-unread_printed g c = λ name asked is sound quiet. unread_printed _ _ _ _ _ _ _ c.called.ensures name asked is sound quiet
 
 pub returns-clause-absent_printed : goal.returns-clause-absent_printed
-returns-clause-absent_printed g c = λ domain problem side named comes is sound quiet. absent_printed _ _ _ _ _ _ _ c.called.ensures domain problem side named comes is sound quiet
+returns-clause-absent_printed g c = λ asked side named comes is sound quiet. absent_printed _ _ _ _ _ _ _ c.called.ensures asked side named comes is sound quiet

@@ -2,7 +2,6 @@ use Rattle.std.proofs.Common.{rules}
 use Rattle.translator.specs.declared.outcome.End.TheVariants.{NoMemory}
 use Rattle.translator.specs.Outcome.{of_check}
 use Rattle.translator.specs.Run.{of_texts}
-use Rattle.translator.specs.RunTask.{most_candidates}
 use Rattle.translator.proofs.Texts.{stopped_at_domain, stopped_at_problem, stopped_in_domain, stopped_in_problem, stopped_in_check, translated, checked_pair, made_end}
 use Rattle.translator.proofs.Translated.{text_of_run, unwritten}
 use Rattle.translator.proofs.translation.translate_texts.Goals as goal
@@ -50,8 +49,8 @@ returns-clause-ok c =
     let comes = translated c.args.domain.now c.args.problem.now c.in_ok-domain_tree.ensures.faultless c.in_ok-problem_tree.ensures.faultless _ _
     c.in_ok-domain_tree.ensures.tree c.in_ok-problem_tree.ensures.tree c.in_ok-domain.domain c.in_ok-domain.ensures.reading c.in_ok-problem.problem c.in_ok-problem.ensures.reading pair c.in_ok-checked.ensures in
     let is_checked = checked_pair c.in_ok-domain.domain c.in_ok-problem.problem pair c.in_ok-checked.ensures c.in_ok-domain.ensures.spelled c.in_ok-problem.ensures.spelled in
-    text_of_run (of_texts c.args.domain.now c.args.problem.now) pair.domain pair.problem made.found made.task c.written.result comes c.in_ok-made.ensures.found c.in_ok-made.ensures.task
-    (c.run_task_translates.ensures pair most_candidates made.found made.task is_checked c.in_ok-made.ensures.found c.in_ok-made.ensures.task) c.written.ensures.ok
+    text_of_run (of_texts c.args.domain.now c.args.problem.now) pair.domain pair.problem c.args.max_candidates made.found made.task c.written.result comes c.in_ok-made.ensures.found c.in_ok-made.ensures.task
+    (c.run_task_translates.ensures pair c.args.max_candidates made.found made.task is_checked c.in_ok-made.ensures.found c.in_ok-made.ensures.task) c.written.ensures.ok
 
 pub returns-clause-err : goal.returns-clause-err
 returns-clause-err c = unwritten (of_texts c.args.domain.now c.args.problem.now) c.written.result c.written.ensures.err

@@ -1,16 +1,17 @@
 use Rattle.std.proofs.Common.{rules, ◌∙◌}
+use Rattle.command_line.specs.Accepted.{asked_by}
 use Rattle.type_checker.specs.declared.end.Side.TheVariants as sides
 use Rattle.translator.proofs.Texts.{domain_stops, problem_stops_after, input_asked, files_text, files_end, none_asked}
 use Rattle.translator.proofs.work.prepared.Goals as goal
 
 pub returns-in_err-domain_text-clause-err : goal.returns-in_err-domain_text-clause-err
 returns-in_err-domain_text-clause-err g c =
-    let stops = domain_stops _ _ c.args.problem.now _ _ _ c.in_err-domain_text.ensures.err in
+    let stops = domain_stops _ _ c.args.accepted.now.problem.now _ _ _ c.in_err-domain_text.ensures.err in
     search (rules, stops)
 
 pub returns-in_err-domain_text-clause-asked : goal.returns-in_err-domain_text-clause-asked
 returns-in_err-domain_text-clause-asked g c =
-    let asked = input_asked sides.Domain _ _ c.args.domain.now c.args.problem.now _ _ _ c.in_err-domain_text.ensures.err c.in_err-domain_text.ensures.asked in
+    let asked = input_asked sides.Domain _ _ c.args.accepted.now.domain.now c.args.accepted.now.problem.now _ _ _ c.in_err-domain_text.ensures.err c.in_err-domain_text.ensures.asked in
     search (rules, asked)
 
 pub returns-in_err-problem_text-clause-err : goal.returns-in_err-problem_text-clause-err
@@ -20,12 +21,12 @@ returns-in_err-problem_text-clause-err g c =
 
 pub returns-in_err-problem_text-clause-asked : goal.returns-in_err-problem_text-clause-asked
 returns-in_err-problem_text-clause-asked g c =
-    let asked = input_asked sides.Problem _ _ c.args.domain.now c.args.problem.now _ _ _ c.in_err-problem_text.ensures.err c.in_err-problem_text.ensures.asked in
+    let asked = input_asked sides.Problem _ _ c.args.accepted.now.domain.now c.args.accepted.now.problem.now _ _ _ c.in_err-problem_text.ensures.err c.in_err-problem_text.ensures.asked in
     search (rules, asked)
 
 pub returns-clause-ok : goal.returns-clause-ok
 returns-clause-ok g c =
-    files_text _ _ _ _ _ _ _ _ (record {
+    files_text _ _ (asked_by c.args.accepted.now) _ _ _ _ (record {
       same = c.in_ok-domain_text.ensures.files;
       holds = c.in_ok-domain_text.ensures.whole;
       within = c.in_ok-domain_text.ensures.within;
@@ -37,7 +38,7 @@ returns-clause-ok g c =
 
 pub returns-clause-err : goal.returns-clause-err
 returns-clause-err g c =
-    files_end _ _ _ _ _ _ _ _ (record {
+    files_end _ _ (asked_by c.args.accepted.now) _ _ _ _ (record {
       same = c.in_ok-domain_text.ensures.files;
       holds = c.in_ok-domain_text.ensures.whole;
       within = c.in_ok-domain_text.ensures.within;

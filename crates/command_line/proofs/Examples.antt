@@ -1,0 +1,29 @@
+-- The definition computes at words that are written out.
+use Rattle.std.proofs.Common.{◌≡◌, [], ◌∷◌, Some, None, refl, codes}
+use Rattle.clap.proofs.OnLiterals.{clap_on_literals}
+use Rattle.command_line.specs.Accepted.{accepted}
+
+named : accepted (codes "translate" ∷ codes "d" ∷ codes "--sas-file=o" ∷ codes "p" ∷ []) ≡ Some record { domain = codes "d"; problem = codes "p"; output = codes "o"; max_candidates = 100000 }
+unfolding clap_on_literals accepted
+named = refl
+
+numbered : accepted (codes "translate" ∷ codes "d" ∷ codes "p" ∷ codes "--invariant-generation-max-candidates" ∷ codes "007" ∷ [])
+    ≡ Some record { domain = codes "d"; problem = codes "p"; output = codes "output.sas"; max_candidates = 7 }
+unfolding clap_on_literals accepted
+numbered = refl
+
+after_two_hyphens : accepted (codes "translate" ∷ codes "--" ∷ codes "-d" ∷ codes "-" ∷ []) ≡ Some record { domain = codes "-d"; problem = codes "-"; output = codes "output.sas"; max_candidates = 100000 }
+unfolding clap_on_literals accepted
+after_two_hyphens = refl
+
+help_refused : accepted (codes "translate" ∷ codes "d" ∷ codes "p" ∷ codes "--help" ∷ []) ≡ None
+unfolding clap_on_literals accepted
+help_refused = refl
+
+repeat_refused : accepted (codes "translate" ∷ codes "d" ∷ codes "p" ∷ codes "--sas-file=o" ∷ codes "--sas-file=o" ∷ []) ≡ None
+unfolding clap_on_literals accepted
+repeat_refused = refl
+
+plus_refused : accepted (codes "translate" ∷ codes "d" ∷ codes "p" ∷ codes "--invariant-generation-max-candidates=+5" ∷ []) ≡ None
+unfolding clap_on_literals accepted
+plus_refused = refl

@@ -1,0 +1,13 @@
+use Rattle.std.proofs.Common.{◌∙◌, ap₂}
+use Rattle.std.proofs.lemmas.Result.{IfOk-weaker}
+use Rattle.clap.specs.Words.{with_rule}
+use Rattle.command_line.proofs.command.command.Goals as goal
+
+pub returns : goal.returns
+returns c =
+    let one = c.in_ok-arg.ensures.shape c.new-2.ensures.optional.1 ∙ ap₂ with_rule c.new.ensures.app c.new-2.ensures.rule in
+    let two = c.in_ok-arg-2.ensures.shape c.new-3.ensures.optional.1 ∙ ap₂ with_rule one c.new-3.ensures.rule in
+    let three = c.in_ok-arg-3.ensures.shape c.option.ensures.own ∙ ap₂ with_rule two c.option.ensures.rule in
+    let four = c.in_ok-arg-4.ensures.shape c.option-2.ensures.own ∙ ap₂ with_rule three c.option-2.ensures.rule in
+    let five = c.in_ok-arg-5.ensures.shape c.flag.ensures.own ∙ ap₂ with_rule four c.flag.ensures.rule in
+    IfOk-weaker c.arg-6.result _ _ (λ r added. added.shape c.flag-2.ensures.own ∙ ap₂ with_rule five c.flag-2.ensures.rule) c.arg-6.ensures

@@ -1,0 +1,54 @@
+-- Which words are accepted, and what they ask for.
+use Rattle.std.specs.Prelude.{ℕ, Bool, List, [], ◌∷◌, length, Option, Some, None, unwrap_or, ◌&&◌, if◌then◌else◌, nat_lt, nat_le, codes}
+use Rattle.std.specs.List.{list_all}
+use Rattle.std.specs.Char.{is_ascii_digit}
+use Rattle.std.specs.Str.Parse.{digits_value}
+use Rattle.clap.specs.Words.{Row, Text, fault_of, first_of, matches_of}
+use Rattle.clap.specs.Kinds.{Kinds}
+use Rattle.command_line.specs.Command.{command}
+use Rattle.command_line.specs.declared.accepted.Accepted.{Accepted}
+
+-- what accepted words ask for: the names of three files, and the greatest number of candidates that are tried
+pub record Asked : Type 0 where
+  pub domain : Text
+  pub problem : Text
+  pub output : Text
+  pub max_candidates : ℕ
+
+abbrev pub asked_by : Accepted → Asked
+asked_by a = record { domain = a.domain.now; problem = a.problem.now; output = a.output.now; max_candidates = a.max_candidates }
+
+abbrev pub number_if : Bool → ℕ → Option ℕ
+number_if holds n = if holds then Some n else None
+
+-- the number that these decimal digits write, and no other character, where it is no more than `most`
+abbrev pub number_up_to : ℕ → Text → Option ℕ
+number_up_to most text =
+    number_if (nat_lt 0 (length text) && (list_all is_ascii_digit text && nat_le (digits_value 10 text) most)) (digits_value 10 text)
+
+-- the number of candidates, where it is given and where it isn't
+abbrev pub candidates_of : Option Text → Option ℕ
+candidates_of None = Some 100000
+candidates_of (Some text) = number_up_to 2147483647 text
+
+-- both input files are named, and the number is one
+abbrev pub asked_with : Text → Option Text → Option Text → Option ℕ → Option Asked
+asked_with output (Some domain) (Some problem) (Some candidates) =
+    Some record { domain = domain; problem = problem; output = output; max_candidates = candidates }
+asked_with output domain problem candidates = None
+
+-- what the matches ask for, where the rules on them hold
+abbrev pub asked_of : List Row → Option Asked
+asked_of rows = asked_with (unwrap_or (first_of (codes "sas-file") rows) (codes "output.sas"))
+    (first_of (codes "domain") rows) (first_of (codes "problem") rows)
+    (candidates_of (first_of (codes "invariant-generation-max-candidates") rows))
+
+-- nothing is wrong with the words
+abbrev pub if_faultless : {X : Type 0} → Kinds → Option X → Option X
+if_faultless [] x = x
+if_faultless (kind ∷ kinds) x = None
+
+-- The words, the program's name first, are accepted and ask for this: clap's definitions give the command matches on
+-- them, and the rules on the matches hold.
+unfoldable pub accepted : List Text → Option Asked
+accepted words = if_faultless (fault_of command words) (asked_of (matches_of command words))

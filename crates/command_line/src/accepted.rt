@@ -1,0 +1,76 @@
+//! What the words ask for.
+
+ghost use Rattle.std.specs.Prelude.{◌≡◌, IfOk, map, option_map, string_bytes};
+ghost use Rattle.std.specs.List.{list_all};
+ghost use Rattle.std.specs.Char.{is_ascii_digit};
+ghost use Rattle.clap.specs.Words.{found_of, rows_of};
+ghost use Rattle.command_line.specs.Accepted.{accepted, asked_by, asked_of, number_up_to};
+
+use crate::command::command;
+use clap::ArgMatches;
+use clap::error::ErrorKind;
+use std::alloc::{AllocError, Global};
+
+/// The words that were accepted: the names of the files, and the greatest number of candidates.
+#[derive(Clone, Copy, Debug, PartialEq, Eq)]
+pub struct Accepted<'a> {
+    pub domain: &'a str,
+    pub problem: &'a str,
+    pub output: &'a str,
+    pub max_candidates: u32,
+}
+
+/// Reads the words of a command line, the program's name first: `None` where they are refused.
+pub fn read_words<'a>(
+    alloc: Global,
+    words: &'a Vec<String>,
+) -> Result<Option<Accepted<'a>>, AllocError>
+    ensures { IfOk result (λ read. option_map asked_by read ≡ accepted (map string_bytes words.now.items)) }
+{
+    let command = command(alloc)?;
+    match command.try_get_matches_from(words.as_slice()) {
+        Ok(matches) => Ok(asked(&matches)),
+        Err(error) if error.kind() == ErrorKind::OutOfMemory => Err(AllocError),
+        Err(_) => Ok(None),
+    }
+}
+
+/// What the matches ask for.
+#[tactic(auto, using(crate::proofs::Reading::given))]
+fn asked<'a>(matches: &ArgMatches<'a>) -> Option<Accepted<'a>>
+    ensures { option_map asked_by result ≡ asked_of (rows_of (found_of matches.now)) }
+{
+    let domain = matches.get_str("domain")?;
+    let problem = matches.get_str("problem")?;
+    let output = matches.get_str("sas-file").unwrap_or("output.sas");
+    let max_candidates = match matches.get_str("invariant-generation-max-candidates") {
+        Some(digits) => number_at_most(2_147_483_647, digits)?,
+        None => 100_000,
+    };
+    Some(Accepted {
+        domain,
+        problem,
+        output,
+        max_candidates,
+    })
+}
+
+/// The number that the text writes in decimal digits only, where it is no more than `most`.
+fn number_at_most(most: u32, text: &str) -> Option<u32>
+    ensures { result ≡ number_up_to most text.now }
+{
+    if !is_digits(text) {
+        return None;
+    }
+    match text.parse::<u32>() {
+        Ok(number) => if number <= most { Some(number) } else { None },
+        Err(_) => None,
+    }
+}
+
+/// Whether the text has no other character than decimal digits.
+fn is_digits(text: &str) -> bool
+    ensures { result ≡ list_all is_ascii_digit text.now }
+{
+    text.as_bytes().iter().all(|byte| byte.is_ascii_digit())
+}
