@@ -1,0 +1,232 @@
+//! Groups and covers, worked by hand. A row has the names of facts.
+
+use crate::found::{Grouped, grouped};
+use group_cover::cover;
+use lists::List;
+use relaxed_reach::Fact;
+use std::alloc::Global;
+use std::test::*;
+
+/// The names of the facts of a group, or of a set of a cover, in the order of facts: by predicate, and then by objects.
+type Names = &'static [&'static str];
+
+fn is_named(facts: &[Fact], number: u64, name: &str) -> bool {
+    match facts.get(number as usize) {
+        Some(fact) => fact.shown.as_slice() == name.as_bytes(),
+        None => false,
+    }
+}
+
+fn has_names(facts: &[Fact], numbers: &[u64], names: &[&str]) -> bool {
+    numbers.len() == names.len()
+        && numbers
+            .iter()
+            .zip(names)
+            .all(|(number, name)| is_named(facts, *number, name))
+}
+
+fn is_among(facts: &[Fact], groups: &[List<u64>], names: &[&str]) -> bool {
+    groups
+        .iter()
+        .any(|group| has_names(facts, group.as_slice(), names))
+}
+
+/// Whether the groups are those of the rows, which differ from one another, in whatever order.
+fn are_groups(grouped: &Grouped, rows: &[Names]) -> bool {
+    let groups = grouped.groups.groups.as_slice();
+    groups.len() == rows.len()
+        && rows.iter().all(|names| is_among(grouped.reached.facts.as_slice(), groups, names))
+}
+
+fn has_groups(alloc: Global, domain: &str, problem: &str, rows: &[Names]) -> bool {
+    match grouped(alloc, domain, problem) {
+        Some(grouped) => are_groups(&grouped, rows),
+        None => false,
+    }
+}
+
+/// Whether the sets are those of the rows, in their order.
+fn are_sets(facts: &[Fact], sets: &[List<u64>], rows: &[Names]) -> bool {
+    sets.len() == rows.len()
+        && sets
+            .iter()
+            .zip(rows)
+            .all(|(set, names)| has_names(facts, set.as_slice(), names))
+}
+
+fn has_cover(alloc: Global, domain: &str, problem: &str, rows: &[Names]) -> bool {
+    match grouped(alloc, domain, problem) {
+        Some(grouped) => is_covered(alloc, &grouped, rows),
+        None => false,
+    }
+}
+
+fn is_covered(alloc: Global, grouped: &Grouped, rows: &[Names]) -> bool {
+    let facts = grouped.reached.facts.as_slice();
+    match cover(alloc, facts.len() as u64, &grouped.groups) {
+        Ok(cover) => are_sets(facts, cover.sets.as_slice(), rows),
+        Err(_) => false,
+    }
+}
+
+static SWITCH: &str = "(define (domain switch) (:predicates (on) (off))
+ (:action flip :parameters () :precondition (off) :effect (and (on) (not (off)))))";
+
+static ONE: &str = "(define (problem one) (:domain switch) (:init (off)) (:goal (on)))";
+
+static BLOCKS: &str = "(define (domain blocks)
+ (:predicates (on ?x ?y) (ontable ?x) (clear ?x) (handempty) (holding ?x))
+ (:action pick-up :parameters (?x) :precondition (and (clear ?x) (ontable ?x) (handempty))
+  :effect (and (not (ontable ?x)) (not (clear ?x)) (not (handempty)) (holding ?x)))
+ (:action put-down :parameters (?x) :precondition (holding ?x)
+  :effect (and (not (holding ?x)) (clear ?x) (handempty) (ontable ?x)))
+ (:action stack :parameters (?x ?y) :precondition (and (holding ?x) (clear ?y))
+  :effect (and (not (holding ?x)) (not (clear ?y)) (clear ?x) (handempty) (on ?x ?y)))
+ (:action unstack :parameters (?x ?y) :precondition (and (on ?x ?y) (clear ?x) (handempty))
+  :effect (and (holding ?x) (clear ?y) (not (clear ?x)) (not (handempty)) (not (on ?x ?y)))))";
+
+static THREE: &str = "(define (problem three) (:domain blocks) (:objects a b c)
+ (:init (ontable a) (ontable b) (ontable c) (clear a) (clear b) (clear c) (handempty)) (:goal (and (on a b) (on b c))))";
+
+static BACK: &str = "(define (domain back) (:predicates (p ?x) (q ?x))
+ (:action act :parameters (?x ?y) :precondition (q ?x) :effect (and (p ?x) (not (q ?x)) (q ?y))))";
+
+static TWO: &str = "(define (problem b) (:domain back) (:objects a b) (:init (q a)) (:goal (p b)))";
+
+static BELL: &str = "(define (domain bell) (:constants l1) (:predicates (at ?l) (rung))
+ (:action move :parameters (?x ?y) :precondition (at ?x) :effect (and (not (at ?x)) (at ?y)))
+ (:action ring :precondition (not (at l1)) :effect (rung)))";
+
+static RUNG: &str =
+    "(define (problem b) (:domain bell) (:objects l2 l3 l4) (:init (at l1)) (:goal (rung)))";
+
+static BOTH: &str =
+    "(define (problem both) (:domain back) (:objects a b) (:init (q a) (q b)) (:goal (p b)))";
+
+static GRIPPER: &str =
+    "(define (domain gripper) (:requirements :strips :typing) (:types room ball gripper)
+ (:predicates (at-robby ?r - room) (at ?b - ball ?r - room) (free ?g - gripper) (carry ?b - ball ?g - gripper))
+ (:action move :parameters (?from ?to - room) :precondition (at-robby ?from)
+  :effect (and (at-robby ?to) (not (at-robby ?from))))
+ (:action pick :parameters (?b - ball ?r - room ?g - gripper) :precondition (and (at ?b ?r) (at-robby ?r) (free ?g))
+  :effect (and (carry ?b ?g) (not (at ?b ?r)) (not (free ?g))))
+ (:action drop :parameters (?b - ball ?r - room ?g - gripper) :precondition (and (carry ?b ?g) (at-robby ?r))
+  :effect (and (at ?b ?r) (free ?g) (not (carry ?b ?g)))))";
+
+static BALLS: &str = "(define (problem made) (:domain gripper)
+ (:objects rooma roomb - room left right - gripper ball1 ball2 - ball)
+ (:init (at-robby rooma) (free left) (free right) (at ball1 rooma) (at ball2 rooma))
+ (:goal (and (at ball1 roomb) (at ball2 roomb))))";
+
+#[test]
+fn groups_are_those_of_instances_that_weigh_one(rt: HostRuntime) {
+    // Accepted are off alone, which nothing adds, and on with off. Off is true at the start, so both weigh one.
+    assert!(rt; has_groups(rt.alloc(), SWITCH, ONE, &[&["off()"], &["on()", "off()"]]));
+    // Accepted are the hand (free, or holding some block); for each block what is below it (a block, the table, the hand);
+    // and for each block what is above it (a block, nothing, the hand). At the start the hand is free, each block is on the
+    // table, and each is clear: seven instances weigh one. A block on itself is reachable where deletes are ignored: it is
+    // held after pick-up, and clear from the start.
+    assert!(rt;
+        has_groups(
+            rt.alloc(),
+            BLOCKS,
+            THREE,
+            &[
+                &["handempty()", "holding(a)", "holding(b)", "holding(c)"],
+                &[
+                    "on(a, a)",
+                    "on(a, b)",
+                    "on(a, c)",
+                    "ontable(a)",
+                    "holding(a)"
+                ],
+                &[
+                    "on(b, a)",
+                    "on(b, b)",
+                    "on(b, c)",
+                    "ontable(b)",
+                    "holding(b)"
+                ],
+                &[
+                    "on(c, a)",
+                    "on(c, b)",
+                    "on(c, c)",
+                    "ontable(c)",
+                    "holding(c)"
+                ],
+                &["on(a, a)", "on(b, a)", "on(c, a)", "clear(a)", "holding(a)"],
+                &["on(a, b)", "on(b, b)", "on(c, b)", "clear(b)", "holding(b)"],
+                &["on(a, c)", "on(b, c)", "on(c, c)", "clear(c)", "holding(c)"],
+            ]
+        )
+    );
+    // Accepted is the place. It is l1 at the start, and each place can be reached. Rung is in no candidate.
+    assert!(rt;
+        has_groups(
+            rt.alloc(),
+            BELL,
+            RUNG,
+            &[&["at(l1)", "at(l2)", "at(l3)", "at(l4)"]]
+        )
+    );
+    // Accepted is what q counts. It is a alone at the start, and b can get it.
+    assert!(rt; has_groups(rt.alloc(), BACK, TWO, &[&["q(a)", "q(b)"]]));
+    // The same with a and b at the start: the instance weighs two.
+    assert!(rt; has_groups(rt.alloc(), BACK, BOTH, &[]));
+    // Accepted are the room; for each ball its room or gripper; and for each gripper that it is free, or its ball. Instances
+    // for a room or a gripper as the ball, or a room or a ball as the gripper, weigh nothing.
+    assert!(rt;
+        has_groups(
+            rt.alloc(),
+            GRIPPER,
+            BALLS,
+            &[
+                &["at-robby(rooma)", "at-robby(roomb)"],
+                &[
+                    "at(ball1, rooma)",
+                    "at(ball1, roomb)",
+                    "carry(ball1, left)",
+                    "carry(ball1, right)"
+                ],
+                &[
+                    "at(ball2, rooma)",
+                    "at(ball2, roomb)",
+                    "carry(ball2, left)",
+                    "carry(ball2, right)"
+                ],
+                &["free(left)", "carry(ball1, left)", "carry(ball2, left)"],
+                &["free(right)", "carry(ball1, right)", "carry(ball2, right)"],
+            ]
+        )
+    );
+}
+
+#[test]
+fn a_cover_of_groups_takes_the_largest_first(rt: HostRuntime) {
+    // The balls' groups have four facts, and that of ball1 comes first. Then each gripper's group has one fact left, so the
+    // room is next, and the free grippers stand alone.
+    assert!(rt;
+        has_cover(
+            rt.alloc(),
+            GRIPPER,
+            BALLS,
+            &[
+                &[
+                    "at(ball1, rooma)",
+                    "at(ball1, roomb)",
+                    "carry(ball1, left)",
+                    "carry(ball1, right)"
+                ],
+                &[
+                    "at(ball2, rooma)",
+                    "at(ball2, roomb)",
+                    "carry(ball2, left)",
+                    "carry(ball2, right)"
+                ],
+                &["at-robby(rooma)", "at-robby(roomb)"],
+                &["free(left)"],
+                &["free(right)"],
+            ]
+        )
+    );
+}

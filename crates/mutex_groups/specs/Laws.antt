@@ -1,0 +1,56 @@
+-- What holds of groups: they are sorted lists of basic facts, of which at most one is true.
+use Rattle.std.specs.Prelude.{◌≡◌, ℕ, ◌<◌, true, false, List, length, Contains}
+use Rattle.std.specs.List.{list_all}
+use Rattle.std.specs.List.Sorted.{IsStrictlyIncreasing}
+use Rattle.planning.specs.Task.{State}
+use Rattle.planning.specs.Plan.{IsReachable}
+use Rattle.normal_task.specs.declared.task.Normal.{Normal}
+use Rattle.normal_task.specs.Lawful.{IsLawful}
+use Rattle.static_matcher.specs.declared.types.Ground.{Ground}
+use Rattle.static_matcher.specs.Instances.{IsGroundTask}
+use Rattle.static_matcher.specs.Literals.{meaning}
+use Rattle.relaxed_reach.specs.declared.types.Reached.{Reached}
+use Rattle.relaxed_reach.specs.ReachedTask.{is_derived, reached_task}
+use Rattle.relaxed_reach.specs.Reachable.{IsReachedTask}
+use Rattle.invariant_check.specs.declared.types.Candidate.{Candidate}
+use Rattle.invariant_check.specs.Accepted.{is_accepted}
+use Rattle.invariant_check.specs.WellFormed.{is_well_formed}
+use Rattle.mutex_groups.specs.Groups.{IsGroup, AreGroups}
+
+-- the reached task is that of the normal task's ground task
+pub record IsReachedOf (task : Normal) (reached : Reached) : Type 0 where
+  pub ground_of : Ground
+  pub is_ground : IsGroundTask task ground_of
+  pub is_reached : IsReachedTask ground_of reached
+
+-- in every reachable state of the reached task at most one fact of the group is true
+abbrev pub IsExclusive : Reached → List ℕ → Type 0
+IsExclusive reached group =
+    (state : State ℕ) → IsReachable (meaning (reached_task reached)) state →
+    (fact other : ℕ) → Contains group fact → Contains group other → state fact ≡ true → state other ≡ true → fact ≡ other
+
+-- the groups of accepted candidates are exclusive, where the reached task is the normal task's
+abbrev pub AreExclusive : Normal → List Candidate → Reached → List (List ℕ) → Type 0
+AreExclusive task candidates reached groups =
+    IsReachedOf task reached → list_all (is_accepted task) candidates ≡ true → (group : List ℕ) → Contains groups group → IsExclusive reached group
+
+abbrev pub GroupsAreExclusive : Type 0
+GroupsAreExclusive =
+    (task : Normal) (candidates : List Candidate) (reached : Reached) (groups : List (List ℕ)) → IsLawful task → list_all (is_well_formed task) candidates ≡ true →
+    AreGroups task candidates reached groups → AreExclusive task candidates reached groups
+
+-- a group is sorted without repeats
+abbrev pub GroupsAreSorted : Type 0
+GroupsAreSorted = (task : Normal) (candidates : List Candidate) (reached : Reached) (group : List ℕ) → IsGroup task candidates reached group → IsStrictlyIncreasing group
+
+-- a group has facts only
+abbrev pub GroupsAreFacts : Type 0
+GroupsAreFacts =
+    (task : Normal) (candidates : List Candidate) (reached : Reached) (group : List ℕ) → IsGroup task candidates reached group →
+    (fact : ℕ) → Contains group fact → fact < length reached.facts
+
+-- a group of well formed candidates has basic facts only
+abbrev pub GroupsAreBasic : Type 0
+GroupsAreBasic =
+    (task : Normal) (candidates : List Candidate) (reached : Reached) (group : List ℕ) → IsReachedOf task reached → list_all (is_well_formed task) candidates ≡ true →
+    IsGroup task candidates reached group → (fact : ℕ) → Contains group fact → is_derived reached.facts fact ≡ false
