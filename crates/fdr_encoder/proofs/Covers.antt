@@ -1,10 +1,11 @@
 -- The covers meet what the encoding asks.
-use Rattle.std.proofs.Common.{◌≡◌, ℕ, ◌<◌, ◌≤◌, true, false, List, [], ◌∷◌, length, sym, ap, ◌∙◌, subst, inl, inr, arith}
-use Rattle.std.specs.List.{Contains, All}
+use Rattle.std.proofs.Common.{◌≡◌, ℕ, ◌<◌, ◌≤◌, true, false, List, [], ◌∷◌, ◌++◌, map, length, refl, sym, ap, ◌∙◌, subst, inl, inr, arith}
+use Rattle.std.specs.List.{Contains, All, range_with_len}
+use Rattle.std.specs.List.Sorted.{IsStrictlyIncreasing}
 use Rattle.std.proofs.lemmas.Bool.{both_ways, cases_eq, cases_lt}
-use Rattle.std.proofs.lemmas.List.Elements.{All-contains}
+use Rattle.std.proofs.lemmas.List.Elements.{All-contains, Contains-get_or}
 use Rattle.std.proofs.lemmas.List.FromFn.{length-map-range_with_len, get_or-map-range_with_len}
-use Rattle.sas_task.proofs.Members.{no_member, member_first}
+use Rattle.sas_task.proofs.Members.{no_member, member_first, all_from_members}
 use Rattle.fdr_encoder.proofs.Lists.{member_single}
 use Rattle.planning.specs.Task.{State}
 use Rattle.relaxed_reach.specs.declared.types.Reached.{Reached}
@@ -12,6 +13,8 @@ use Rattle.relaxed_reach.specs.ReachedTask.{is_derived}
 use Rattle.fdr_encoder.specs.Places.{Cover, set_of}
 use Rattle.fdr_encoder.specs.Simulates.{AtMostOne, IsCover, IsMutex}
 use Rattle.fdr_encoder.specs.Covers.{singles, IsGroupCover}
+use Rattle.group_cover.specs.Cover.{IsCover as IsCoverBy, AreParts, uncovered, single}
+use Rattle.group_cover.proofs.Parts.{covers_all, covers_once, lie_inside, are_filled, are_sorted, are_facts}
 
 -- a set of fewer than two facts is the one fact that it has
 one_fact : (set : List ℕ) (f : ℕ) → Contains set f → length set < 2 → set ≡ f ∷ []
@@ -56,6 +59,36 @@ cover_from_groups reached groups cover mutex is =
               absurd (both_ways (is_derived reached.facts fact) (basic group.0 group.1 fact (group.2 fact in')) derived)
         ]
 
+-- the cover of facts by groups of facts
+pub cover_of_groups : (facts : ℕ) (groups : List (List ℕ)) (cover : Cover) → IsCoverBy facts groups cover → ((group : List ℕ) → Contains groups group → (f : ℕ) → Contains group f → f < facts) → IsGroupCover facts groups cover
+cover_of_groups facts groups cover is below =
+    record {
+      are_facts = λ var fact low in'. are_facts facts groups cover is below (set_of cover var) (set_in var low) fact in';
+      filled = λ var low. let some = are_filled facts groups cover is (set_of cover var) (set_in var low) in omega arith;
+      covered = λ fact low. let at = covers_all facts groups cover is fact low in (at.0, at.1.within, at.1.in_set);
+      inside = λ var low large. let group = lie_inside facts groups cover is (set_of cover var) (set_in var low) large in (group.group, group.of_groups, group.inside);
+      once = λ var other fact low low' apart in' in''. absurd (apart (covers_once facts groups cover is fact var other (record { within = low; in_set = in' }) (record { within = low'; in_set = in'' })));
+    }
+  where
+    set_in : (var : ℕ) → var < length cover → Contains cover (set_of cover var)
+    set_in var low = Contains-get_or cover var [] low
+
+-- what mutex groups lend to the cover by them
+module _ (reached : Reached) (groups : List (List ℕ)) (cover : Cover) (mutex : All (IsMutex reached) groups) (is : IsCoverBy (length reached.facts) groups cover) where
+  group_facts : (group : List ℕ) → Contains groups group → (f : ℕ) → Contains group f → f < length reached.facts
+  group_facts group in' f f-in = All-contains (λ f. f < length reached.facts) group f (All-contains (IsMutex reached) groups group mutex in').facts f-in
+
+  pub covered_by_mutexes : IsCover reached cover
+  covered_by_mutexes = cover_from_groups reached groups cover mutex (cover_of_groups (length reached.facts) groups cover is group_facts)
+
+  pub sets_apart : All IsStrictlyIncreasing cover
+  sets_apart = all_from_members IsStrictlyIncreasing cover (are_sorted (length reached.facts) groups cover is (λ group in'. (All-contains (IsMutex reached) groups group mutex in').sorted))
+
+  pub sets_of_facts : All (λ set. All (λ fact. fact < length reached.facts) set) cover
+  sets_of_facts =
+      all_from_members (λ set. All (λ fact. fact < length reached.facts) set) cover (λ set in'.
+      all_from_members (λ fact. fact < length reached.facts) set (are_facts (length reached.facts) groups cover is group_facts set in'))
+
 -- single facts
 module _ (facts : ℕ) where
   pub singles_count : length (singles facts) ≡ facts
@@ -85,3 +118,18 @@ module _ (facts : ℕ) where
 
 pub singles_are_cover : (reached : Reached) → IsCover reached (singles (length reached.facts))
 singles_are_cover reached = cover_from_groups reached [] (singles (length reached.facts)) (λ k d below. absurd (omega arith)) (singles_cover (length reached.facts))
+
+-- without groups the cover has the single facts
+no_parts : (parts : List (List ℕ)) → AreParts [] [] parts → parts ≡ []
+no_parts [] are = refl
+no_parts (set ∷ parts) are = absurd (no_member are.0.group are.0.best.of_groups)
+
+all_uncovered : (facts : List ℕ) → uncovered [] facts ≡ facts
+all_uncovered [] = refl
+all_uncovered (fact ∷ facts) = ap (λ l. fact ∷ l) (all_uncovered facts)
+
+pub cover_without_groups : (facts : ℕ) (cover : Cover) → IsCoverBy facts [] cover → cover ≡ singles facts
+cover_without_groups facts cover is =
+    is.whole
+    ∙ ap (λ (parts : List (List ℕ)). parts ++ map single (uncovered parts (range_with_len 0 facts))) (no_parts is.parts is.in_turn)
+    ∙ ap (map single) (all_uncovered (range_with_len 0 facts))

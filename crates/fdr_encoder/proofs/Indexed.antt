@@ -1,66 +1,121 @@
--- The places of single facts.
-use Rattle.std.proofs.Common.{◌≡◌, ℕ, ◌<◌, ◌≤◌, eqb, List, [], ◌∷◌, map, length, get_or, unwrap_or, sym, ap, ◌∙◌, subst, inl, inr, arith}
-use Rattle.std.specs.List.{Contains, filter, range_with_len, position_or_len}
+-- The places of facts, gathered set by set.
+use Rattle.std.proofs.Common.{◌≡◌, ℕ, zero, suc, ◌+◌, ◌<◌, Bool, true, false, cond, not, eqb, ◌||◌, List, [], ◌∷◌, ◌++◌, map, set, take, length, get_or, replicate, append_assoc, append-nil, refl, sym, ap, ◌∙◌, subst, inl, inr, arith}
+use Rattle.std.specs.List.{Contains, filter, flat_map, range_with_len, position_or_len, list_any}
 use Rattle.std.specs.List.Sorted.{IsStrictlyIncreasing}
-use Rattle.std.proofs.lemmas.Bool.{cases_lt}
-use Rattle.std.proofs.lemmas.List.Kept.{IsStrictlyIncreasing-filter}
-use Rattle.std.proofs.lemmas.List.FromFn.{length-map-range_with_len, get_or-map-range_with_len}
-use Rattle.std.proofs.lemmas.Option.{unwrap_or-slice_get, slice_get_past}
+use Rattle.std.proofs.lemmas.Bool.{cases_Bool, cond-true, cond-false, eqb-true, eqb-false, eq-eqb, or_cases, or_left, or_right, both_ways, false_from_ne_true}
+use Rattle.std.proofs.lemmas.List.{get_or-set_same, get_or-set_other, get_or_default, get_or-take, length-take-le, take_more}
+use Rattle.std.proofs.lemmas.List.Folds.{list_any-append}
+use Rattle.std.proofs.lemmas.List.Kept.{AllPairs-from_increasing}
 use Rattle.sas_task.specs.declared.parts.Pair.{Pair}
-use Rattle.sas_task.proofs.Members.{no_member, member_first, member_range, range_member}
-use Rattle.fdr_encoder.specs.Places.{pair, set_of, has, places}
-use Rattle.fdr_encoder.specs.Covers.{singles}
-use Rattle.fdr_encoder.proofs.Lists.{member_filter, filter_member, member_single}
-use Rattle.fdr_encoder.proofs.Sets.{has_member, member_has, place_below}
-use Rattle.fdr_encoder.proofs.Covers.{singles_count, single_at}
-use Rattle.fdr_encoder.proofs.Looked.{same_in_order}
-use Rattle.fdr_encoder.proofs.Rising.{range_increases}
+use Rattle.fdr_encoder.specs.Places.{Cover, pair, set_of, has, places}
+use Rattle.fdr_encoder.specs.Marks.{place_in}
+use Rattle.fdr_encoder.proofs.Sets.{has_member, member_has}
 
-module _ (n f : ℕ) where
-  abbrev vars : List ℕ
-  vars = filter (λ var. has (set_of (singles n) var) f) (range_with_len 0 (length (singles n)))
+-- what passes of a map
+map_filter : {X Y : Type 0} (f : X → Y) (p : X → Bool) (xs : List X) → map f (filter p xs) ≡ flat_map (λ x. cond (p x) (f x ∷ []) []) xs
+map_filter f p [] = refl
+map_filter f p (x ∷ xs) = by_case (p x) (map_filter f p xs)
+  where
+    by_case : (b : Bool) → map f (filter p xs) ≡ flat_map (λ x. cond (p x) (f x ∷ []) []) xs → map f (cond b (x ∷ filter p xs) (filter p xs)) ≡ cond b (f x ∷ []) [] ++ flat_map (λ x. cond (p x) (f x ∷ []) []) xs
+    by_case true rest = ap (λ l. f x ∷ l) rest
+    by_case false rest = rest
 
-  var_is : (v : ℕ) → Contains vars v → (v < n) × (v ≡ f)
-  var_is v in' =
-      let at = filter_member (λ var. has (set_of (singles n) var) f) (range_with_len 0 (length (singles n))) v in' in
-      let low : v < n = subst (λ k. v < k) (singles_count n) (range_member (length (singles n)) v at.0) in
-      (low, member_single v f (subst (λ l. Contains l f) (single_at n v low) (has_member (set_of (singles n) v) f at.1)))
+-- the places of a fact are those in each set
+pub places_by_set : (cover : Cover) (fact : ℕ) → places cover fact ≡ flat_map (λ var. place_in var (set_of cover var) fact) (range_with_len 0 (length cover))
+places_by_set cover fact =
+    map_filter (λ var. pair var (position_or_len (λ f. eqb f fact) (set_of cover var))) (λ var. has (set_of cover var) fact) (range_with_len 0 (length cover))
 
-  var_in : f < n → Contains vars f
-  var_in low =
-      member_filter (λ var. has (set_of (singles n) var) f) (range_with_len 0 (length (singles n))) f (member_range (length (singles n)) f (subst (λ k. f < k) (sym (singles_count n)) low))
-      (member_has (set_of (singles n) f) f (subst (λ l. Contains l f) (sym (single_at n f low)) (member_first f [])))
+-- a position in a longer list
+module _ (p : ℕ → Bool) where
+  abbrev step : Bool → ℕ → ℕ
+  step b n = cond (not b) (1 + n) 0
 
-  vars_rise : IsStrictlyIncreasing vars
-  vars_rise = IsStrictlyIncreasing-filter (λ var. has (set_of (singles n) var) f) (range_with_len 0 (length (singles n))) (range_increases (length (singles n)))
-
-  abbrev place_in : ℕ → Pair
-  place_in var = pair var (position_or_len (λ g. eqb g f) (set_of (singles n) var))
-
-  pub places_of_single : f < n → places (singles n) f ≡ pair f 0 ∷ []
-  places_of_single low =
-      let one : vars ≡ f ∷ [] = same_in_order vars (f ∷ []) vars_rise (λ k none. absurd (omega arith)) (λ v in'. subst (λ w. Contains (f ∷ []) w) (sym (var_is v in').1) (member_first f [])) (λ v in'. subst (Contains vars) (member_single f v in') (var_in low)) in
-      let at : set_of (singles n) f ≡ f ∷ [] = single_at n f low in
-      let in-set : Contains (set_of (singles n) f) f = subst (λ l. Contains l f) (sym at) (member_first f []) in
-      let small = place_below (set_of (singles n) f) f in-set in
-      let size = ap (λ (l : List ℕ). length l) at in
-      let zero' : position_or_len (λ g. eqb g f) (set_of (singles n) f) ≡ 0 = below_one _ _ small size in
-      ap (λ l. map place_in l) one ∙ ap (λ k. pair f k ∷ []) zero'
-    where
-      below_one : (k m : ℕ) → k < m → m ≡ 1 → k ≡ 0
-      below_one k m less is = omega arith
-
-  pub places_past : n ≤ f → places (singles n) f ≡ []
-  places_past past =
-      let none : vars ≡ [] = same_in_order vars [] vars_rise (λ k none. absurd (omega arith)) (λ v in'. let is = var_is v in' in let a = is.0 in let b = is.1 in absurd (omega arith)) (λ v none. absurd (no_member v none)) in
-      ap (λ l. map place_in l) none
-
-  pub indexed : get_or (map (λ fact. pair fact 0 ∷ []) (range_with_len 0 n)) f [] ≡ places (singles n) f
-  indexed =
-      elim (cases_lt f n) [
-        | inl low ↦ get_or-map-range_with_len (λ fact. pair fact 0 ∷ []) 0 n f f [] low (omega arith) ∙ sym (places_of_single low)
-        | inr past ↦
-            let long = length-map-range_with_len (λ fact. pair fact 0 ∷ []) 0 n in
-            let late : length (map (λ fact. pair fact 0 ∷ []) (range_with_len 0 n)) ≤ f = omega arith in
-            sym (unwrap_or-slice_get (map (λ fact. pair fact 0 ∷ []) (range_with_len 0 n)) f []) ∙ ap (λ o. unwrap_or o []) (slice_get_past (map (λ fact. pair fact 0 ∷ []) (range_with_len 0 n)) f late) ∙ sym (places_past past)
+  position_before : (xs ys : List ℕ) → list_any p xs ≡ true → position_or_len p (xs ++ ys) ≡ position_or_len p xs
+  position_before [] ys none = absurd (both_ways false refl none)
+  position_before (x ∷ xs) ys passes =
+      elim (cases_Bool (p x)) [
+        | inl yes' ↦ ap (λ b. step b (position_or_len p (xs ++ ys))) yes' ∙ sym (ap (λ b. step b (position_or_len p xs)) yes')
+        | inr no' ↦ ap (step (p x)) (position_before xs ys (elim (or_cases (p x) (list_any p xs) passes) [ inl here ↦ absurd (both_ways (p x) no' here) | inr later ↦ later ]))
       ]
+
+  position_last : (xs : List ℕ) (x : ℕ) → list_any p xs ≡ false → p x ≡ true → position_or_len p (xs ++ x ∷ []) ≡ length xs
+  position_last [] x none is = ap (λ b. step b 0) is
+  position_last (y ∷ xs) x none is =
+      let no' = false_from_ne_true (p y) (λ h. both_ways (list_any p (y ∷ xs)) none (or_left (p y) (list_any p xs) h)) in
+      let rest = false_from_ne_true (list_any p xs) (λ h. both_ways (list_any p (y ∷ xs)) none (or_right (p y) (list_any p xs) h)) in
+      ap (λ b. step b (position_or_len p (xs ++ x ∷ []))) no' ∙ ap (λ n. 1 + n) (position_last xs x rest is) ∙ one_more (length xs)
+    where
+      one_more : (n : ℕ) → 1 + n ≡ suc n
+      one_more n = omega arith
+
+-- the place in a set with one more fact
+place_in_more : (var : ℕ) (xs : List ℕ) (x fact : ℕ) → (Contains xs x → ⊥) → place_in var (xs ++ x ∷ []) fact ≡ place_in var xs fact ++ cond (eqb x fact) (pair var (length xs) ∷ []) []
+place_in_more var xs x fact new =
+    ap (λ b. cond b (pair var (position_or_len test (xs ++ x ∷ [])) ∷ []) []) (list_any-append test xs (x ∷ []))
+    ∙ elim (cases_Bool (eqb x fact)) [
+      | inl yes' ↦
+          let none : list_any test xs ≡ false = false_from_ne_true (list_any test xs) (λ h. new (subst (Contains xs) (sym (eqb-true x fact yes')) (has_member xs fact h))) in
+          both_cases (list_any test xs) (eqb x fact) false true none yes'
+          ∙ ap (λ n. pair var n ∷ []) (position_last test xs x none yes')
+          ∙ sym (ap (λ b. cond b (pair var (position_or_len test xs) ∷ []) [] ++ cond (eqb x fact) (pair var (length xs) ∷ []) []) none ∙ cond-true (eqb x fact) (pair var (length xs) ∷ []) [] yes')
+      | inr no' ↦
+          elim (cases_Bool (list_any test xs)) [
+            | inl is ↦
+                both_cases (list_any test xs) (eqb x fact) true false is no'
+                ∙ ap (λ n. pair var n ∷ []) (position_before test xs (x ∷ []) is)
+                ∙ sym (ap (λ b. cond b (pair var (position_or_len test xs) ∷ []) [] ++ cond (eqb x fact) (pair var (length xs) ∷ []) []) is ∙ ap (λ l. pair var (position_or_len test xs) ∷ l) (cond-false (eqb x fact) (pair var (length xs) ∷ []) [] no'))
+            | inr none ↦
+                both_cases (list_any test xs) (eqb x fact) false false none no'
+                ∙ sym (ap (λ b. cond b (pair var (position_or_len test xs) ∷ []) [] ++ cond (eqb x fact) (pair var (length xs) ∷ []) []) none ∙ cond-false (eqb x fact) (pair var (length xs) ∷ []) [] no')
+          ]
+    ]
+  where
+    test : ℕ → Bool
+    test = λ f. eqb f fact
+
+    both_cases : (a b a' b' : Bool) → a ≡ a' → b ≡ b' → cond (a || (b || false)) (pair var (position_or_len test (xs ++ x ∷ [])) ∷ []) [] ≡ cond (a' || (b' || false)) (pair var (position_or_len test (xs ++ x ∷ [])) ∷ []) []
+    both_cases a b a' b' is is' =
+        ap (λ c. cond (c || (b || false)) (pair var (position_or_len test (xs ++ x ∷ [])) ∷ []) []) is
+        ∙ ap (λ c. cond (a' || (c || false)) (pair var (position_or_len test (xs ++ x ∷ [])) ∷ []) []) is'
+
+-- a fact of a set isn't among those before it
+not_before : (xs : List ℕ) → IsStrictlyIncreasing xs → (i : ℕ) → i < length xs → Contains (take i xs) (get_or xs i 0) → ⊥
+not_before xs up i within in' =
+    let k = in'.0 in
+    let x = get_or xs i 0 in
+    let long = length-take-le i xs (omega arith) in
+    let low : k < i = omega (arith, in'.1) in
+    let less = AllPairs-from_increasing xs up k i x low within in
+    let here : get_or xs k x ≡ x = sym (get_or-take i xs k x low) ∙ in'.2 in
+    let same = get_or_default xs i x 0 within in
+    absurd (omega arith)
+
+-- the rows with one more place
+pub row_more : (rows : List (List Pair)) (var : ℕ) (facts : List ℕ) (i fact : ℕ) (start : List Pair) → i < length facts → get_or facts i 0 < length rows → IsStrictlyIncreasing facts → get_or rows fact [] ≡ start ++ place_in var (take i facts) fact → get_or (set rows (get_or facts i 0) (get_or rows (get_or facts i 0) [] ++ pair var i ∷ [])) fact [] ≡ start ++ place_in var (take (i + 1) facts) fact
+row_more rows var facts i fact start within low up before =
+    let x = get_or facts i 0 in
+    let long : length (take i facts) ≡ i = length-take-le i facts (omega arith) in
+    let more : place_in var (take (i + 1) facts) fact ≡ place_in var (take i facts) fact ++ cond (eqb x fact) (pair var i ∷ []) [] =
+    ap (λ l. place_in var l fact) (take_more facts i 0 within)
+    ∙ place_in_more var (take i facts) x fact (not_before facts up i within)
+    ∙ ap (λ n. place_in var (take i facts) fact ++ cond (eqb x fact) (pair var n ∷ []) []) long in
+    elim (cases_Bool (eqb x fact)) [
+      | inl yes' ↦
+          let same : x ≡ fact = eqb-true x fact yes' in
+          ap (λ k. get_or (set rows x (get_or rows x [] ++ pair var i ∷ [])) k []) (sym same)
+          ∙ get_or-set_same rows x (get_or rows x [] ++ pair var i ∷ []) [] low
+          ∙ ap (λ k. get_or rows k [] ++ pair var i ∷ []) same
+          ∙ ap (λ l. l ++ pair var i ∷ []) before
+          ∙ append_assoc start (place_in var (take i facts) fact) (pair var i ∷ [])
+          ∙ ap (λ l. start ++ l) (sym (more ∙ ap (λ b. place_in var (take i facts) fact ++ cond b (pair var i ∷ []) []) yes'))
+      | inr no' ↦
+          get_or-set_other rows x fact (get_or rows x [] ++ pair var i ∷ []) [] (λ same. eqb-false x fact no' (sym same))
+          ∙ before
+          ∙ ap (λ l. start ++ l) (sym (more ∙ ap (λ b. place_in var (take i facts) fact ++ cond b (pair var i ∷ []) []) no' ∙ append-nil (place_in var (take i facts) fact)))
+    ]
+
+pub none_in_empty : {X : Type 0} (n k : ℕ) → get_or (replicate {A = List X} n []) k [] ≡ []
+none_in_empty zero zero = refl
+none_in_empty zero (suc k) = refl
+none_in_empty (suc n) zero = refl
+none_in_empty (suc n) (suc k) = none_in_empty n k

@@ -42,6 +42,7 @@ use Rattle.fdr_encoder.proofs.OneStep.{effect_from}
 use Rattle.fdr_encoder.proofs.Parts.{RuleFrom, in_one, count, count_state, variable_at, layer_at, start_at, last_variable, variable_last, layer_last, start_last, goal_whole, goal_parted, rule_from, operator_from, is_whole, is_parted, part}
 use Rattle.fdr_encoder.proofs.Standing.{derived_below, value_single, stands, literals_stand, OverBasic, kind, layer_of_basic, starts_plain}
 use Rattle.fdr_encoder.proofs.Rising.{rising_filter, range_rises, range_increases, pairs_flat_map, pairs_map, two_members}
+use Rattle.fdr_encoder.proofs.Grouped.{places_in, in_variable, group_in_order, first_in_group}
 use Rattle.fdr_encoder.proofs.Texts.{named, variable_valid, goal_variable_valid}
 use Rattle.fdr_encoder.proofs.LayersBelow.{layer_below, above_within}
 
@@ -276,16 +277,11 @@ module _ (reached : Reached) (lawful : IsLawful reached) (cover : Cover) (ok : I
       in_whole (m ∷ []) is one = subst (AreConditions task) (sym (append_none m)) (goal_conditions reached.goal lawful.goal m (subst (λ l. Contains l m) (sym is) (member_first m [])))
       in_whole (m ∷ k ∷ ms) is one = let two : suc (suc (length ms)) ≡ 1 = eqb-true (length (m ∷ k ∷ ms)) 1 (ap (λ l. eqb (length l) 1) (sym is) ∙ one) in absurd (omega arith)
 
-  -- a group's facts at their first places
-  abbrev places_in : List ℕ → ℕ → List Pair
-  places_in group var = map (pair var) (filter (is_groups cover group var) (range_with_len 0 (last_value cover var)))
-
   group_pairs : (group : List ℕ) (p : Pair) → Contains (group_of cover group).facts p → (p.var < n) × (p.val < last_value cover p.var)
   group_pairs group p in' =
-      let var = flat_map_member (places_in group) (range_with_len 0 n) p in' in
-      let val = map_member (pair var.0) (filter (is_groups cover group var.0) (range_with_len 0 (last_value cover var.0))) p var.2 in
-      let low = range_member (last_value cover var.0) val.0 (filter_member (is_groups cover group var.0) (range_with_len 0 (last_value cover var.0)) val.0 val.1).0 in
-      subst (λ (q : Pair). (q.var < n) × (q.val < last_value cover q.var)) val.2 (range_member n var.0 var.1, low)
+      let var = flat_map_member (places_in cover group) (range_with_len 0 n) p in' in
+      let at = in_variable cover group var.0 p var.2 in
+      (subst (λ v. v < n) (sym at.0) (range_member n var.0 var.1), subst (λ v. p.val < last_value cover v) (sym at.0) at.1)
 
   place_back : (f : ℕ) → f < length reached.facts → get_or (set_of cover (first cover f).var) (first cover f).val 0 ≡ f
   place_back f below =
@@ -294,16 +290,7 @@ module _ (reached : Reached) (lawful : IsLawful reached) (cover : Cover) (ok : I
       ap (λ k. get_or (set_of cover p.var) k 0) (sym at.value) ∙ at_place (set_of cover p.var) f at.member 0
 
   place_listed : (group : List ℕ) (f : ℕ) → Contains group f → f < length reached.facts → Contains (group_of cover group).facts (first cover f)
-  place_listed group f in' below =
-      let p = first cover f in
-      let standing = stands reached cover ok f below in
-      let at = place_is cover f p (first_in cover f standing) in
-      let inside : p.val < last_value cover p.var = subst (λ k. k < last_value cover p.var) at.value (place_below (set_of cover p.var) f at.member) in
-      let is-first : option_map_or (λ q. eqb q.var p.var) (first_place cover f) false ≡ true = ap (λ o. option_map_or (λ (q : Pair). eqb q.var p.var) o false) (first_is cover f standing) ∙ eq-eqb p.var p.var refl in
-      let passes : is_groups cover group p.var p.val ≡ true = subst (λ g. (has group g && option_map_or (λ q. eqb q.var p.var) (first_place cover g) false) ≡ true) (sym (place_back f below)) (and_from _ _ (member_has group f in') is-first) in
-      member_flat_map (places_in group) (range_with_len 0 n) p.var p (member_range n p.var at.below)
-      (member_map (pair p.var) (filter (is_groups cover group p.var) (range_with_len 0 (last_value cover p.var))) p.val
-      (member_filter (is_groups cover group p.var) (range_with_len 0 (last_value cover p.var)) p.val (member_range (last_value cover p.var) p.val inside) passes))
+  place_listed group f in' below = first_in_group cover group f (first cover f) in' (first_is cover f (stands reached cover ok f below))
 
   group_valid : (g : Group) → Contains task.groups g → IsValidGroup task g
   group_valid g g-in =
@@ -313,19 +300,10 @@ module _ (reached : Reached) (lawful : IsLawful reached) (cover : Cover) (ok : I
       let large : 2 ≤ length raw.0 = leb-true 2 (length raw.0) listed.1 in
       subst (IsValidGroup task) raw.2 (record {
         facts = all_from_members (IsFact task) (group_of cover raw.0).facts (λ p p-in. let s = group_pairs raw.0 p p-in in let small = s.1 in is_value p.var p.val s.0 (omega arith));
-        sorted = pairs_flat_map ComesBefore (λ x y. x < y) (places_in raw.0) (range_with_len 0 n) (range_rises 0 n) (λ var.
-            pairs_map ComesBefore (λ x y. x < y) (pair var) (filter (is_groups cover raw.0 var) (range_with_len 0 (last_value cover var))) (λ x y less. inr (refl, less))
-            (AllPairs-filter (λ x y. x < y) (is_groups cover raw.0 var) (range_with_len 0 (last_value cover var)) (range_rises 0 (last_value cover var))))
-            (λ x y less a b a-in b-in. inl (in_order raw.0 x y less a b a-in b-in));
+        sorted = group_in_order cover raw.0;
         two_facts = two_of raw.0 large mutex;
       })
     where
-      in_order : (group : List ℕ) (x y : ℕ) → x < y → (a b : Pair) → Contains (places_in group x) a → Contains (places_in group y) b → a.var < b.var
-      in_order group x y less a b a-in b-in =
-          let u = map_member (pair x) (filter (is_groups cover group x) (range_with_len 0 (last_value cover x))) a a-in in
-          let v = map_member (pair y) (filter (is_groups cover group y) (range_with_len 0 (last_value cover y))) b b-in in
-          subst (λ k. a.var < k) (ap (λ (p : Pair). p.var) v.2) (subst (λ k. k < y) (ap (λ (p : Pair). p.var) u.2) less)
-
       two_of : (group : List ℕ) → 2 ≤ length group → IsMutex reached group → 2 ≤ length (group_of cover group).facts
       two_of group large mutex =
           let f = get_or group 0 0 in

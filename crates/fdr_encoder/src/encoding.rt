@@ -1,71 +1,97 @@
 // The encoding, put together.
 
-ghost use Rattle.std.specs.Prelude.{◌≡◌, ℕ, ◌^◌, ◌<◌, ◌++◌, [], length, map, IfOk};
+ghost use Rattle.std.specs.Prelude.{◌≡◌, ℕ, ◌^◌, ◌<◌, ◌++◌, length, map, All, IfOk};
 ghost use Rattle.std.specs.List.{flat_map};
+ghost use Rattle.std.specs.List.Sorted.{IsStrictlyIncreasing};
 ghost use Rattle.sas_task.specs.Valid.{IsValid};
 ghost use Rattle.static_matcher.specs.Literals.{initial};
 ghost use Rattle.relaxed_reach.specs.ReachedTask.{reached_task};
 ghost use Rattle.fdr_encoder.specs.Places.{values_in};
-ghost use Rattle.fdr_encoder.specs.Covers.{singles};
+ghost use Rattle.group_cover.specs.Cover.{IsCover as IsGroupsCover};
 ghost use Rattle.fdr_encoder.specs.Effects.{operators_at};
 ghost use Rattle.fdr_encoder.specs.Encoding as parts;
 ghost use Rattle.relaxed_reach.specs.Lawful.{IsLawful};
 ghost use Rattle.relaxed_reach.specs.Layers.{AreLayers};
 ghost use Rattle.fdr_encoder.specs.Ordered.{AreByName, IsEncodingInOrder};
-ghost use Rattle.fdr_encoder.specs.Simulates.{IsCover, Simulates};
+ghost use Rattle.fdr_encoder.specs.Simulates.{IsCover, IsMutex, Simulates};
 
+use crate::flags::flags;
 use crate::goal::{goal_pairs, goal_split, push_goal_rules, push_goal_value, push_goal_variable};
+use crate::groups::groups;
 use crate::index::Index;
 use crate::operators::{operators, rules};
 use crate::order::by_name;
-use crate::variables::{layer_above, start, truths, variables};
+use crate::variables::{layer_above, start, variables};
+use group_cover::{Cover, Groups};
 use lists::List;
 use relaxed_reach::Reached;
 use sas_task::{Operator, Pair, Rule, SasTask, Variable};
 use std::alloc::{AllocError, Global};
 
-/// The encoding over single facts, without mutex groups (Helmert 2009, section 6): the variable with a fact's number
-/// has the values `Atom` (0) and `NegatedAtom` (1), and a goal that isn't in one part has the variable `goal@split()`
-/// behind them. `layers` has one number for each fact, the layer of its variable where the fact is derived.
+/// The encoding over a cover of the facts (Helmert 2009, section 6). The variable of a set of two or more facts has a
+/// value for each fact, in order, and then `<none of those>`; that of a single fact has the values `Atom` (0) and
+/// `NegatedAtom` (1). A goal that isn't in one part has the variable `goal@split()` behind them. Each group of at least
+/// two facts is a mutex group of the task. `layers` has one number for each fact, the layer of its variable where the
+/// fact is derived.
 ///
-/// Operators stand in the byte order of their names, those of one name in the order of the task's actions, each with
-/// its effects by variable, then conditions, then new value; one without effects is written too. Rules stand in the
-/// order of the task's axioms, and the goal's behind them. It fails only where memory is refused.
-pub fn encode(alloc: Global, reached: &Reached, layers: &[u64]) -> Result<SasTask, AllocError>
+/// Groups stand as they are given, and operators in the byte order of their names, those of one name in the order of the
+/// task's actions, each with its effects by variable, then conditions, then new value; one without effects is written
+/// too. Rules stand in the order of the task's axioms, and the goal's behind them. The time is linear in what is written,
+/// but for look-ups and sorting. It fails only where memory is refused.
+pub fn encode(
+    alloc: Global,
+    reached: &Reached,
+    cover: &Cover,
+    groups: &Groups,
+    layers: &[u64],
+) -> Result<SasTask, AllocError>
     requires lawful { IsLawful reached.now }
+    requires cover { IsGroupsCover (length reached.now.facts) groups.now.groups cover.now.sets }
+    requires groups { All (IsMutex reached.now) groups.now.groups }
     requires layers { AreLayers reached.now layers.now }
-    ensures encoding { IfOk result (IsEncodingInOrder (singles (length reached.now.facts)) [] layers.now reached.now) }
+    ensures encoding { IfOk result (IsEncodingInOrder cover.now.sets groups.now.groups layers.now reached.now) }
     ensures valid { IfOk result IsValid }
-    ensures simulates { IfOk result (Simulates (singles (length reached.now.facts)) reached.now) }
+    ensures simulates { IfOk result (Simulates cover.now.sets reached.now) }
 {
-    let index = Index::singles(alloc, reached.facts.as_slice().len() as u64)?;
+    let facts = reached.facts.as_slice().len() as u64;
+    let index = Index::new(alloc, facts, cover.sets.as_slice())?;
     let members = goal_split(alloc, &index, &reached.goal)?;
-    encode_over(alloc, reached, layers, &index, members.as_slice())
+    encode_over(
+        alloc,
+        reached,
+        layers,
+        &index,
+        groups.groups.as_slice(),
+        members.as_slice(),
+    )
 }
 
-/// The encoding over the sets of the index, without groups. `members` is the split of the goal.
+/// The encoding over the sets of the index. `members` is the split of the goal.
 fn encode_over(
     alloc: Global,
     reached: &Reached,
     layers: &[u64],
     index: &Index,
+    mutexes: &[List<u64>],
     members: &[List<Pair>],
 ) -> Result<SasTask, AllocError>
     requires lawful { IsLawful reached.now }
     requires layers { AreLayers reached.now layers.now }
     requires cover { IsCover reached.now index.now }
+    requires apart { All IsStrictlyIncreasing index.now }
+    requires groups { All (IsMutex reached.now) mutexes.now }
     requires few { length reached.now.facts < 2 ^ 64 }
     requires members { members.now ≡ parts.goal_split index.now reached.now.goal }
-    ensures encoding { IfOk result (IsEncodingInOrder index.now [] layers.now reached.now) }
+    ensures encoding { IfOk result (IsEncodingInOrder index.now mutexes.now layers.now reached.now) }
     ensures valid { IfOk result IsValid }
     ensures simulates { IfOk result (Simulates index.now reached.now) }
 {
     let variables = all_variables(alloc, reached, layers, index, members)?;
+    let groups = groups(alloc, index, mutexes)?;
     let state = state(alloc, reached, index, members)?;
     let goal = goal_pairs(alloc, index.variables(), members)?;
     let operators = all_operators(alloc, reached, index)?;
     let rules = all_rules(alloc, reached, index, members)?;
-    let groups = List::from_vec(Vec::new(alloc));
     Ok(SasTask::from_parts(
         reached.metric,
         variables,
@@ -103,7 +129,7 @@ fn state(
     requires { IsLawful reached.now }
     ensures { (var layer : ℕ) → IfOk result (λ all. all ≡ values_in index.now (initial (reached_task reached.now)) ++ (parts.goal_part var layer members.now).values) }
 {
-    let truths = truths(
+    let truths = flags(
         alloc,
         reached.init.as_slice(),
         reached.facts.as_slice().len(),

@@ -36,6 +36,14 @@ fn pairs_order(front: &[Pair], back: &[Pair]) -> Ordering
     front.len().cmp(&back.len())
 }
 
+/// Puts pairs into their order.
+pub(crate) fn sort_pairs(pairs: &mut Vec<Pair>)
+    ensures same { IsPermutation pairs.old.items pairs.new.items }
+    ensures in_order { IsSorted pair_cmp pairs.new.items }
+{
+    pairs.sort_unstable_by(|front, back| pair_order(front, back));
+}
+
 /// The order of effects on one variable: by conditions, then by new value.
 fn order_on_one_variable(front: &Effect, back: &Effect) -> Ordering
     ensures { result ≡ then_cmp (on (λ e. e.conditions) pairs_cmp) (on (λ e. e.after) nat_cmp) front.now back.now }

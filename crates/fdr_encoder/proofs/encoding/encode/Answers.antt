@@ -1,13 +1,28 @@
--- Single facts are a cover.
-use Rattle.std.proofs.Common.{◌≡◌, List, length, sym, ap, ◌∙◌, subst}
+-- What the encoding asks of the cover comes from the groups.
+use Rattle.std.proofs.Common.{◌<◌, List, length, sym, ap, ◌∙◌, subst}
+use Rattle.std.specs.List.{All}
+use Rattle.std.specs.List.Sorted.{IsStrictlyIncreasing}
 use Rattle.relaxed_reach.specs.declared.types.Fact.{Fact}
-use Rattle.fdr_encoder.specs.Covers.{singles}
-use Rattle.fdr_encoder.specs.Simulates.{IsCover}
-use Rattle.fdr_encoder.proofs.Covers.{singles_are_cover}
+use Rattle.fdr_encoder.specs.Simulates.{IsCover, IsMutex}
+use Rattle.fdr_encoder.proofs.Covers.{covered_by_mutexes, sets_apart, sets_of_facts}
 use Rattle.fdr_encoder.proofs.encoding.encode.Goals as goal
+
+pub new-requires-clause-facts : goal.new-requires-clause-facts
+new-requires-clause-facts c =
+    subst (λ n. All (λ set. All (λ fact. fact < n) set) c.as_slice-2.result.now) (sym (ap (λ (fs : List Fact). length fs) c.as_slice.ensures))
+    (subst (All (λ set. All (λ fact. fact < length c.args.reached.now.facts) set)) (sym c.as_slice-2.ensures) (sets_of_facts c.args.reached.now c.args.groups.now.groups c.args.cover.now.sets c.requires.groups c.requires.cover))
+
+pub new-requires-clause-apart : goal.new-requires-clause-apart
+new-requires-clause-apart c =
+    subst (All IsStrictlyIncreasing) (sym c.as_slice-2.ensures) (sets_apart c.args.reached.now c.args.groups.now.groups c.args.cover.now.sets c.requires.groups c.requires.cover)
 
 pub encode_over-requires-clause-cover : goal.encode_over-requires-clause-cover
 encode_over-requires-clause-cover c =
-    let facts = c.args.reached.now.facts in
-    let same : c.in_ok-index.index ≡ singles (length facts) = c.in_ok-index.ensures ∙ ap (λ (fs : List Fact). singles (length fs)) c.as_slice.ensures in
-    subst (IsCover c.args.reached.now) (sym same) (singles_are_cover c.args.reached.now)
+    subst (IsCover c.args.reached.now) (sym (c.in_ok-index.ensures ∙ c.as_slice-2.ensures)) (covered_by_mutexes c.args.reached.now c.args.groups.now.groups c.args.cover.now.sets c.requires.groups c.requires.cover)
+
+pub encode_over-requires-clause-apart : goal.encode_over-requires-clause-apart
+encode_over-requires-clause-apart c =
+    subst (All IsStrictlyIncreasing) (sym (c.in_ok-index.ensures ∙ c.as_slice-2.ensures)) (sets_apart c.args.reached.now c.args.groups.now.groups c.args.cover.now.sets c.requires.groups c.requires.cover)
+
+pub encode_over-requires-clause-groups : goal.encode_over-requires-clause-groups
+encode_over-requires-clause-groups c = subst (All (IsMutex c.args.reached.now)) (sym c.as_slice-3.ensures) c.requires.groups

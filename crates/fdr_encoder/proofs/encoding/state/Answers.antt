@@ -8,8 +8,8 @@ use Rattle.fdr_encoder.specs.Encoding.{goal_part}
 use Rattle.fdr_encoder.proofs.Loops.{map_places}
 use Rattle.fdr_encoder.proofs.encoding.state.Goals as goal
 
-pub truths-requires : goal.truths-requires
-truths-requires c k d below =
+pub flags-requires : goal.flags-requires
+flags-requires c k d below =
     let init = c.as_slice.ensures in
     let facts = ap (λ (fs : List Fact). length fs) c.as_slice-2.ensures in
     subst (λ n. get_or c.as_slice.result.now k d < n) (sym facts) (subst (λ (l : List ℕ). get_or l k d < length c.args.reached.now.facts) (sym init) (c.requires.init k d (subst (λ (l : List ℕ). k < length l) init below)).0)

@@ -1,15 +1,53 @@
--- The combinations of what the literals leave to each variable that is looked at.
-use Rattle.std.proofs.Common.{ℕ, List, map, length, ap, ◌∙◌}
-use Rattle.std.specs.List.{filter, range_with_len}
-use Rattle.fdr_encoder.specs.Places.{pair}
+-- The combinations of what the marks leave to the variables that have some.
+use Rattle.std.proofs.Common.{◌+◌, ◌<◌, ◌||◌, eqb, ℕ, List, map, length, sym, ap, ◌∙◌, subst}
+use Rattle.std.specs.List.{All, filter, filter_map, flat_map, list_any, range_with_len}
+use Rattle.std.specs.List.Sorted.{IsPermutation}
+use Rattle.sas_task.specs.declared.parts.Pair.{Pair}
+use Rattle.fdr_encoder.specs.Places.{pair, places, first_place, last_value}
 use Rattle.fdr_encoder.specs.Split.{values_left, is_looked_at}
+use Rattle.fdr_encoder.specs.Marks.{values_marked}
+use Rattle.fdr_encoder.proofs.Looked.{looked_are}
+use Rattle.fdr_encoder.proofs.Marked.{values_are, looked_at_is, wanted_fit, barred_fit}
 use Rattle.fdr_encoder.proofs.splits.split.Goals as goal
+
+pub pools-requires-clause-wanted_fit : goal.pools-requires-clause-wanted_fit
+pools-requires-clause-wanted_fit c =
+    let cover = c.args.index.now in
+    let wanted = c.by_variable-wanted.result.items in
+    let barred = c.by_variable-barred.result.items in
+    let wants = subst (λ l. IsPermutation l wanted) (c.in_ok-all_places.ensures ∙ ap (flat_map (places cover)) c.as_slice.ensures) c.by_variable-wanted.ensures.same in
+    let bars = subst (λ l. IsPermutation l barred) (c.in_ok-first_places.ensures ∙ ap (filter_map (first_place cover)) c.as_slice-2.ensures) c.by_variable-barred.ensures.same in
+    subst (All (λ (p : Pair). p.val < last_value cover p.var + 1)) (sym c.as_slice-5.ensures.value) (wanted_fit cover c.args.literals.now wanted barred wants bars)
+
+pub pools-requires-clause-barred_fit : goal.pools-requires-clause-barred_fit
+pools-requires-clause-barred_fit c =
+    let cover = c.args.index.now in
+    let wanted = c.by_variable-wanted.result.items in
+    let barred = c.by_variable-barred.result.items in
+    let wants = subst (λ l. IsPermutation l wanted) (c.in_ok-all_places.ensures ∙ ap (flat_map (places cover)) c.as_slice.ensures) c.by_variable-wanted.ensures.same in
+    let bars = subst (λ l. IsPermutation l barred) (c.in_ok-first_places.ensures ∙ ap (filter_map (first_place cover)) c.as_slice-2.ensures) c.by_variable-barred.ensures.same in
+    subst (All (λ (p : Pair). p.val < last_value cover p.var + 1)) (sym c.as_slice-6.ensures.value) (barred_fit cover c.args.literals.now wanted barred wants bars)
 
 pub returns : goal.returns
 returns c =
     let cover = c.args.index.now in
     let literals = c.args.literals.now in
+    let wanted = c.by_variable-wanted.result.items in
+    let barred = c.by_variable-barred.result.items in
+    let vars = c.in_ok-vars.vars.items in
+    let wants = subst (λ l. IsPermutation l wanted) (c.in_ok-all_places.ensures ∙ ap (flat_map (places cover)) c.as_slice.ensures) c.by_variable-wanted.ensures.same in
+    let bars = subst (λ l. IsPermutation l barred) (c.in_ok-first_places.ensures ∙ ap (filter_map (first_place cover)) c.as_slice-2.ensures) c.by_variable-barred.ensures.same in
     let values = values_left cover literals in
+    let of = λ (ws bs : List Pair) (vs : List ℕ). map (λ var. map (pair var) (values_marked cover ws bs var)) vs in
+    let marked = λ (var : ℕ).
+    c.in_ok-vars.ensures.marked var
+    ∙ ap (λ (ws : List Pair). list_any (λ p. eqb p.var var) ws || list_any (λ p. eqb p.var var) c.as_slice-4.result.now) c.as_slice-3.ensures.value
+    ∙ ap (λ (bs : List Pair). list_any (λ p. eqb p.var var) wanted || list_any (λ p. eqb p.var var) bs) c.as_slice-4.ensures.value
+    ∙ sym (looked_at_is cover literals wanted barred wants bars var) in
     c.combined.ensures values (filter (is_looked_at cover literals) (range_with_len 0 (length cover))) (
     c.in_ok-pools.ensures
-    ∙ ap (λ (vars : List ℕ). map (λ var. map (pair var) (values var)) vars) (c.as_slice.ensures.value ∙ c.in_ok-vars.ensures))
+    ∙ ap (λ ws. of ws c.as_slice-6.result.now c.as_slice-7.result.now) c.as_slice-5.ensures.value
+    ∙ ap (λ bs. of wanted bs c.as_slice-7.result.now) c.as_slice-6.ensures.value
+    ∙ ap (λ vs. of wanted barred vs) c.as_slice-7.ensures.value
+    ∙ ap (λ (f : ℕ → List ℕ). map (λ var. map (pair var) (f var)) vars) (λ i var. values_are cover literals wanted barred wants bars var i)
+    ∙ ap (map (λ var. map (pair var) (values var))) (looked_are cover literals vars c.in_ok-vars.ensures.in_order marked))
