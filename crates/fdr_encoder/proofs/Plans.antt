@@ -1,5 +1,5 @@
 -- An encoding simulates the reached task both ways.
-use Rattle.std.proofs.Common.{Option, Some, None, ◌≡◌, ℕ, ◌<◌, ◌≤◌, true, false, not, eqb, List, [], ◌∷◌, map, length, get_or, refl, sym, ap, ◌∙◌, subst, inl, inr, arith}
+use Rattle.std.proofs.Common.{Option, Some, None, ◌≡◌, ◌&&◌, ◌||◌, ℕ, ◌<◌, ◌≤◌, true, false, not, eqb, List, [], ◌∷◌, map, length, get_or, refl, sym, ap, ◌∙◌, subst, inl, inr, arith}
 use Rattle.std.specs.Option.{option_map_or}
 use Rattle.std.specs.List.{Contains, All, filter, range_with_len}
 use Rattle.std.proofs.Math.Bool.{and-true}
@@ -258,19 +258,22 @@ module _ (reached : Reached) (lawful : IsLawful reached) (cover : Cover) (ok : I
       let same : value_in cover next in'.0 ≡ value_in cover state in'.0 = sym (low_of next vector there.lists in'.0 in'.1) ∙ low_of state vector here.lists in'.0 in'.1 in
       true_at_place set f in'.2 next (same ∙ place_of_true set f in'.2 state (one_state state here.is_reached in'.0 in'.1) is)
 
+  -- an effect is on a fact
+  on_a_fact : (a : ReachedAction) → Contains reached.actions a → (f : ℕ) → length reached.facts ≤ f → (e : ReachedEffect) → Contains a.effects e → e.fact ≡ f → ⊥
+  on_a_fact a in' f past e e-in here =
+      let low : e.fact < length reached.facts = (All-contains (IsLawfulEffect reached) a.effects e (lawful_action a in').each_effect e-in).fact in
+      let high : length reached.facts ≤ e.fact = subst (λ g. length reached.facts ≤ g) (sym here) past in
+      omega arith
+
   -- an action leaves what is no fact
   leaves_others : (state full : State ℕ) (a : ReachedAction) → Contains reached.actions a → (f : ℕ) → length reached.facts ≤ f → after full a state f ≡ state f
   leaves_others state full a in' f past =
-      let outside = λ (e : ReachedEffect) (e-in : Contains a.effects e) (here : e.fact ≡ f).
-      let low = (All-contains (IsLawfulEffect reached) a.effects e (lawful_action a in').each_effect e-in).fact in
-      let high : length reached.facts ≤ e.fact = subst (λ g. length reached.facts ≤ g) (sym here) past in
-      omega (arith, low, high) in
       let unadded : is_added full a f ≡ false = false_from_ne_true (is_added full a f) (λ h.
       let e = any_member (adds_fact full f) a.effects h in
-      outside e.0 e.1 (eqb-true e.0.fact f (and_parts (eqb e.0.fact f) _ (and_parts e.0.adds _ e.2).1).0)) in
+      on_a_fact a in' f past e.0 e.1 (eqb-true e.0.fact f (and_parts (eqb e.0.fact f) _ (and_parts e.0.adds _ e.2).1).0)) in
       let undeleted : is_deleted full a f ≡ false = false_from_ne_true (is_deleted full a f) (λ h.
       let e = any_member (deletes_fact full f) a.effects h in
-      outside e.0 e.1 (eqb-true e.0.fact f (and_parts (eqb e.0.fact f) _ (and_parts (not e.0.adds) _ e.2).1).0)) in
+      on_a_fact a in' f past e.0 e.1 (eqb-true e.0.fact f (and_parts (eqb e.0.fact f) _ (and_parts (not e.0.adds) _ e.2).1).0)) in
       ap (λ b. b || (state f && not (is_deleted full a f))) unadded ∙ ap (λ b. state f && not b) undeleted ∙ and-true (state f)
 
   -- a step between two states of one vector is idle

@@ -121,7 +121,7 @@ const BELL: &str = "(define (domain bell) (:constants l1) (:predicates (at ?l) (
  (:action move :parameters (?x ?y) :precondition (at ?x) :effect (and (not (at ?x)) (at ?y)))
  (:action ring :precondition (not (at l1)) :effect (rung)))";
 
-static MOVES_AND_RINGS: [&str; 15] = [
+const MOVES_AND_RINGS: &[&str] = &[
     "move l1 l2 / 0 / 1 / 0 0 0 1 / 1",
     "move l1 l3 / 0 / 1 / 0 0 0 2 / 1",
     "move l1 l4 / 0 / 1 / 0 0 0 3 / 1",
@@ -155,7 +155,7 @@ static NEGATED: [Row; 3] = [
         groups: &["0 0 / 0 1 / 0 2 / 0 3"],
         state: "0 / 1",
         goal: "1 / 1 0",
-        operators: &MOVES_AND_RINGS,
+        operators: MOVES_AND_RINGS,
         rules: &[],
         found: (3, 1),
     },
@@ -175,7 +175,7 @@ static NEGATED: [Row; 3] = [
         groups: &["0 0 / 0 1 / 0 2 / 0 3"],
         state: "0 / 1 / 1",
         goal: "1 / 2 0",
-        operators: &MOVES_AND_RINGS,
+        operators: MOVES_AND_RINGS,
         rules: &["1 / 0 1 / 2 1 0", "1 / 0 2 / 2 1 0", "1 / 0 3 / 2 1 0"],
         found: (3, 1),
     },
