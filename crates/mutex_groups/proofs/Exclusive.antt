@@ -1,7 +1,6 @@
 -- Groups are exclusive: a reachable state of the reached task shows one of the normal task, where the instance has weight at most one.
-use Rattle.std.proofs.Common.{◌≡◌, ℕ, zero, suc, ◌+◌, ◌<◌, ◌≤◌, Bool, true, false, not, ◌&&◌, List, [], ◌∷◌, map, length, nat_eq, refl, sym, ap, ◌∙◌, subst, arith, inl, inr, Option, Some, None}
-use Rattle.std.specs.Cmp.Lexicographic.{pointwise}
-use Rattle.std.specs.List.{Contains, filter, list_all, range_with_len, slice_get}
+use Rattle.std.proofs.Common.{◌≡◌, ℕ, zero, suc, ◌+◌, ◌<◌, true, false, not, ◌&&◌, List, length, nat_eq, refl, sym, ap, ◌∙◌, subst, arith, inl, inr, Option, Some, None}
+use Rattle.std.specs.List.{Contains, list_all, range_with_len, slice_get}
 use Rattle.std.specs.Option.{option_map, option_map_or, unwrap_or}
 use Rattle.std.proofs.lemmas.Bool.{true≢false, and_parts, eqb-true, not-true, not_from_false}
 use Rattle.std.specs.List.Sorted.{IsStrictlyIncreasing}
@@ -9,16 +8,14 @@ use Rattle.std.proofs.lemmas.List.FromFn.{length-range_with_len, get_or-range_wi
 use Rattle.std.proofs.lemmas.List.Kept.{IsStrictlyIncreasing-filter}
 use Rattle.std.proofs.lemmas.Option.{slice_get-map}
 use Rattle.runs.proofs.Systems.{state_follows}
-use Rattle.lists.proofs.Items.{Among, among_contains, among_filter, filter_among, all_passes, each_passes, passing}
+use Rattle.lists.proofs.Items.{Among, among_contains, filter_among, all_passes, each_passes, passing}
 use Rattle.normal_task.specs.declared.task.GroundAtom.{GroundAtom}
 use Rattle.normal_task.specs.declared.task.Normal.{Normal}
 use Rattle.normal_task.specs.declared.task.PredicateRow.{PredicateRow}
 use Rattle.normal_task.specs.Lawful.{IsLawful}
 use Rattle.normal_task.specs.Meaning as normal
 use Rattle.normal_task.specs.Meaning.{is_same_atom, is_derived, normal_task}
-use Rattle.planning.specs.Task.{State}
-use Rattle.planning.specs.Plan.{IsReachable, system}
-use Rattle.static_matcher.specs.declared.types.Ground.{Ground}
+use Rattle.planning.specs.Plan.{system}
 use Rattle.static_matcher.specs.GroundTask.{ground_task, is_fixed}
 use Rattle.static_matcher.specs.Instances.{static_settling}
 use Rattle.static_matcher.specs.Literals.{meaning}
@@ -38,13 +35,13 @@ use Rattle.relaxed_reach.proofs.Numbers.{place_among, place_is}
 use Rattle.invariant_check.specs.declared.types.Candidate.{Candidate}
 use Rattle.invariant_check.specs.declared.types.Part.{Part}
 use Rattle.invariant_check.specs.Accepted.{is_accepted}
-use Rattle.invariant_check.specs.Candidates.{part_covers, covers, IsAtMostOne}
+use Rattle.invariant_check.specs.Candidates.{part_covers, covers}
 use Rattle.invariant_check.specs.Law.{is_basic}
 use Rattle.invariant_check.specs.Extensions.{is_changing}
 use Rattle.invariant_check.specs.WellFormed.{is_well_formed}
 use Rattle.invariant_check.proofs.Sound.{invariants_are_sound}
 use Rattle.invariant_check.proofs.Weights.{most_of_weight}
-use Rattle.mutex_groups.specs.Groups.{covers_fact, IsGroup, AreGroups}
+use Rattle.mutex_groups.specs.Groups.{covers_fact, IsGroup}
 use Rattle.mutex_groups.specs.Laws.{IsReachedOf, IsExclusive, GroupsAreExclusive, GroupsAreSorted, GroupsAreFacts, GroupsAreBasic}
 use Rattle.mutex_groups.proofs.Formed.{formed-part}
 

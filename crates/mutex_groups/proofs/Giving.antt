@@ -1,5 +1,5 @@
 -- The groups that initial atoms give are all groups.
-use Rattle.std.proofs.Common.{◌≡◌, ℕ, zero, suc, ◌<◌, Bool, true, false, not, ◌&&◌, ◌||◌, List, [], ◌∷◌, Option, Some, None, map, length, nat_eq, nat_lt, get_or, refl, sym, ap, ◌∙◌, subst, arith, if◌then◌else◌, inl, inr}
+use Rattle.std.proofs.Common.{◌≡◌, ℕ, zero, suc, ◌<◌, Bool, true, false, not, ◌&&◌, ◌||◌, List, [], ◌∷◌, Option, Some, None, map, length, nat_eq, get_or, refl, sym, ap, ◌∙◌, subst, arith, if◌then◌else◌, inl, inr}
 use Rattle.std.specs.Prelude.{replicate}
 use Rattle.std.specs.List.{list_any, list_all, filter, find, range_with_len, slice_get, Contains, IsDistinct}
 use Rattle.std.specs.Option.{option_map, option_map_or}
@@ -20,7 +20,7 @@ use Rattle.relaxed_reach.specs.declared.types.Reached.{Reached}
 use Rattle.invariant_check.specs.declared.types.Candidate.{Candidate}
 use Rattle.invariant_check.specs.declared.types.Part.{Part}
 use Rattle.invariant_check.specs.Candidates.{at_positions, covers}
-use Rattle.invariant_check.specs.Extensions.{is_changing, arity_of}
+use Rattle.invariant_check.specs.Extensions.{arity_of}
 use Rattle.mutex_groups.specs.declared.tables.Weight.{Weight}
 use Rattle.invariant_check.specs.WellFormed.{is_well_formed}
 use Rattle.mutex_groups.specs.Groups.{covered_facts, IsInstance, IsGroup, AreGroups}

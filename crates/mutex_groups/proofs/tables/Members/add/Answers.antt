@@ -13,7 +13,7 @@ returns-in_ok-push-in-Some c =
     subst (λ (l : List ℕ). (other : List ℕ) → numbers_in (seen (λ key. key.items) (λ numbers. numbers.items) (c.get_mut.follows.lender c.push.new.self).entries) other
     ≡ (if is_same other l then numbers_in c.args.self.now other ++ c.args.number ∷ [] else numbers_in c.args.self.now other)) c.as_slice.ensures.value
     (numbered (λ key. key.items) (λ numbers. numbers.items) c.as_slice.result.now c.self.inside.table.entries c.args.self.now c.self.view_is (c.get_mut.follows.lender c.push.new.self).entries c.push.new.self c.args.number
-    (c.in_ok-push-in-Some.ensures.items ∙ ap (λ (l : List ℕ). l ++ c.args.number ∷ []) (sym was)) updates.1 updates.3)
+    (◌∙◌ {A = List ℕ} c.in_ok-push-in-Some.ensures.items (ap (λ (l : List ℕ). l ++ c.args.number ∷ []) (sym was))) updates.1 updates.3)
 
 pub returns-in_ok-insert-in-None : goal.returns-in_ok-insert-in-None
 returns-in_ok-insert-in-None c =
