@@ -1,5 +1,6 @@
 use Rattle.std.proofs.Common.{length}
 use Rattle.normal_task.specs.Normalised.{normal}
+use Rattle.mutex_groups.specs.Laws.{IsReachedOf}
 use Rattle.translator.proofs.Translated.{mutexes, translates}
 use Rattle.translator.proofs.law.run_task_translates.Goals as goal
 
@@ -13,7 +14,7 @@ returns c pair most found task checked is_found run =
     let reached_lawful = c.lawful-3.ensures encoding.grounded encoding.reached ground_lawful encoding.is_reached in
     let statics = c.statics_kept.ensures pair.domain pair.problem checked.faultless in
     let ranked = c.no_recursion.ensures made encoding.grounded statics encoding.is_ground (c.instances_ranked.ensures pair.domain pair.problem checked.faultless) in
-    let reached_of = record { ground_of = encoding.grounded; is_ground = encoding.is_ground; is_reached = encoding.is_reached } in
+    let reached_of : IsReachedOf made encoding.reached = record { ground_of = encoding.grounded; is_ground = encoding.is_ground; is_reached = encoding.is_reached } in
     let formed = c.finds.ensures.well_formed made most found is_found in
     let exclusive = c.groups_are_exclusive.ensures made found.accepted encoding.reached encoding.groups normal_lawful formed encoding.are_groups reached_of (c.finds.ensures.accepted made most found is_found) in
     let are_mutexes = mutexes made found.accepted encoding.reached encoding.groups c.groups_of_facts.ensures.sorted c.groups_of_facts.ensures.facts c.groups_of_facts.ensures.basic reached_of formed encoding.are_groups exclusive in

@@ -1,5 +1,6 @@
 use Rattle.std.proofs.Common.{List, length, sym, ap, subst}
 use Rattle.relaxed_reach.specs.declared.types.Fact.{Fact}
+use Rattle.mutex_groups.specs.Laws.{IsReachedOf}
 use Rattle.group_cover.specs.Cover.{IsCover}
 use Rattle.translator.proofs.Translated.{mutexes, encoding_of_run}
 use Rattle.translator.proofs.translation.encoded.Goals as goal
@@ -12,7 +13,7 @@ pub encode-requires-clause-groups : goal.encode-requires-clause-groups
 encode-requires-clause-groups c =
     let made = c.args.normal.now in
     let reached = c.in_ok-reached.reached in
-    let reached_of = record { ground_of = c.in_ok-ground.ground; is_ground = c.in_ok-ground.ensures.instances; is_reached = c.in_ok-reached.ensures.reached } in
+    let reached_of : IsReachedOf made reached = record { ground_of = c.in_ok-ground.ground; is_ground = c.in_ok-ground.ensures.instances; is_reached = c.in_ok-reached.ensures.reached } in
     mutexes made c.args.found.now.accepted reached c.in_ok-groups.groups.groups c.groups_of_facts.ensures.sorted c.groups_of_facts.ensures.facts c.groups_of_facts.ensures.basic
     reached_of c.requires.well_formed c.in_ok-groups.ensures.groups (c.in_ok-groups.ensures.exclusive reached_of c.requires.accepted)
 
