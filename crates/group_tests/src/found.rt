@@ -100,7 +100,7 @@ fn grouped_by(alloc: Global, normal: &Normal) -> Result<Grouped, AllocError>
 }
 
 /// The reached task of two texts without a fault, and the groups of the candidates that are accepted.
-pub(crate) fn grouped(alloc: Global, domain: &str, problem: &str) -> Option<Grouped> {
+pub(crate) fn grouped_of(alloc: Global, domain: &str, problem: &str) -> Option<Grouped> {
     let domain = domain_of(alloc, domain)?;
     let problem = problem_of(alloc, problem)?;
     let checked = checked_of(alloc, domain, problem)?;

@@ -6,4 +6,4 @@
 #[cfg(test)]
 mod found;
 #[cfg(test)]
-mod grouped;
+mod worked;

@@ -1,6 +1,6 @@
 //! Groups and covers, worked by hand. A row has the names of facts.
 
-use crate::found::{Grouped, grouped};
+use crate::found::{Grouped, grouped_of};
 use group_cover::cover;
 use lists::List;
 use relaxed_reach::Fact;
@@ -39,7 +39,7 @@ fn are_groups(grouped: &Grouped, rows: &[Names]) -> bool {
 }
 
 fn has_groups(alloc: Global, domain: &str, problem: &str, rows: &[Names]) -> bool {
-    match grouped(alloc, domain, problem) {
+    match grouped_of(alloc, domain, problem) {
         Some(grouped) => are_groups(&grouped, rows),
         None => false,
     }
@@ -55,7 +55,7 @@ fn are_sets(facts: &[Fact], sets: &[List<u64>], rows: &[Names]) -> bool {
 }
 
 fn has_cover(alloc: Global, domain: &str, problem: &str, rows: &[Names]) -> bool {
-    match grouped(alloc, domain, problem) {
+    match grouped_of(alloc, domain, problem) {
         Some(grouped) => is_covered(alloc, &grouped, rows),
         None => false,
     }
