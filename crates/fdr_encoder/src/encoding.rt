@@ -36,8 +36,8 @@ use std::alloc::{AllocError, Global};
 ///
 /// Groups stand as they are given, and operators in the byte order of their names, those of one name in the order of the
 /// task's actions, each with its effects by variable, then conditions, then new value; one without effects is written
-/// too. Rules stand in the order of the task's axioms, and the goal's behind them. The time is linear in what is written,
-/// but for look-ups and sorting. It fails only where memory is refused.
+/// too. Rules stand in the order of the task's axioms, and the goal's behind them. The time is linear in the task and in
+/// what the splits give before anything is left out, but for look-ups and sorting. It fails only where memory is refused.
 pub fn encode(
     alloc: Global,
     reached: &Reached,
