@@ -3,7 +3,7 @@ use Rattle.std.proofs.Common.{◌≡◌, ℕ, ◌<◌, ◌≤◌, true, false, L
 use Rattle.std.specs.List.{Contains, All, range_with_len}
 use Rattle.std.specs.List.Sorted.{IsStrictlyIncreasing}
 use Rattle.std.proofs.lemmas.Bool.{both_ways, cases_eq, cases_lt}
-use Rattle.std.proofs.lemmas.List.Elements.{All-contains, Contains-get_or}
+use Rattle.std.proofs.lemmas.List.Elements.{All-contains, All-from_get_or, Contains-get_or}
 use Rattle.std.proofs.lemmas.List.FromFn.{length-map-range_with_len, get_or-map-range_with_len}
 use Rattle.sas_task.proofs.Members.{no_member, member_first, all_from_members}
 use Rattle.fdr_encoder.proofs.Lists.{member_single}
@@ -11,7 +11,7 @@ use Rattle.planning.specs.Task.{State}
 use Rattle.relaxed_reach.specs.declared.types.Reached.{Reached}
 use Rattle.relaxed_reach.specs.ReachedTask.{is_derived}
 use Rattle.fdr_encoder.specs.Places.{Cover, set_of}
-use Rattle.fdr_encoder.specs.Simulates.{AtMostOne, IsCover, IsMutex}
+use Rattle.fdr_encoder.specs.Simulates.{AtMostOne, IsExclusive, IsCover, IsGroup}
 use Rattle.fdr_encoder.specs.Covers.{singles, IsGroupCover}
 use Rattle.group_cover.specs.Cover.{IsCover as IsCoverBy, AreParts, uncovered, single}
 use Rattle.group_cover.proofs.Parts.{covers_all, covers_once, lie_inside, are_filled, are_sorted, are_facts}
@@ -25,8 +25,30 @@ one_fact (g ∷ h ∷ set) f in' small = absurd (omega arith)
 alone_exclusive : (state : State ℕ) (f : ℕ) → AtMostOne state (f ∷ [])
 alone_exclusive state f g h g-in h-in g-true h-true = sym (member_single f g g-in) ∙ member_single f h h-in
 
-pub cover_from_groups : (reached : Reached) (groups : List (List ℕ)) (cover : Cover) → All (IsMutex reached) groups → IsGroupCover (length reached.facts) groups cover → IsCover reached cover
-cover_from_groups reached groups cover mutex is =
+-- each large set lies inside a group
+abbrev LieIn : List (List ℕ) → Cover → Type 0
+LieIn groups cover = (var : ℕ) → var < length cover → 2 ≤ length (set_of cover var) → (group : List ℕ) × Contains groups group × ((fact : ℕ) → Contains (set_of cover var) fact → Contains group fact)
+
+exclusive_sets : (reached : Reached) (groups : List (List ℕ)) (cover : Cover) → All (IsExclusive reached) groups → LieIn groups cover → All (IsExclusive reached) cover
+exclusive_sets reached groups cover exclusive inside =
+    All-from_get_or (IsExclusive reached) cover [] (λ var below state reachable. elim (cases_lt (length (set_of cover var)) 2) [
+      | inl small ↦ λ f g f-in g-in f-true g-true. alone_exclusive state f f g (member_first f []) (subst (λ l. Contains l g) (one_fact (set_of cover var) f f-in small) g-in) f-true g-true
+      | inr large ↦
+          let group = inside var below large in
+          λ f g f-in g-in f-true g-true. All-contains (IsExclusive reached) groups group.0 exclusive group.1 state reachable f g (group.2 f f-in) (group.2 g g-in) f-true g-true
+    ])
+
+pub exclusive_from_groups : (reached : Reached) (groups : List (List ℕ)) (cover : Cover) → All (IsExclusive reached) groups → IsGroupCover (length reached.facts) groups cover → All (IsExclusive reached) cover
+exclusive_from_groups reached groups cover exclusive is = exclusive_sets reached groups cover exclusive is.inside
+
+pub exclusive_by_groups : (reached : Reached) (groups : List (List ℕ)) (cover : Cover) → All (IsExclusive reached) groups → IsCoverBy (length reached.facts) groups cover → All (IsExclusive reached) cover
+exclusive_by_groups reached groups cover exclusive is =
+    exclusive_sets reached groups cover exclusive (λ var low large.
+    let group = lie_inside (length reached.facts) groups cover is (set_of cover var) (Contains-get_or cover var [] low) large in
+    (group.group, group.of_groups, group.inside))
+
+pub cover_from_groups : (reached : Reached) (groups : List (List ℕ)) (cover : Cover) → All (IsGroup reached) groups → IsGroupCover (length reached.facts) groups cover → IsCover reached cover
+cover_from_groups reached groups cover are-groups is =
     record {
       facts = is.are_facts;
       filled = is.filled;
@@ -36,16 +58,10 @@ cover_from_groups reached groups cover mutex is =
         | inl same ↦ same
         | inr apart ↦ let group = is.once var other fact below other-below apart in' other-in in absurd (both_ways (is_derived reached.facts fact) (basic group.0 group.1 fact group.2) derived)
       ];
-      exclusive = λ var below state reachable. elim (cases_lt (length (set_of cover var)) 2) [
-        | inl small ↦ λ f g f-in g-in f-true g-true. alone_exclusive state f f g (member_first f []) (subst (λ l. Contains l g) (one_fact (set_of cover var) f f-in small) g-in) f-true g-true
-        | inr large ↦
-            let group = is.inside var below large in
-            λ f g f-in g-in f-true g-true. (law group.0 group.1).exclusive state reachable f g (group.2 f f-in) (group.2 g g-in) f-true g-true
-      ];
     }
   where
-    law : (group : List ℕ) → Contains groups group → IsMutex reached group
-    law group in' = All-contains (IsMutex reached) groups group mutex in'
+    law : (group : List ℕ) → Contains groups group → IsGroup reached group
+    law group in' = All-contains (IsGroup reached) groups group are-groups in'
 
     basic : (group : List ℕ) → Contains groups group → (f : ℕ) → Contains group f → is_derived reached.facts f ≡ false
     basic group in' f f-in = All-contains (λ f. is_derived reached.facts f ≡ false) group f (law group in').basic f-in
@@ -73,16 +89,16 @@ cover_of_groups facts groups cover is below =
     set_in : (var : ℕ) → var < length cover → Contains cover (set_of cover var)
     set_in var low = Contains-get_or cover var [] low
 
--- what mutex groups lend to the cover by them
-module _ (reached : Reached) (groups : List (List ℕ)) (cover : Cover) (mutex : All (IsMutex reached) groups) (is : IsCoverBy (length reached.facts) groups cover) where
+-- what groups lend to the cover by them
+module _ (reached : Reached) (groups : List (List ℕ)) (cover : Cover) (are-groups : All (IsGroup reached) groups) (is : IsCoverBy (length reached.facts) groups cover) where
   group_facts : (group : List ℕ) → Contains groups group → (f : ℕ) → Contains group f → f < length reached.facts
-  group_facts group in' f f-in = All-contains (λ f. f < length reached.facts) group f (All-contains (IsMutex reached) groups group mutex in').facts f-in
+  group_facts group in' f f-in = All-contains (λ f. f < length reached.facts) group f (All-contains (IsGroup reached) groups group are-groups in').facts f-in
 
-  pub covered_by_mutexes : IsCover reached cover
-  covered_by_mutexes = cover_from_groups reached groups cover mutex (cover_of_groups (length reached.facts) groups cover is group_facts)
+  pub covered_by_groups : IsCover reached cover
+  covered_by_groups = cover_from_groups reached groups cover are-groups (cover_of_groups (length reached.facts) groups cover is group_facts)
 
   pub sets_apart : All IsStrictlyIncreasing cover
-  sets_apart = all_from_members IsStrictlyIncreasing cover (are_sorted (length reached.facts) groups cover is (λ group in'. (All-contains (IsMutex reached) groups group mutex in').sorted))
+  sets_apart = all_from_members IsStrictlyIncreasing cover (are_sorted (length reached.facts) groups cover is (λ group in'. (All-contains (IsGroup reached) groups group are-groups in').sorted))
 
   pub sets_of_facts : All (λ set. All (λ fact. fact < length reached.facts) set) cover
   sets_of_facts =
@@ -118,6 +134,9 @@ module _ (facts : ℕ) where
 
 pub singles_are_cover : (reached : Reached) → IsCover reached (singles (length reached.facts))
 singles_are_cover reached = cover_from_groups reached [] (singles (length reached.facts)) (λ k d below. absurd (omega arith)) (singles_cover (length reached.facts))
+
+pub singles_exclusive : (reached : Reached) → All (IsExclusive reached) (singles (length reached.facts))
+singles_exclusive reached = exclusive_from_groups reached [] (singles (length reached.facts)) (λ k d below. absurd (omega arith)) (singles_cover (length reached.facts))
 
 -- without groups the cover has the single facts
 no_parts : (parts : List (List ℕ)) → AreParts [] [] parts → parts ≡ []

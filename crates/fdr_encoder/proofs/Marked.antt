@@ -1,20 +1,20 @@
 -- What literals leave, read from the marks that they make, variable by variable.
 use Rattle.std.proofs.Common.{◌≡◌, ℕ, ◌+◌, ◌<◌, ◌≤◌, Bool, true, false, cond, not, eqb, ltb, leb, ◌&&◌, ◌||◌, Option, Some, None, List, [], ◌∷◌, ◌++◌, append-nil, map, take, drop, length, get_or, refl, sym, ap, ◌∙◌, subst, inl, inr, arith}
-use Rattle.std.specs.List.{All, AllWithin, Contains, filter, filter_map, flat_map, range_with_len, list_all, list_any, cons_option, dedup, slice_get}
-use Rattle.std.specs.List.Sorted.{IsPermutation, IsNonDecreasingBy, IsPartitionPoint, IsStrictlyIncreasing}
+use Rattle.std.specs.List.{All, Contains, filter, filter_map, flat_map, range_with_len, list_all, list_any, cons_option, dedup, slice_get}
+use Rattle.std.specs.List.Sorted.{IsPermutation, IsNonDecreasingBy, IsPartitionPoint}
 use Rattle.std.specs.Option.{option_map_or}
-use Rattle.std.proofs.lemmas.Bool.{cases_Bool, both_ways, eqb-true, eq-eqb, ltb-true, lt-ltb, leb-true, leb-false, ltb-false, and_parts, false_from_ne_true, true_from_ne_false, cond-true, cond-false}
+use Rattle.std.proofs.lemmas.Bool.{cases_Bool, both_ways, eqb-true, eq-eqb, ltb-true, leb-true, leb-false, ltb-false, and_parts, false_from_ne_true, cond-true, cond-false}
 use Rattle.std.proofs.lemmas.List.{take-append-drop, get_or-take, get_or-drop, length-take-le, length-drop}
 use Rattle.std.proofs.lemmas.List.Sums.{AllPass-from_list_all, list_all-from_AllPass}
 use Rattle.std.proofs.lemmas.List.Folds.{list_all-append}
-use Rattle.std.proofs.lemmas.List.Elements.{All-contains, All-filter, filter-append}
+use Rattle.std.proofs.lemmas.List.Elements.{All-contains, filter-append}
 use Rattle.std.proofs.lemmas.List.Sorted.{IsPermutation-sym, All-permutation, list_any-IsPermutation}
 use Rattle.std.proofs.lemmas.List.Kept.{IsStrictlyIncreasing-filter, Contains-dedup_nat, Contains-from_dedup}
 use Rattle.lists.proofs.Items.{any_flat_map}
 use Rattle.sas_task.specs.declared.parts.Pair.{Pair}
-use Rattle.sas_task.proofs.Members.{no_member, member_first, member_later, member_cases, member_range, flat_map_member, all_from_members}
+use Rattle.sas_task.proofs.Members.{member_first, member_later, member_range, flat_map_member, all_from_members}
 use Rattle.static_matcher.specs.declared.types.Cond.{Cond}
-use Rattle.fdr_encoder.specs.Places.{Cover, pair, set_of, places, first_place, stands_in, last_value}
+use Rattle.fdr_encoder.specs.Places.{Cover, pair, set_of, places, first_place, last_value}
 use Rattle.fdr_encoder.specs.Split.{is_looked_at, is_left, values_left}
 use Rattle.fdr_encoder.specs.Marks.{on, leaves, pool, values_marked}
 use Rattle.fdr_encoder.proofs.Lists.{map_member, member_filter, filter_member, filter_map_member, any_member, member_any, member_single, same_in_order}
@@ -123,33 +123,36 @@ filter_every : {X : Type 0} (p : X → Bool) (xs : List X) → ((x : X) → Cont
 filter_every p [] all = refl
 filter_every p (x ∷ xs) all = cond-true (p x) (x ∷ filter p xs) (filter p xs) (all x (member_first x xs)) ∙ ap (λ l. x ∷ l) (filter_every p xs (λ y in'. all y (member_later x y xs in')))
 
-filter_no : {X : Type 0} (p : X → Bool) (xs : List X) → ((x : X) → Contains xs x → p x ≡ false) → filter p xs ≡ []
+pub filter_no : {X : Type 0} (p : X → Bool) (xs : List X) → ((x : X) → Contains xs x → p x ≡ false) → filter p xs ≡ []
 filter_no p [] none = refl
 filter_no p (x ∷ xs) none = cond-false (p x) (x ∷ filter p xs) (filter p xs) (none x (member_first x xs)) ∙ filter_no p xs (λ y in'. none y (member_later x y xs in'))
 
-module _ (var : ℕ) (marks : List Pair) (up : IsNonDecreasingBy (λ p. p.var) marks) (s k : ℕ) where
-  abbrev rest : List Pair
+module _ {X : Type 0} (key : X → ℕ) (var : ℕ) (marks : List X) (up : IsNonDecreasingBy key marks) (s k : ℕ) where
+  abbrev keyed : List X → List X
+  keyed = filter (λ x. eqb (key x) var)
+
+  abbrev rest : List X
   rest = drop s marks
 
-  on_rest : IsPartitionPoint (λ p. ltb p.var var ≡ true) (λ p. ltb p.var var ≡ false) marks s → s ≤ length marks → IsPartitionPoint (λ p. leb p.var var ≡ true) (λ p. leb p.var var ≡ false) rest k → k ≤ length rest → take k rest ≡ on var marks
+  on_rest : IsPartitionPoint (λ p. ltb (key p) var ≡ true) (λ p. ltb (key p) var ≡ false) marks s → s ≤ length marks → IsPartitionPoint (λ p. leb (key p) var ≡ true) (λ p. leb (key p) var ≡ false) rest k → k ≤ length rest → take k rest ≡ keyed marks
   on_rest parted within parted' within' =
-      sym (ap (on var) (sym (take-append-drop s marks)) ∙ filter-append (λ p. eqb p.var var) (take s marks) rest
-      ∙ ap (λ l. l ++ on var rest) (filter_no (λ p. eqb p.var var) (take s marks) low)
-      ∙ ap (on var) (sym (take-append-drop k rest)) ∙ filter-append (λ p. eqb p.var var) (take k rest) (drop k rest)
-      ∙ ap (λ l. on var (take k rest) ++ l) (filter_no (λ p. eqb p.var var) (drop k rest) high)
-      ∙ append-nil (on var (take k rest))
-      ∙ filter_every (λ p. eqb p.var var) (take k rest) here)
+      sym (ap keyed (sym (take-append-drop s marks)) ∙ filter-append (λ p. eqb (key p) var) (take s marks) rest
+      ∙ ap (λ l. l ++ keyed rest) (filter_no (λ p. eqb (key p) var) (take s marks) low)
+      ∙ ap keyed (sym (take-append-drop k rest)) ∙ filter-append (λ p. eqb (key p) var) (take k rest) (drop k rest)
+      ∙ ap (λ l. keyed (take k rest) ++ l) (filter_no (λ p. eqb (key p) var) (drop k rest) high)
+      ∙ append-nil (keyed (take k rest))
+      ∙ filter_every (λ p. eqb (key p) var) (take k rest) here)
     where
-      low : (p : Pair) → Contains (take s marks) p → eqb p.var var ≡ false
+      low : (p : X) → Contains (take s marks) p → eqb (key p) var ≡ false
       low p in' =
           let i = in'.0 in
           let long = length-take-le s marks within in
           let below : i < s = omega (arith, in'.1) in
           let is : get_or marks i p ≡ p = sym (get_or-take s marks i p below) ∙ in'.2 in
-          let less : p.var < var = ltb-true p.var var (subst (λ (q : Pair). ltb q.var var ≡ true) is (parted.0 i p (omega arith) below)) in
-          false_from_ne_true (eqb p.var var) (λ h. let e = eqb-true p.var var h in absurd (omega arith))
+          let less : key p < var = ltb-true (key p) var (subst (λ (q : X). ltb (key q) var ≡ true) is (parted.0 i p (omega arith) below)) in
+          false_from_ne_true (eqb (key p) var) (λ h. let e = eqb-true (key p) var h in absurd (omega arith))
 
-      here : (p : Pair) → Contains (take k rest) p → eqb p.var var ≡ true
+      here : (p : X) → Contains (take k rest) p → eqb (key p) var ≡ true
       here p in' =
           let i = in'.0 in
           let long = length-take-le k rest within' in
@@ -157,22 +160,22 @@ module _ (var : ℕ) (marks : List Pair) (up : IsNonDecreasingBy (λ p. p.var) m
           let below : i < k = omega (arith, in'.1) in
           let at : get_or rest i p ≡ p = sym (get_or-take k rest i p below) ∙ in'.2 in
           let is : get_or marks (s + i) p ≡ p = sym (get_or-drop s marks i p) ∙ at in
-          let most : p.var ≤ var = leb-true p.var var (subst (λ (q : Pair). leb q.var var ≡ true) at (parted'.0 i p (omega arith) below)) in
-          let least : var ≤ p.var = ltb-false p.var var (subst (λ (q : Pair). ltb q.var var ≡ false) is (parted.1 (s + i) p (omega arith) (omega arith))) in
-          eq-eqb p.var var (omega arith)
+          let most : key p ≤ var = leb-true (key p) var (subst (λ (q : X). leb (key q) var ≡ true) at (parted'.0 i p (omega arith) below)) in
+          let least : var ≤ key p = ltb-false (key p) var (subst (λ (q : X). ltb (key q) var ≡ false) is (parted.1 (s + i) p (omega arith) (omega arith))) in
+          eq-eqb (key p) var (omega arith)
 
-      high : (p : Pair) → Contains (drop k rest) p → eqb p.var var ≡ false
+      high : (p : X) → Contains (drop k rest) p → eqb (key p) var ≡ false
       high p in' =
           let i = in'.0 in
           let left = length-drop k rest in
           let below : k + i < length rest = omega (arith, in'.1) in
           let is : get_or rest (k + i) p ≡ p = sym (get_or-drop k rest i p) ∙ in'.2 in
-          let more : var < p.var = leb-false p.var var (subst (λ (q : Pair). leb q.var var ≡ false) is (parted'.1 (k + i) p (omega arith) below)) in
-          false_from_ne_true (eqb p.var var) (λ h. let e = eqb-true p.var var h in absurd (omega arith))
+          let more : var < key p = leb-false (key p) var (subst (λ (q : X). leb (key q) var ≡ false) is (parted'.1 (k + i) p (omega arith) below)) in
+          false_from_ne_true (eqb (key p) var) (λ h. let e = eqb-true (key p) var h in absurd (omega arith))
 
-  pub on_is : (l : List Pair) → l ≡ rest → IsPartitionPoint (λ p. ltb p.var var ≡ true) (λ p. ltb p.var var ≡ false) marks s → s ≤ length marks → IsPartitionPoint (λ p. leb p.var var ≡ true) (λ p. leb p.var var ≡ false) l k → k ≤ length l → take k l ≡ on var marks
+  pub on_is : (l : List X) → l ≡ rest → IsPartitionPoint (λ p. ltb (key p) var ≡ true) (λ p. ltb (key p) var ≡ false) marks s → s ≤ length marks → IsPartitionPoint (λ p. leb (key p) var ≡ true) (λ p. leb (key p) var ≡ false) l k → k ≤ length l → take k l ≡ keyed marks
   on_is l is parted within parted' within' =
-      ap (take k) is ∙ on_rest parted within (subst (λ r. IsPartitionPoint (λ p. leb p.var var ≡ true) (λ p. leb p.var var ≡ false) r k) is parted') (subst (λ r. k ≤ length r) is within')
+      ap (take k) is ∙ on_rest parted within (subst (λ r. IsPartitionPoint (λ p. leb (key p) var ≡ true) (λ p. leb (key p) var ≡ false) r k) is parted') (subst (λ r. k ≤ length r) is within')
 
 -- a list sorted without repeats has the same numbers
 pub any_dedup : (var : ℕ) (xs : List ℕ) → list_any (λ v. eqb v var) (dedup eqb xs) ≡ list_any (λ v. eqb v var) xs

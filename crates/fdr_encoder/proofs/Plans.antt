@@ -34,7 +34,7 @@ use Rattle.fdr_encoder.specs.Places.{Cover, pair, set_of, has, first_place, last
 use Rattle.fdr_encoder.specs.Effects.{effects_of, simplified}
 use Rattle.relaxed_reach.specs.Lawful.{IsLawfulEffect, IsLawfulAction, IsLawful}
 use Rattle.fdr_encoder.specs.Encoding.{is_groups, group_of, groups_of, IsSameOperator, IsEncoding}
-use Rattle.fdr_encoder.specs.Simulates.{IsCover, IsMutex, Shows, Correspond, Simulates}
+use Rattle.fdr_encoder.specs.Simulates.{IsCover, IsExclusive, IsGroup, Shows, Correspond, Simulates}
 use Rattle.fdr_encoder.proofs.Lists.{any_member, member_map, map_member, filter_member}
 use Rattle.fdr_encoder.proofs.Sets.{has_member, place_of_true, true_at_place, same_place}
 use Rattle.fdr_encoder.proofs.After.{adds_fact, deletes_fact, is_added, is_deleted, after, successor_is}
@@ -46,7 +46,7 @@ use Rattle.fdr_encoder.proofs.Parts.{operator_with, within, start_at, start_last
 use Rattle.fdr_encoder.proofs.Standing.{exclusive_full, action_placed, stays_plain, starts_plain, literals_stand}
 use Rattle.fdr_encoder.proofs.Full.{shown, shown_low, shown_past, read, read_full, values_show, goal_meets}
 
-module _ (reached : Reached) (lawful : IsLawful reached) (cover : Cover) (ok : IsCover reached cover) (mutexes : List (List ℕ)) (are-mutex : All (IsMutex reached) mutexes) (layers : List ℕ) (task : Task) (encoding : IsEncoding cover mutexes layers reached task) (valid : IsValid task) where
+module _ (reached : Reached) (lawful : IsLawful reached) (cover : Cover) (ok : IsCover reached cover) (mutexes : List (List ℕ)) (are-groups : All (IsGroup reached) mutexes) (sets-exclusive : All (IsExclusive reached) cover) (groups-exclusive : All (IsExclusive reached) mutexes) (layers : List ℕ) (task : Task) (encoding : IsEncoding cover mutexes layers reached task) (valid : IsValid task) where
   abbrev n : ℕ
   n = length cover
 
@@ -79,7 +79,7 @@ module _ (reached : Reached) (lawful : IsLawful reached) (cover : Cover) (ok : I
     pub plain : (f : ℕ) → is_derived reached.facts f ≡ true → state f ≡ false
 
   one_state : (state : State ℕ) → IsReachable (meaning T) state → AreExclusive cover state
-  one_state state is var below = ok.exclusive var below state is
+  one_state state is var below = sets-exclusive var [] below state is
 
   lawful_action : (a : ReachedAction) → Contains reached.actions a → IsLawfulAction reached a
   lawful_action a in' = All-contains (IsLawfulAction reached) reached.actions a lawful.actions in'
@@ -410,11 +410,12 @@ module _ (reached : Reached) (lawful : IsLawful reached) (cover : Cover) (ok : I
       let is-full = full_is s.0 vector s.2 in
       let shows = shows_full s.0 vector s.2 full is-full in
       let raw = map_member (group_of cover) (filter _ mutexes) g (Contains-permutation task.groups (groups_of cover mutexes) g (IsPermutation-sym (groups_of cover mutexes) task.groups encoding.groups) g-in) in
-      let mutex = All-contains (IsMutex reached) mutexes raw.0 are-mutex (filter_member _ mutexes raw.0 raw.1).0 in
+      let of-groups = (filter_member _ mutexes raw.0 raw.1).0 in
+      let basic = (All-contains (IsGroup reached) mutexes raw.0 are-groups of-groups).basic in
       let a = place_of raw.0 full (values task vector) shows p (subst (λ (h : Group). Contains h.facts p) (sym raw.2) p-in) p-at in
       let b = place_of raw.0 full (values task vector) shows q (subst (λ (h : Group). Contains h.facts q) (sym raw.2) q-in) q-at in
-      let state-true = λ (f : ℕ) (f-in : Contains raw.0 f) (f-is : full f ≡ true). sym (is-full.basic f (All-contains (λ f. is_derived reached.facts f ≡ false) raw.0 f mutex.basic f-in)) ∙ f-is in
-      let one = mutex.exclusive s.0 s.1 a.fact b.fact a.of_group b.of_group (state-true a.fact a.of_group a.is) (state-true b.fact b.of_group b.is) in
+      let state-true = λ (f : ℕ) (f-in : Contains raw.0 f) (f-is : full f ≡ true). sym (is-full.basic f (All-contains (λ f. is_derived reached.facts f ≡ false) raw.0 f basic f-in)) ∙ f-is in
+      let one = All-contains (IsExclusive reached) mutexes raw.0 groups-exclusive of-groups s.0 s.1 a.fact b.fact a.of_group b.of_group (state-true a.fact a.of_group a.is) (state-true b.fact b.of_group b.is) in
       let same-var : p.var ≡ q.var = sym a.first ∙ ap (λ f. option_map_or (λ (q : Pair). q.var) (first_place cover f) 0) one ∙ b.first in
       let same-val : p.val ≡ q.val = sym p-at ∙ ap (λ v. get_or (values task vector) v 0) same-var ∙ q-at in
       λ i. record { var = same-var i; val = same-val i }

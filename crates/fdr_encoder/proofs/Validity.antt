@@ -1,14 +1,12 @@
 -- An encoding is a valid task.
-use Rattle.std.proofs.Common.{◌≡◌, ℕ, suc, ◌+◌, ◌<◌, ◌≤◌, Bool, true, false, cond, not, ◌&&◌, eqb, max, List, [], ◌∷◌, ◌++◌, map, length, get_or, Some, None, refl, sym, ap, ◌∙◌, subst, inl, inr, arith, length-append}
+use Rattle.std.proofs.Common.{◌≡◌, ℕ, suc, ◌+◌, ◌<◌, ◌≤◌, Bool, true, false, cond, not, eqb, max, List, [], ◌∷◌, ◌++◌, map, length, get_or, Some, None, refl, sym, ap, ◌∙◌, subst, inl, inr, arith, length-append}
 use Rattle.std.specs.Prelude.{◌^◌, IsSomeAnd, IsNone, IsSome, IfSome, fold}
 use Rattle.std.specs.List.{Contains, All, filter, flat_map, range_with_len, list_any, position_or_len}
-use Rattle.std.specs.List.Sorted.{IsStrictlyIncreasing}
 use Rattle.std.specs.Option.{option_map_or}
-use Rattle.std.proofs.lemmas.Bool.{cases_Bool, cases_lt, cond-true, cond-false, leb-true, eqb-true, eq-eqb, and_from, or_cases, both_ways}
+use Rattle.std.proofs.lemmas.Bool.{cases_Bool, cases_lt, cond-true, cond-false, leb-true, eqb-true, or_cases, both_ways}
 use Rattle.std.proofs.lemmas.List.{length-map, get_or-map}
 use Rattle.std.proofs.lemmas.List.Elements.{All-contains, All-append, All-cons, All-nil, Contains-get_or}
 use Rattle.std.proofs.lemmas.List.Sums.{prefix_len-le-length}
-use Rattle.std.proofs.lemmas.List.Kept.{IsStrictlyIncreasing-filter, AllPairs-filter}
 use Rattle.std.proofs.lemmas.List.Sorted.{Contains-permutation, IsPermutation-sym}
 use Rattle.sas_task.specs.declared.parts.Pair.{Pair}
 use Rattle.sas_task.specs.declared.parts.Variable.{Variable}
@@ -17,8 +15,8 @@ use Rattle.sas_task.specs.declared.parts.Effect.{Effect}
 use Rattle.sas_task.specs.declared.parts.Operator.{Operator}
 use Rattle.sas_task.specs.declared.parts.Rule.{Rule}
 use Rattle.sas_task.specs.Task.{Task}
-use Rattle.sas_task.specs.Valid.{IsValid, IsValue, IsFact, AreConditions, IsName, IsValidVariable, ComesBefore, IsValidGroup, IsValidEffect, IsValidOperator, IsBelow, IsValidRule, layer_of, default_of}
-use Rattle.sas_task.proofs.Members.{no_member, member_first, member_cases, member_flat_map, flat_map_member, member_range, range_member, all_from_members}
+use Rattle.sas_task.specs.Valid.{IsValid, IsValue, IsFact, AreConditions, IsName, IsValidVariable, IsValidGroup, IsValidEffect, IsValidOperator, IsBelow, IsValidRule, layer_of, default_of}
+use Rattle.sas_task.proofs.Members.{no_member, member_first, member_cases, flat_map_member, member_range, range_member, all_from_members}
 use Rattle.static_matcher.specs.declared.types.Cond.{Cond}
 use Rattle.static_matcher.specs.declared.types.GoalRow.{GoalRow}
 use Rattle.static_matcher.specs.declared.types.GoalRow.TheVariants as goals
@@ -27,32 +25,25 @@ use Rattle.relaxed_reach.specs.declared.types.Reached.{Reached}
 use Rattle.relaxed_reach.specs.declared.types.ReachedAction.{ReachedAction}
 use Rattle.relaxed_reach.specs.declared.types.ReachedAxiom.{ReachedAxiom}
 use Rattle.relaxed_reach.specs.ReachedTask.{is_derived, reached_task}
-use Rattle.fdr_encoder.specs.Places.{Cover, pair, set_of, has, first_place, stands_in, last_value, value_in}
-use Rattle.fdr_encoder.specs.Split.{is_looked_at, values_left, combinations, split}
+use Rattle.fdr_encoder.specs.Places.{Cover, pair, set_of, first_place, stands_in, last_value, value_in}
+use Rattle.fdr_encoder.specs.Split.{is_looked_at, split}
 use Rattle.fdr_encoder.specs.Effects.{among, can_go, less_known, less_idle, effects_left, is_of_use, simplified, effects_of}
 use Rattle.relaxed_reach.specs.Lawful.{NamesFacts, IsLawfulEffect, IsLawfulAction, IsLawfulAxiom, IsLawfulGoal, IsLawful}
 use Rattle.relaxed_reach.specs.Layers.{Names, AreLayers}
-use Rattle.fdr_encoder.specs.Encoding.{variable_over, goal_variable, goal_split, layer_above, is_groups, group_of, groups_of, rule, GoalPart, IsEncoding}
-use Rattle.fdr_encoder.specs.Simulates.{IsCover, IsMutex}
-use Rattle.fdr_encoder.proofs.Lists.{member_map, map_member, member_filter, filter_member, any_member, member_single}
-use Rattle.fdr_encoder.proofs.Sets.{member_has, place_below, at_place}
+use Rattle.fdr_encoder.specs.Encoding.{variable_over, goal_variable, goal_split, layer_above, group_of, groups_of, rule, GoalPart, IsEncoding}
+use Rattle.fdr_encoder.specs.Simulates.{IsCover, IsGroup}
+use Rattle.fdr_encoder.proofs.Lists.{map_member, filter_member, any_member, member_single}
+use Rattle.fdr_encoder.proofs.Sets.{at_place}
 use Rattle.fdr_encoder.proofs.Placed.{place_is, first, first_in, first_is, stands_member}
 use Rattle.fdr_encoder.proofs.SplitHolds.{combination_pairs, split_pairs}
 use Rattle.fdr_encoder.proofs.OneStep.{effect_from}
 use Rattle.fdr_encoder.proofs.Parts.{RuleFrom, in_one, count, count_state, variable_at, layer_at, start_at, last_variable, variable_last, layer_last, start_last, goal_whole, goal_parted, rule_from, operator_from, is_whole, is_parted, part}
 use Rattle.fdr_encoder.proofs.Standing.{derived_below, value_single, stands, literals_stand, OverBasic, kind, layer_of_basic, starts_plain}
-use Rattle.fdr_encoder.proofs.Rising.{rising_filter, range_rises, range_increases, pairs_flat_map, pairs_map, two_members}
+use Rattle.fdr_encoder.proofs.Rising.{rising_filter, two_members}
+use Rattle.fdr_encoder.proofs.ByVariable.{member_rises}
 use Rattle.fdr_encoder.proofs.Grouped.{places_in, in_variable, group_in_order, first_in_group}
 use Rattle.fdr_encoder.proofs.Texts.{named, variable_valid, goal_variable_valid}
 use Rattle.fdr_encoder.proofs.LayersBelow.{layer_below, above_within}
-
--- the variables of a combination are those that were asked for
-combination_vars : (values : ℕ → List ℕ) (vars : List ℕ) (m : List Pair) → Contains (combinations values vars) m → map (λ p. p.var) m ≡ vars
-combination_vars values [] m in' = ap (λ (l : List Pair). map (λ (p : Pair). p.var) l) (sym (member_single [] m in'))
-combination_vars values (v ∷ vars) m in' =
-    let val = flat_map_member (λ val. map (λ r. pair v val ∷ r) (combinations values vars)) (values v) m in' in
-    let rest = map_member (λ r. pair v val.0 ∷ r) (combinations values vars) m val.2 in
-    ap (λ (l : List Pair). map (λ (p : Pair). p.var) l) (sym rest.2) ∙ ap (λ l. v ∷ l) (combination_vars values vars rest.0 rest.1)
 
 -- a fold by max is at least what each member gives
 fold_max_start : (g : ℕ → ℕ) (xs : List ℕ) (start : ℕ) → start ≤ fold (λ n x. max n (g x)) start xs
@@ -67,7 +58,7 @@ fold_max_member g (y ∷ xs) start x in' =
       | inr later ↦ fold_max_member g xs (max start (g y)) x later
     ]
 
-module _ (reached : Reached) (lawful : IsLawful reached) (cover : Cover) (ok : IsCover reached cover) (mutexes : List (List ℕ)) (are-mutex : All (IsMutex reached) mutexes) (layers : List ℕ) (are-layers : AreLayers reached layers) (few : length reached.facts < 2 ^ 64) (task : Task) (encoding : IsEncoding cover mutexes layers reached task) where
+module _ (reached : Reached) (lawful : IsLawful reached) (cover : Cover) (ok : IsCover reached cover) (mutexes : List (List ℕ)) (are-groups : All (IsGroup reached) mutexes) (layers : List ℕ) (are-layers : AreLayers reached layers) (few : length reached.facts < 2 ^ 64) (task : Task) (encoding : IsEncoding cover mutexes layers reached task) where
   abbrev n : ℕ
   n = length cover
 
@@ -99,7 +90,7 @@ module _ (reached : Reached) (lawful : IsLawful reached) (cover : Cover) (ok : I
   split_conditions literals m in' =
       record {
         facts = all_from_members (IsFact task) m (λ p p-in. let s = split_pairs cover literals m in' p p-in in is_value p.var p.val s.0 s.1);
-        sorted = subst IsStrictlyIncreasing (sym (combination_vars (values_left cover literals) (filter (is_looked_at cover literals) (range_with_len 0 n)) m in')) (IsStrictlyIncreasing-filter (is_looked_at cover literals) (range_with_len 0 n) (range_increases n));
+        sorted = member_rises cover literals m in';
       }
 
   fewer_conditions : (keep : Pair → Bool) (ps : List Pair) → AreConditions task ps → AreConditions task (filter keep ps)
@@ -296,23 +287,23 @@ module _ (reached : Reached) (lawful : IsLawful reached) (cover : Cover) (ok : I
   group_valid g g-in =
       let raw = map_member (group_of cover) (filter _ mutexes) g (Contains-permutation task.groups (groups_of cover mutexes) g (IsPermutation-sym (groups_of cover mutexes) task.groups encoding.groups) g-in) in
       let listed = filter_member _ mutexes raw.0 raw.1 in
-      let mutex = All-contains (IsMutex reached) mutexes raw.0 are-mutex listed.0 in
+      let law = All-contains (IsGroup reached) mutexes raw.0 are-groups listed.0 in
       let large : 2 ≤ length raw.0 = leb-true 2 (length raw.0) listed.1 in
       subst (IsValidGroup task) raw.2 (record {
         facts = all_from_members (IsFact task) (group_of cover raw.0).facts (λ p p-in. let s = group_pairs raw.0 p p-in in let small = s.1 in is_value p.var p.val s.0 (omega arith));
         sorted = group_in_order cover raw.0;
-        two_facts = two_of raw.0 large mutex;
+        two_facts = two_of raw.0 large law;
       })
     where
-      two_of : (group : List ℕ) → 2 ≤ length group → IsMutex reached group → 2 ≤ length (group_of cover group).facts
-      two_of group large mutex =
+      two_of : (group : List ℕ) → 2 ≤ length group → IsGroup reached group → 2 ≤ length (group_of cover group).facts
+      two_of group large law =
           let f = get_or group 0 0 in
           let g = get_or group 1 0 in
-          let less : f < g = mutex.sorted 0 (omega arith) in
+          let less : f < g = law.sorted 0 (omega arith) in
           let f-in : Contains group f = Contains-get_or group 0 0 (omega arith) in
           let g-in' : Contains group g = Contains-get_or group 1 0 (omega arith) in
-          let f-below = All-contains (λ f. f < length reached.facts) group f mutex.facts f-in in
-          let g-below = All-contains (λ f. f < length reached.facts) group g mutex.facts g-in' in
+          let f-below = All-contains (λ f. f < length reached.facts) group f law.facts f-in in
+          let g-below = All-contains (λ f. f < length reached.facts) group g law.facts g-in' in
           two_members (group_of cover group).facts (first cover f) (first cover g) (place_listed group f f-in f-below) (place_listed group g g-in' g-below) (λ same.
           let e : f ≡ g = sym (place_back f f-below) ∙ ap (λ (p : Pair). get_or (set_of cover p.var) p.val 0) same ∙ place_back g g-below in
           absurd (omega arith))

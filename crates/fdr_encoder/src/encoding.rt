@@ -13,7 +13,7 @@ ghost use Rattle.fdr_encoder.specs.Encoding as parts;
 ghost use Rattle.relaxed_reach.specs.Lawful.{IsLawful};
 ghost use Rattle.relaxed_reach.specs.Layers.{AreLayers};
 ghost use Rattle.fdr_encoder.specs.Ordered.{AreByName, IsEncodingInOrder};
-ghost use Rattle.fdr_encoder.specs.Simulates.{IsCover, IsMutex, Simulates};
+ghost use Rattle.fdr_encoder.specs.Simulates.{IsCover, IsExclusive, IsGroup, Simulates};
 
 use crate::flags::flags;
 use crate::goal::{goal_pairs, goal_split, push_goal_rules, push_goal_value, push_goal_variable};
@@ -36,8 +36,8 @@ use std::alloc::{AllocError, Global};
 ///
 /// Groups stand as they are given, and operators in the byte order of their names, those of one name in the order of the
 /// task's actions, each with its effects by variable, then conditions, then new value; one without effects is written
-/// too. Rules stand in the order of the task's axioms, and the goal's behind them. The time is linear in what is written,
-/// but for look-ups and sorting. It fails only where memory is refused.
+/// too. Rules stand in the order of the task's axioms, and the goal's behind them. The time is linear in the task and in
+/// what the splits give before anything is left out, but for look-ups and sorting. It fails only where memory is refused.
 pub fn encode(
     alloc: Global,
     reached: &Reached,
@@ -47,11 +47,11 @@ pub fn encode(
 ) -> Result<SasTask, AllocError>
     requires lawful { IsLawful reached.now }
     requires cover { IsGroupsCover (length reached.now.facts) groups.now.groups cover.now.sets }
-    requires groups { All (IsMutex reached.now) groups.now.groups }
+    requires groups { All (IsGroup reached.now) groups.now.groups }
     requires layers { AreLayers reached.now layers.now }
     ensures encoding { IfOk result (IsEncodingInOrder cover.now.sets groups.now.groups layers.now reached.now) }
     ensures valid { IfOk result IsValid }
-    ensures simulates { IfOk result (Simulates cover.now.sets reached.now) }
+    ensures simulates { All (IsExclusive reached.now) groups.now.groups → IfOk result (Simulates cover.now.sets reached.now) }
 {
     let facts = reached.facts.as_slice().len() as u64;
     let index = Index::new(alloc, facts, cover.sets.as_slice())?;
@@ -79,12 +79,12 @@ fn encode_over(
     requires layers { AreLayers reached.now layers.now }
     requires cover { IsCover reached.now index.now }
     requires apart { All IsStrictlyIncreasing index.now }
-    requires groups { All (IsMutex reached.now) mutexes.now }
+    requires groups { All (IsGroup reached.now) mutexes.now }
     requires few { length reached.now.facts < 2 ^ 64 }
     requires members { members.now ≡ parts.goal_split index.now reached.now.goal }
     ensures encoding { IfOk result (IsEncodingInOrder index.now mutexes.now layers.now reached.now) }
     ensures valid { IfOk result IsValid }
-    ensures simulates { IfOk result (Simulates index.now reached.now) }
+    ensures simulates { All (IsExclusive reached.now) index.now → All (IsExclusive reached.now) mutexes.now → IfOk result (Simulates index.now reached.now) }
 {
     let variables = all_variables(alloc, reached, layers, index, members)?;
     let groups = groups(alloc, index, mutexes)?;

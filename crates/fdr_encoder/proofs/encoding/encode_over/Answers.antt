@@ -45,4 +45,4 @@ returns c =
     let ordered = assembled cover mutexes layers reached members task c.requires.members (ap (λ (t : Task). t.metric) is) (ap (λ (t : Task). t.variables) is ∙ c.in_ok-variables.ensures (length cover)) (ap (λ (t : Task). t.groups) is ∙ c.in_ok-groups.ensures) (ap (λ (t : Task). t.state) is ∙ c.in_ok-state.ensures (length cover) above) (ap (λ (t : Task). t.goal) is ∙ c.in_ok-goal.ensures above ∙ ap (λ var. (goal_part var above members).goal) c.variables-2.ensures) operators (ap (λ (t : Task). t.rules) is ∙ c.in_ok-rules.ensures above) in
     let encoding = in_order_is cover mutexes layers reached task ordered in
     let valid = encoding_is_valid reached c.requires.lawful cover c.requires.cover mutexes c.requires.groups layers c.requires.layers c.requires.few task encoding in
-    record { encoding = ordered; valid = valid; simulates = simulates reached c.requires.lawful cover c.requires.cover mutexes c.requires.groups layers task encoding valid }
+    record { encoding = ordered; valid = valid; simulates = λ sets-exclusive groups-exclusive. simulates reached c.requires.lawful cover c.requires.cover mutexes c.requires.groups sets-exclusive groups-exclusive layers task encoding valid }

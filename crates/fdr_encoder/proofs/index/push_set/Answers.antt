@@ -1,6 +1,5 @@
 -- One more place.
-use Rattle.std.proofs.Common.{◌<◌, ◌++◌, [], Vec, Global, List, get_or, length, map, sym, ap, ◌∙◌, arith}
-use Rattle.std.specs.List.{All}
+use Rattle.std.proofs.Common.{◌<◌, [], Vec, Global, List, get_or, length, map, sym, ap, ◌∙◌, arith}
 use Rattle.std.proofs.lemmas.List.{length-map, length-set}
 use Rattle.std.proofs.lemmas.List.Elements.{All-get_or}
 use Rattle.sas_task.specs.declared.parts.Pair.{Pair}

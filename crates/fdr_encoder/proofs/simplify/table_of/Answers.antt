@@ -1,5 +1,5 @@
 -- One more effect.
-use Rattle.std.proofs.Common.{◌≡◌, ◌+◌, ◌<◌, ◌==◌, ◌&&◌, ◌||◌, Bool, true, false, cond, ℕ, List, [], ◌∷◌, length, take, get_or, refl, sym, ap, ◌∙◌, subst, take_all}
+use Rattle.std.proofs.Common.{◌≡◌, ◌==◌, ◌&&◌, ◌||◌, Bool, true, false, cond, [], ◌∷◌, take, refl, sym, ap, ◌∙◌, subst, take_all}
 use Rattle.std.specs.List.{list_any}
 use Rattle.std.proofs.lemmas.List.Folds.{list_any-append}
 use Rattle.lists.proofs.LoopSteps.{take_next}

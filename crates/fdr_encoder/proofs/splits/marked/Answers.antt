@@ -1,6 +1,6 @@
 -- The variables of the marks, sorted and without repeats.
-use Rattle.std.proofs.Common.{◌≡◌, ◌==◌, ◌++◌, List, ℕ, eqb, sym, ap, ◌∙◌, subst}
-use Rattle.std.specs.List.{dedup, list_any}
+use Rattle.std.proofs.Common.{◌==◌, ◌++◌, ℕ, eqb, sym, ap, ◌∙◌, subst}
+use Rattle.std.specs.List.{list_any}
 use Rattle.std.specs.List.Sorted.{IsStrictlyIncreasing}
 use Rattle.std.proofs.lemmas.List.Filters.{dedup_is}
 use Rattle.std.proofs.lemmas.List.Folds.{list_any-append}

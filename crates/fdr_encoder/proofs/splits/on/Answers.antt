@@ -16,4 +16,4 @@ returns c =
     let whole = take_all (length marks - s) (drop s marks) (omega arith) in
     let low = IsPartitionPoint-from_clause (λ (p : Pair). ltb p.var var) marks s c.partition_point.ensures.partitioned (IsPartitionedBy-ltb key marks var c.requires) (λ a r f' call. search rules) in
     let high = IsPartitionPoint-from_clause (λ (p : Pair). leb p.var var) _ c.partition_point-2.result c.partition_point-2.ensures.partitioned (subst (IsPartitionedBy (λ (p : Pair). leb p.var var)) (sym whole) (IsPartitionedBy-leb key (drop s marks) var (IsNonDecreasingBy-drop key s marks c.requires))) (λ a r f' call. search rules) in
-    on_is var marks c.requires s c.partition_point-2.result _ whole low c.partition_point.ensures.bound high c.partition_point-2.ensures.bound
+    on_is key var marks c.requires s c.partition_point-2.result _ whole low c.partition_point.ensures.bound high c.partition_point-2.ensures.bound

@@ -1,11 +1,13 @@
 -- The combinations of what the marks leave to the variables that have some.
 use Rattle.std.proofs.Common.{◌+◌, ◌<◌, ◌||◌, eqb, ℕ, List, map, length, sym, ap, ◌∙◌, subst}
 use Rattle.std.specs.List.{All, filter, filter_map, flat_map, list_any, range_with_len}
-use Rattle.std.specs.List.Sorted.{IsPermutation}
+use Rattle.std.specs.List.Sorted.{IsPermutation, IsNonDecreasingBy}
+use Rattle.std.proofs.lemmas.Result.{IfOk-weaker}
 use Rattle.sas_task.specs.declared.parts.Pair.{Pair}
 use Rattle.fdr_encoder.specs.Places.{pair, places, first_place, last_value}
 use Rattle.fdr_encoder.specs.Split.{values_left, is_looked_at}
 use Rattle.fdr_encoder.specs.Marks.{values_marked}
+use Rattle.fdr_encoder.proofs.ByVariable.{members_by_variable}
 use Rattle.fdr_encoder.proofs.Looked.{looked_are}
 use Rattle.fdr_encoder.proofs.Marked.{values_are, looked_at_is, wanted_fit, barred_fit}
 use Rattle.fdr_encoder.proofs.splits.split.Goals as goal
@@ -28,8 +30,8 @@ pools-requires-clause-barred_fit c =
     let bars = subst (λ l. IsPermutation l barred) (c.in_ok-first_places.ensures ∙ ap (filter_map (first_place cover)) c.as_slice-2.ensures) c.by_variable-barred.ensures.same in
     subst (All (λ (p : Pair). p.val < last_value cover p.var + 1)) (sym c.as_slice-6.ensures.value) (barred_fit cover c.args.literals.now wanted barred wants bars)
 
-pub returns : goal.returns
-returns c =
+pub returns-clause-split : goal.returns-clause-split
+returns-clause-split c =
     let cover = c.args.index.now in
     let literals = c.args.literals.now in
     let wanted = c.by_variable-wanted.result.items in
@@ -51,3 +53,8 @@ returns c =
     ∙ ap (λ vs. of wanted barred vs) c.as_slice-7.ensures.value
     ∙ ap (λ (f : ℕ → List ℕ). map (λ var. map (pair var) (f var)) vars) (λ i var. values_are cover literals wanted barred wants bars var i)
     ∙ ap (map (λ var. map (pair var) (values var))) (looked_are cover literals vars c.in_ok-vars.ensures.in_order marked))
+
+pub returns-clause-by_variable : goal.returns-clause-by_variable
+returns-clause-by_variable c =
+    IfOk-weaker c.combined.result _ (λ all. All (IsNonDecreasingBy (λ (p : Pair). p.var)) all.items) (λ all is.
+    subst (All (IsNonDecreasingBy (λ (p : Pair). p.var))) (sym is) (members_by_variable c.args.index.now c.args.literals.now)) (returns-clause-split c)

@@ -1,0 +1,15 @@
+-- The choices are those from the rivals on the variable.
+use Rattle.std.proofs.Common.{◌++◌, List, ℕ, take_all, ap, ◌∙◌}
+use Rattle.std.specs.List.{flat_map}
+use Rattle.static_matcher.specs.declared.types.Cond.{Cond}
+use Rattle.fdr_encoder.specs.Places.{pair, last_value}
+use Rattle.fdr_encoder.specs.Effects.{both, is_true, sets_where, choices}
+use Rattle.fdr_encoder.proofs.effects.push_deletes.Goals as goal
+
+pub returns : goal.returns
+returns c effects are =
+    let e = c.args.effect.now in
+    let var = c.args.var in
+    let f = λ (choice : Cond ℕ). sets_where c.args.index.now (pair var (last_value c.args.index.now var)) (both e.condition (both (is_true e.fact) choice)) in
+    c.loop-choice.invariant
+    ∙ ap (λ (cs : List (Cond ℕ)). c.args.out.now.items ++ flat_map f cs) (take_all c.loop-choice.choice-index c.as_slice-choice-items.result.now c.loop-choice-test.false ∙ c.as_slice-choice-items.ensures.value ∙ c.in_ok-all.ensures ∙ ap choices (are var))

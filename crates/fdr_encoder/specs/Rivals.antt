@@ -1,0 +1,24 @@
+-- Words of the code: the add effects of an action, gathered by variable.
+use Rattle.std.specs.Prelude.{◌≡◌, ℕ, ◌==◌, List, [], map, if◌then◌else◌}
+use Rattle.std.specs.List.{filter}
+use Rattle.static_matcher.specs.declared.types.Cond.{Cond}
+use Rattle.relaxed_reach.specs.declared.types.ReachedEffect.{ReachedEffect}
+use Rattle.fdr_encoder.specs.declared.rivals.Rival.{Rival}
+use Rattle.fdr_encoder.specs.Places.{Cover, places}
+use Rattle.fdr_encoder.specs.Effects.{rivals}
+
+-- a rival's variable and condition
+abbrev pub seen : Rival → ℕ × Cond ℕ
+seen rival = (rival.var, rival.condition.now)
+
+-- an add effect is a rival at each place of its fact
+abbrev pub rivals_of : Cover → ReachedEffect → List (ℕ × Cond ℕ)
+rivals_of cover e = if e.adds then map (λ p. (p.var, e.condition)) (places cover e.fact) else []
+
+-- the conditions of the rivals on a variable
+abbrev pub conditions_on : ℕ → List Rival → List (Cond ℕ)
+conditions_on var all = map (λ r. r.condition.now) (filter (λ r. r.var == var) all)
+
+-- on each variable they are those of the add effects on its facts
+abbrev pub AreRivals : Cover → List ReachedEffect → List Rival → Type 0
+AreRivals cover effects all = (var : ℕ) → conditions_on var all ≡ rivals cover effects var
