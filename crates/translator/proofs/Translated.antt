@@ -24,10 +24,10 @@ use Rattle.relaxed_reach.specs.Reachable.{IsReachedTask}
 use Rattle.relaxed_reach.specs.Layers.{AreLayers}
 use Rattle.relaxed_reach.specs.Law as reach
 use Rattle.mutex_groups.specs.Groups.{IsGroup, AreGroups}
-use Rattle.mutex_groups.specs.Laws.{IsReachedOf, IsExclusive, GroupsAreSorted, GroupsAreFacts, GroupsAreBasic}
+use Rattle.mutex_groups.specs.Laws.{IsReachedOf, GroupsAreSorted, GroupsAreFacts, GroupsAreBasic}
 use Rattle.group_cover.specs.Cover.{IsCover}
 use Rattle.fdr_encoder.specs.Ordered.{IsEncodingInOrder}
-use Rattle.fdr_encoder.specs.Simulates.{IsMutex, Simulates}
+use Rattle.fdr_encoder.specs.Simulates.{IsGroup as IsSortedGroup, Simulates}
 use Rattle.task_simplifier.specs.Changing.{KeepsChanging}
 use Rattle.task_simplifier.specs.Projection.{IsProjection}
 use Rattle.sas_task.specs.Task.{Task}
@@ -44,18 +44,17 @@ use Rattle.translator.specs.Theorem.{Translates}
 use Rattle.translator.specs.Written.{IsWritten, IsTextWhere, StopsWhere}
 use Rattle.translator.proofs.Texts.{memory_stops}
 
--- exclusive groups of well formed candidates are mutex groups
-pub mutexes : (made : Normal) (candidates : List Candidate) (reached : Reached) (groups : List (List ℕ)) →
+-- the groups of well formed candidates are sorted and have basic facts
+pub sorted_groups : (made : Normal) (candidates : List Candidate) (reached : Reached) (groups : List (List ℕ)) →
     GroupsAreSorted → GroupsAreFacts → GroupsAreBasic → IsReachedOf made reached → list_all (is_well_formed made) candidates ≡ true →
-    AreGroups made candidates reached groups → ((group : List ℕ) → Contains groups group → IsExclusive reached group) → All (IsMutex reached) groups
-mutexes made candidates reached groups sorted facts basic reached_of formed are exclusive =
-    all_from_members (IsMutex reached) groups (λ group in'.
+    AreGroups made candidates reached groups → All (IsSortedGroup reached) groups
+sorted_groups made candidates reached groups sorted facts basic reached_of formed are =
+    all_from_members (IsSortedGroup reached) groups (λ group in'.
     let is : IsGroup made candidates reached group = (are.all group).0 in' in
     record {
       sorted = sorted made candidates reached group is;
       facts = all_from_members (λ f. f < length reached.facts) group (facts made candidates reached group is);
       basic = all_from_members (λ f. is_derived reached.facts f ≡ false) group (basic made candidates reached group reached_of formed is);
-      exclusive = exclusive group in';
     })
 
 module _ (domain : Domain) (problem : Problem) (grounded : Ground) (reached : Reached) (sets : List (List ℕ)) (encoded task : Task)

@@ -9,7 +9,7 @@ ghost use Rattle.sas_task.specs.Task.{Task};
 ghost use Rattle.translator.specs.RunTask.{IsRunTask};
 ghost use Rattle.translator.specs.Theorem.{Translates};
 
-use fdr_encoder::laws::{covers, in_any_order, simulation};
+use fdr_encoder::laws::{covers, exclusive_covers, in_any_order, simulation};
 use invariant_guess::laws::finds;
 use mutex_groups::laws::{groups_are_exclusive, groups_of_facts};
 use normal_task::laws::same_task;
@@ -35,6 +35,7 @@ pub(crate) fn run_task_translates()
     groups_are_exclusive();
     groups_of_facts();
     covers();
+    exclusive_covers();
     in_any_order();
     simulation();
     projection_keeps();

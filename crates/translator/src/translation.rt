@@ -9,7 +9,6 @@ ghost use Rattle.pddl_parser.specs.Reading.{domain_reading, problem_reading};
 ghost use Rattle.pddl_parser.specs.Spelled.{IsWellSpelled, IsWellSpelledProblem};
 ghost use Rattle.normal_task.specs.Lawful.{IsLawful as IsLawfulNormal};
 ghost use Rattle.normal_task.specs.Normalised as spec;
-ghost use Rattle.invariant_check.specs.Accepted.{is_accepted};
 ghost use Rattle.invariant_check.specs.WellFormed.{is_well_formed};
 ghost use Rattle.invariant_guess.specs.Trial.{IsFound};
 ghost use Rattle.static_matcher.specs.Lawful.{IsLawful as IsLawfulGround};
@@ -98,7 +97,6 @@ fn made_of(alloc: Global, checked: &Checked, max_candidates: u32) -> Result<Made
 fn run_task(alloc: Global, normal: &Normal, found: &Found) -> Result<SasTask, AllocError>
     requires lawful { IsLawfulNormal normal.now }
     requires well_formed { list_all (is_well_formed normal.now) found.now.accepted ≡ true }
-    requires accepted { list_all (is_accepted normal.now) found.now.accepted ≡ true }
     ensures { IfOk result (IsRunTask normal.now found.now) }
 {
     let encoded = encoded(alloc, normal, found)?;
@@ -109,7 +107,6 @@ fn run_task(alloc: Global, normal: &Normal, found: &Found) -> Result<SasTask, Al
 fn encoded(alloc: Global, normal: &Normal, found: &Found) -> Result<SasTask, AllocError>
     requires lawful { IsLawfulNormal normal.now }
     requires well_formed { list_all (is_well_formed normal.now) found.now.accepted ≡ true }
-    requires accepted { list_all (is_accepted normal.now) found.now.accepted ≡ true }
     ensures { IfOk result (IsRunEncoding normal.now found.now) }
 {
     groups_of_facts();

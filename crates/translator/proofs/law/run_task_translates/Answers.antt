@@ -1,7 +1,9 @@
 use Rattle.std.proofs.Common.{length}
 use Rattle.normal_task.specs.Normalised.{normal}
 use Rattle.mutex_groups.specs.Laws.{IsReachedOf}
-use Rattle.translator.proofs.Translated.{mutexes, translates}
+use Rattle.fdr_encoder.specs.Simulates.{IsExclusive}
+use Rattle.sas_task.proofs.Members.{all_from_members}
+use Rattle.translator.proofs.Translated.{sorted_groups, translates}
 use Rattle.translator.proofs.law.run_task_translates.Goals as goal
 
 pub returns : goal.returns
@@ -16,14 +18,16 @@ returns c pair most found task checked is_found run =
     let ranked = c.no_recursion.ensures made encoding.grounded statics encoding.is_ground (c.instances_ranked.ensures pair.domain pair.problem checked.faultless) in
     let reached_of : IsReachedOf made encoding.reached = record { ground_of = encoding.grounded; is_ground = encoding.is_ground; is_reached = encoding.is_reached } in
     let formed = c.finds.ensures.well_formed made most found is_found in
-    let exclusive = c.groups_are_exclusive.ensures made found.accepted encoding.reached encoding.groups normal_lawful formed encoding.are_groups reached_of (c.finds.ensures.accepted made most found is_found) in
-    let are_mutexes = mutexes made found.accepted encoding.reached encoding.groups c.groups_of_facts.ensures.sorted c.groups_of_facts.ensures.facts c.groups_of_facts.ensures.basic reached_of formed encoding.are_groups exclusive in
-    let covers = c.covers.ensures.by_groups encoding.reached encoding.groups encoding.sets are_mutexes encoding.is_cover in
+    let each = c.groups_are_exclusive.ensures made found.accepted encoding.reached encoding.groups normal_lawful formed encoding.are_groups reached_of (c.finds.ensures.accepted made most found is_found) in
+    let exclusive = all_from_members (IsExclusive encoding.reached) encoding.groups each in
+    let sorted = sorted_groups made found.accepted encoding.reached encoding.groups c.groups_of_facts.ensures.sorted c.groups_of_facts.ensures.facts c.groups_of_facts.ensures.basic reached_of formed encoding.are_groups in
+    let covers = c.covers.ensures.by_groups encoding.reached encoding.groups encoding.sets sorted encoding.is_cover in
+    let exclusive_sets = c.exclusive_covers.ensures.by_groups encoding.reached encoding.groups encoding.sets exclusive encoding.is_cover in
     translates pair.domain pair.problem encoding.grounded encoding.reached encoding.sets run.encoded task
     (c.same_task.ensures pair.domain pair.problem checked.faultless)
     (c.same_meaning.ensures made encoding.grounded statics encoding.is_ground)
     (c.same_meaning-2.ensures encoding.grounded encoding.reached ranked encoding.is_reached)
-    (c.simulation.ensures encoding.reached encoding.sets encoding.groups encoding.layers run.encoded reached_lawful covers are_mutexes encodes encoding.valid)
+    (c.simulation.ensures encoding.reached encoding.sets encoding.groups encoding.layers run.encoded reached_lawful covers sorted exclusive_sets exclusive encodes encoding.valid)
     (c.projection_keeps.ensures.stands run.encoded task encoding.valid run.projection)
     (c.projection_keeps.ensures.changing run.encoded task encoding.valid run.projection)
     (c.idle_steps.ensures.left_out pair.domain pair.problem)

@@ -2,23 +2,23 @@ use Rattle.std.proofs.Common.{List, length, sym, ap, subst}
 use Rattle.relaxed_reach.specs.declared.types.Fact.{Fact}
 use Rattle.mutex_groups.specs.Laws.{IsReachedOf}
 use Rattle.group_cover.specs.Cover.{IsCover}
-use Rattle.translator.proofs.Translated.{mutexes, encoding_of_run}
+use Rattle.translator.proofs.Translated.{sorted_groups, encoding_of_run}
 use Rattle.translator.proofs.translation.encoded.Goals as goal
 
 pub encode-requires-clause-cover : goal.encode-requires-clause-cover
 encode-requires-clause-cover c =
-    subst (λ n. IsCover n c.in_ok-groups.groups.groups c.in_ok-cover.cover.sets) (ap (λ (fs : List Fact). length fs) c.as_slice.ensures) c.in_ok-cover.ensures
+    subst (λ n. IsCover n c.in_ok-groups.groups.groups c.in_ok-cover.cover.sets) (ap (λ (fs : List Fact). length fs) c.as_slice-2.ensures) c.in_ok-cover.ensures
 
 pub encode-requires-clause-groups : goal.encode-requires-clause-groups
 encode-requires-clause-groups c =
     let made = c.args.normal.now in
     let reached = c.in_ok-reached.reached in
     let reached_of : IsReachedOf made reached = record { ground_of = c.in_ok-ground.ground; is_ground = c.in_ok-ground.ensures.instances; is_reached = c.in_ok-reached.ensures.reached } in
-    mutexes made c.args.found.now.accepted reached c.in_ok-groups.groups.groups c.groups_of_facts.ensures.sorted c.groups_of_facts.ensures.facts c.groups_of_facts.ensures.basic
-    reached_of c.requires.well_formed c.in_ok-groups.ensures.groups (c.in_ok-groups.ensures.exclusive reached_of c.requires.accepted)
+    sorted_groups made c.args.found.now.accepted reached c.in_ok-groups.groups.groups c.groups_of_facts.ensures.sorted c.groups_of_facts.ensures.facts c.groups_of_facts.ensures.basic
+    reached_of c.requires.well_formed c.in_ok-groups.ensures.groups
 
 pub returns : goal.returns
 returns c =
     encoding_of_run c.args.normal.now c.args.found.now c.in_ok-ground.ground c.in_ok-reached.reached c.in_ok-layers.layers.items c.deref.result.now c.in_ok-groups.groups.groups c.in_ok-cover.cover.sets _ c.encode.result
     c.in_ok-ground.ensures.instances c.in_ok-reached.ensures.reached c.in_ok-layers.ensures.layers c.deref.ensures.value c.in_ok-groups.ensures.groups
-    (ap (λ (fs : List Fact). length fs) c.as_slice.ensures) c.in_ok-cover.ensures c.encode.ensures.encoding c.encode.ensures.valid
+    (ap (λ (fs : List Fact). length fs) c.as_slice-2.ensures) c.in_ok-cover.ensures c.encode.ensures.encoding c.encode.ensures.valid

@@ -8,7 +8,6 @@ pub run_task-requires : goal.run_task-requires
 run_task-requires c = record {
   lawful = subst IsLawful (sym c.in_ok-normal.ensures) (c.lawful.ensures c.args.checked.now.domain c.args.checked.now.problem c.requires.spelled c.requires.spelled_problem c.requires.faultless);
   well_formed = c.finds.ensures.well_formed c.in_ok-normal.normal c.args.max_candidates c.in_ok-found.found c.in_ok-found.ensures;
-  accepted = c.finds.ensures.accepted c.in_ok-normal.normal c.args.max_candidates c.in_ok-found.found c.in_ok-found.ensures;
 }
 
 pub returns-clause-found : goal.returns-clause-found
