@@ -1,5 +1,7 @@
 use Rattle.std.proofs.Common.{List, length, sym, ap, subst}
 use Rattle.relaxed_reach.specs.declared.types.Fact.{Fact}
+use Rattle.invariant_check.specs.declared.types.Candidate.{Candidate}
+use Rattle.mutex_groups.specs.Groups.{AreGroups}
 use Rattle.mutex_groups.specs.Laws.{IsReachedOf}
 use Rattle.group_cover.specs.Cover.{IsCover}
 use Rattle.translator.proofs.Translated.{sorted_groups, encoding_of_run}
@@ -15,10 +17,12 @@ encode-requires-clause-groups c =
     let reached = c.in_ok-reached.reached in
     let reached_of : IsReachedOf made reached = record { ground_of = c.in_ok-ground.ground; is_ground = c.in_ok-ground.ensures.instances; is_reached = c.in_ok-reached.ensures.reached } in
     sorted_groups made c.args.found.now.accepted reached c.in_ok-groups.groups.groups c.groups_of_facts.ensures.sorted c.groups_of_facts.ensures.facts c.groups_of_facts.ensures.basic
-    reached_of c.requires.well_formed c.in_ok-groups.ensures.groups
+    reached_of c.requires.well_formed (subst (λ (candidates : List Candidate). AreGroups made candidates reached c.in_ok-groups.groups.groups) c.as_slice.ensures c.in_ok-groups.ensures.groups)
 
 pub returns : goal.returns
 returns c =
+    let are : AreGroups c.args.normal.now c.args.found.now.accepted c.in_ok-reached.reached c.in_ok-groups.groups.groups =
+        subst (λ (candidates : List Candidate). AreGroups c.args.normal.now candidates c.in_ok-reached.reached c.in_ok-groups.groups.groups) c.as_slice.ensures c.in_ok-groups.ensures.groups in
     encoding_of_run c.args.normal.now c.args.found.now c.in_ok-ground.ground c.in_ok-reached.reached c.in_ok-layers.layers.items c.deref.result.now c.in_ok-groups.groups.groups c.in_ok-cover.cover.sets _ c.encode.result
-    c.in_ok-ground.ensures.instances c.in_ok-reached.ensures.reached c.in_ok-layers.ensures.layers c.deref.ensures.value c.in_ok-groups.ensures.groups
+    c.in_ok-ground.ensures.instances c.in_ok-reached.ensures.reached c.in_ok-layers.ensures.layers c.deref.ensures.value are
     (ap (λ (fs : List Fact). length fs) c.as_slice-2.ensures) c.in_ok-cover.ensures c.encode.ensures.encoding c.encode.ensures.valid
