@@ -22,7 +22,7 @@ use static_matcher::{Ground, instances};
 use std::alloc::{AllocError, Global};
 use std::marker::Brand;
 use std::sync::ledger::{Blank, Ledger};
-use type_checker::{Checked, check};
+use type_checker::{CheckEnd, Checked, check};
 
 /// A reached task, and groups of its facts.
 #[derive(Drop)]
@@ -45,12 +45,12 @@ fn problem_of(alloc: Global, text: &str) -> Option<Problem>
     parse_problem(alloc, &tree).ok()
 }
 
-fn checked_of(alloc: Global, domain: Domain, problem: Problem) -> Option<Checked>
+fn checked_of(alloc: Global, domain: Domain, problem: Problem) -> Result<Checked, CheckEnd>
     requires domain { IsWellSpelled domain }
     requires problem { IsWellSpelledProblem problem }
-    ensures { IfSome result IsChecked }
+    ensures { IfOk result IsChecked }
 {
-    check(alloc, domain, problem).ok()
+    check(alloc, domain, problem)
 }
 
 fn normal_of(alloc: Global, checked: &Checked) -> Result<Normal, AllocError>
@@ -103,7 +103,7 @@ fn grouped_by(alloc: Global, normal: &Normal) -> Result<Grouped, AllocError>
 pub(crate) fn grouped_of(alloc: Global, domain: &str, problem: &str) -> Option<Grouped> {
     let domain = domain_of(alloc, domain)?;
     let problem = problem_of(alloc, problem)?;
-    let checked = checked_of(alloc, domain, problem)?;
+    let checked = checked_of(alloc, domain, problem).ok()?;
     let normal = normal_of(alloc, &checked).ok()?;
     grouped_by(alloc, &normal).ok()
 }
