@@ -22,7 +22,7 @@ encode-requires-clause-groups c =
 pub returns : goal.returns
 returns c =
     let are : AreGroups c.args.normal.now c.args.found.now.accepted c.in_ok-reached.reached c.in_ok-groups.groups.groups =
-        subst (λ (candidates : List Candidate). AreGroups c.args.normal.now candidates c.in_ok-reached.reached c.in_ok-groups.groups.groups) c.as_slice.ensures c.in_ok-groups.ensures.groups in
+    subst (λ (candidates : List Candidate). AreGroups c.args.normal.now candidates c.in_ok-reached.reached c.in_ok-groups.groups.groups) c.as_slice.ensures c.in_ok-groups.ensures.groups in
     encoding_of_run c.args.normal.now c.args.found.now c.in_ok-ground.ground c.in_ok-reached.reached c.in_ok-layers.layers.items c.deref.result.now c.in_ok-groups.groups.groups c.in_ok-cover.cover.sets _ c.encode.result
     c.in_ok-ground.ensures.instances c.in_ok-reached.ensures.reached c.in_ok-layers.ensures.layers c.deref.ensures.value are
     (ap (λ (fs : List Fact). length fs) c.as_slice-2.ensures) c.in_ok-cover.ensures c.encode.ensures.encoding c.encode.ensures.valid
