@@ -90,12 +90,13 @@ fn reached_of(alloc: Global, normal: &Normal) -> Result<Reached, AllocError>
     reached_by::<Brand>(alloc, &ground, Blank::new(1))
 }
 
-fn grouped_by(alloc: Global, normal: &Normal) -> Result<Grouped, AllocError>
-    requires { IsLawful normal.now }
+fn grouped_by(alloc: Global, checked: &Checked) -> Result<Grouped, AllocError>
+    requires { IsChecked checked.now }
 {
-    let found = found_of(alloc, normal)?;
-    let reached = reached_of(alloc, normal)?;
-    let groups = groups(alloc, normal, found.accepted.as_slice(), &reached)?;
+    let normal = normal_of(alloc, checked)?;
+    let found = found_of(alloc, &normal)?;
+    let reached = reached_of(alloc, &normal)?;
+    let groups = groups(alloc, &normal, found.accepted.as_slice(), &reached)?;
     Ok(Grouped { reached, groups })
 }
 
@@ -104,6 +105,5 @@ pub(crate) fn grouped_of(alloc: Global, domain: &str, problem: &str) -> Option<G
     let domain = domain_of(alloc, domain)?;
     let problem = problem_of(alloc, problem)?;
     let checked = checked_of(alloc, domain, problem).ok()?;
-    let normal = normal_of(alloc, &checked).ok()?;
-    grouped_by(alloc, &normal).ok()
+    grouped_by(alloc, &checked).ok()
 }
