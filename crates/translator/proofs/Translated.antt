@@ -1,6 +1,6 @@
 -- The task that the passes make of a domain and a problem translates them: the laws of the passes, one after another.
 use Rattle.std.proofs.Common.{◌≡◌, ℕ, ◌<◌, true, false, List, length, sym, subst}
-use Rattle.std.specs.Prelude.{Result, Ok, Err, IfOk, IfErr, ◌↔◌, Contains, All}
+use Rattle.std.specs.Prelude.{Result, Ok, Err, IfOk, IfErr, All}
 use Rattle.std.specs.List.{list_all}
 use Rattle.planning.specs.Plan.{LeavesPlan}
 use Rattle.planning.proofs.IdleSteps.{left_plan}

@@ -1,4 +1,4 @@
-use Rattle.std.proofs.Common.{refl, sym, subst, ap, ◌∙◌, option_map}
+use Rattle.std.proofs.Common.{refl, sym, ap, ◌∙◌, option_map}
 use Rattle.command_line.specs.Accepted.{asked_by}
 use Rattle.translator.proofs.Clauses.{refusal, no_memory, asking}
 use Rattle.translator.proofs.command.called.Goals as goal

@@ -1,4 +1,3 @@
-use Rattle.std.proofs.Common.{length}
 use Rattle.normal_task.specs.Normalised.{normal}
 use Rattle.mutex_groups.specs.Laws.{IsReachedOf}
 use Rattle.fdr_encoder.specs.Simulates.{IsExclusive}

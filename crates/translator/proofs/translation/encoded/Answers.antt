@@ -1,4 +1,4 @@
-use Rattle.std.proofs.Common.{List, length, sym, ap, subst}
+use Rattle.std.proofs.Common.{List, length, ap, subst}
 use Rattle.relaxed_reach.specs.declared.types.Fact.{Fact}
 use Rattle.invariant_check.specs.declared.types.Candidate.{Candidate}
 use Rattle.mutex_groups.specs.Groups.{AreGroups}
