@@ -69,12 +69,12 @@ fn is_covered(alloc: Global, grouped: &Grouped, rows: &[Names]) -> bool {
     }
 }
 
-static SWITCH: &str = "(define (domain switch) (:predicates (on) (off))
+const SWITCH: &str = "(define (domain switch) (:predicates (on) (off))
  (:action flip :parameters () :precondition (off) :effect (and (on) (not (off)))))";
 
-static ONE: &str = "(define (problem one) (:domain switch) (:init (off)) (:goal (on)))";
+const ONE: &str = "(define (problem one) (:domain switch) (:init (off)) (:goal (on)))";
 
-static BLOCKS: &str = "(define (domain blocks)
+const BLOCKS: &str = "(define (domain blocks)
  (:predicates (on ?x ?y) (ontable ?x) (clear ?x) (handempty) (holding ?x))
  (:action pick-up :parameters (?x) :precondition (and (clear ?x) (ontable ?x) (handempty))
   :effect (and (not (ontable ?x)) (not (clear ?x)) (not (handempty)) (holding ?x)))
@@ -85,25 +85,25 @@ static BLOCKS: &str = "(define (domain blocks)
  (:action unstack :parameters (?x ?y) :precondition (and (on ?x ?y) (clear ?x) (handempty))
   :effect (and (holding ?x) (clear ?y) (not (clear ?x)) (not (handempty)) (not (on ?x ?y)))))";
 
-static THREE: &str = "(define (problem three) (:domain blocks) (:objects a b c)
+const THREE: &str = "(define (problem three) (:domain blocks) (:objects a b c)
  (:init (ontable a) (ontable b) (ontable c) (clear a) (clear b) (clear c) (handempty)) (:goal (and (on a b) (on b c))))";
 
-static BACK: &str = "(define (domain back) (:predicates (p ?x) (q ?x))
+const BACK: &str = "(define (domain back) (:predicates (p ?x) (q ?x))
  (:action act :parameters (?x ?y) :precondition (q ?x) :effect (and (p ?x) (not (q ?x)) (q ?y))))";
 
-static TWO: &str = "(define (problem b) (:domain back) (:objects a b) (:init (q a)) (:goal (p b)))";
+const TWO: &str = "(define (problem b) (:domain back) (:objects a b) (:init (q a)) (:goal (p b)))";
 
-static BELL: &str = "(define (domain bell) (:constants l1) (:predicates (at ?l) (rung))
+const BELL: &str = "(define (domain bell) (:constants l1) (:predicates (at ?l) (rung))
  (:action move :parameters (?x ?y) :precondition (at ?x) :effect (and (not (at ?x)) (at ?y)))
  (:action ring :precondition (not (at l1)) :effect (rung)))";
 
-static RUNG: &str =
+const RUNG: &str =
     "(define (problem b) (:domain bell) (:objects l2 l3 l4) (:init (at l1)) (:goal (rung)))";
 
-static BOTH: &str =
+const BOTH: &str =
     "(define (problem both) (:domain back) (:objects a b) (:init (q a) (q b)) (:goal (p b)))";
 
-static GRIPPER: &str =
+const GRIPPER: &str =
     "(define (domain gripper) (:requirements :strips :typing) (:types room ball gripper)
  (:predicates (at-robby ?r - room) (at ?b - ball ?r - room) (free ?g - gripper) (carry ?b - ball ?g - gripper))
  (:action move :parameters (?from ?to - room) :precondition (at-robby ?from)
@@ -113,92 +113,111 @@ static GRIPPER: &str =
  (:action drop :parameters (?b - ball ?r - room ?g - gripper) :precondition (and (carry ?b ?g) (at-robby ?r))
   :effect (and (at ?b ?r) (free ?g) (not (carry ?b ?g)))))";
 
-static BALLS: &str = "(define (problem made) (:domain gripper)
+const BALLS: &str = "(define (problem made) (:domain gripper)
  (:objects rooma roomb - room left right - gripper ball1 ball2 - ball)
  (:init (at-robby rooma) (free left) (free right) (at ball1 rooma) (at ball2 rooma))
  (:goal (and (at ball1 roomb) (at ball2 roomb))))";
 
-#[test]
-fn groups_are_those_of_instances_that_weigh_one(rt: HostRuntime) {
+/// A pair of texts, and the groups of the candidates that are accepted.
+struct Row {
+    domain: &'static str,
+    problem: &'static str,
+    groups: &'static [Names],
+}
+
+static ROWS: [Row; 6] = [
     // Accepted are off alone, which nothing adds, and on with off. Off is true at the start, so both weigh one.
-    assert!(rt; has_groups(rt.alloc(), SWITCH, ONE, &[&["off()"], &["on()", "off()"]]));
+    Row {
+        domain: SWITCH,
+        problem: ONE,
+        groups: &[&["off()"], &["on()", "off()"]],
+    },
     // Accepted are the hand (free, or holding some block); for each block what is below it (a block, the table, the hand);
     // and for each block what is above it (a block, nothing, the hand). At the start the hand is free, each block is on the
     // table, and each is clear: seven instances weigh one. A block on itself is reachable where deletes are ignored: it is
     // held after pick-up, and clear from the start.
-    assert!(rt;
-        has_groups(
-            rt.alloc(),
-            BLOCKS,
-            THREE,
+    Row {
+        domain: BLOCKS,
+        problem: THREE,
+        groups: &[
+            &["handempty()", "holding(a)", "holding(b)", "holding(c)"],
             &[
-                &["handempty()", "holding(a)", "holding(b)", "holding(c)"],
-                &[
-                    "on(a, a)",
-                    "on(a, b)",
-                    "on(a, c)",
-                    "ontable(a)",
-                    "holding(a)"
-                ],
-                &[
-                    "on(b, a)",
-                    "on(b, b)",
-                    "on(b, c)",
-                    "ontable(b)",
-                    "holding(b)"
-                ],
-                &[
-                    "on(c, a)",
-                    "on(c, b)",
-                    "on(c, c)",
-                    "ontable(c)",
-                    "holding(c)"
-                ],
-                &["on(a, a)", "on(b, a)", "on(c, a)", "clear(a)", "holding(a)"],
-                &["on(a, b)", "on(b, b)", "on(c, b)", "clear(b)", "holding(b)"],
-                &["on(a, c)", "on(b, c)", "on(c, c)", "clear(c)", "holding(c)"],
-            ]
-        )
-    );
+                "on(a, a)",
+                "on(a, b)",
+                "on(a, c)",
+                "ontable(a)",
+                "holding(a)",
+            ],
+            &[
+                "on(b, a)",
+                "on(b, b)",
+                "on(b, c)",
+                "ontable(b)",
+                "holding(b)",
+            ],
+            &[
+                "on(c, a)",
+                "on(c, b)",
+                "on(c, c)",
+                "ontable(c)",
+                "holding(c)",
+            ],
+            &["on(a, a)", "on(b, a)", "on(c, a)", "clear(a)", "holding(a)"],
+            &["on(a, b)", "on(b, b)", "on(c, b)", "clear(b)", "holding(b)"],
+            &["on(a, c)", "on(b, c)", "on(c, c)", "clear(c)", "holding(c)"],
+        ],
+    },
     // Accepted is the place. It is l1 at the start, and each place can be reached. Rung is in no candidate.
-    assert!(rt;
-        has_groups(
-            rt.alloc(),
-            BELL,
-            RUNG,
-            &[&["at(l1)", "at(l2)", "at(l3)", "at(l4)"]]
-        )
-    );
+    Row {
+        domain: BELL,
+        problem: RUNG,
+        groups: &[&["at(l1)", "at(l2)", "at(l3)", "at(l4)"]],
+    },
     // Accepted is what q counts. It is a alone at the start, and b can get it.
-    assert!(rt; has_groups(rt.alloc(), BACK, TWO, &[&["q(a)", "q(b)"]]));
+    Row {
+        domain: BACK,
+        problem: TWO,
+        groups: &[&["q(a)", "q(b)"]],
+    },
     // The same with a and b at the start: the instance weighs two.
-    assert!(rt; has_groups(rt.alloc(), BACK, BOTH, &[]));
+    Row {
+        domain: BACK,
+        problem: BOTH,
+        groups: &[],
+    },
     // Accepted are the room; for each ball its room or gripper; and for each gripper that it is free, or its ball. Instances
     // for a room or a gripper as the ball, or a room or a ball as the gripper, weigh nothing.
-    assert!(rt;
-        has_groups(
-            rt.alloc(),
-            GRIPPER,
-            BALLS,
+    Row {
+        domain: GRIPPER,
+        problem: BALLS,
+        groups: &[
+            &["at-robby(rooma)", "at-robby(roomb)"],
             &[
-                &["at-robby(rooma)", "at-robby(roomb)"],
-                &[
-                    "at(ball1, rooma)",
-                    "at(ball1, roomb)",
-                    "carry(ball1, left)",
-                    "carry(ball1, right)"
-                ],
-                &[
-                    "at(ball2, rooma)",
-                    "at(ball2, roomb)",
-                    "carry(ball2, left)",
-                    "carry(ball2, right)"
-                ],
-                &["free(left)", "carry(ball1, left)", "carry(ball2, left)"],
-                &["free(right)", "carry(ball1, right)", "carry(ball2, right)"],
-            ]
-        )
-    );
+                "at(ball1, rooma)",
+                "at(ball1, roomb)",
+                "carry(ball1, left)",
+                "carry(ball1, right)",
+            ],
+            &[
+                "at(ball2, rooma)",
+                "at(ball2, roomb)",
+                "carry(ball2, left)",
+                "carry(ball2, right)",
+            ],
+            &["free(left)", "carry(ball1, left)", "carry(ball2, left)"],
+            &["free(right)", "carry(ball1, right)", "carry(ball2, right)"],
+        ],
+    },
+];
+
+#[test]
+fn groups_are_those_of_instances_that_weigh_one(rt: HostRuntime) {
+    for (number, row) in ROWS.iter().enumerate() {
+        assert!(rt;
+            has_groups(rt.alloc(), row.domain, row.problem, row.groups),
+            "row {number}"
+        );
+    }
 }
 
 #[test]
