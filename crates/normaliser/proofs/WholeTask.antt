@@ -17,7 +17,7 @@ use Rattle.normal_task.specs.declared.task.ValueRow.{ValueRow}
 use Rattle.normal_task.specs.Meaning.{is_same_atom}
 use Rattle.normal_task.specs.Numbers.{object_names}
 use Rattle.normaliser.specs.declared.normal.MadeAll.{MadeAll}
-use Rattle.normaliser.specs.MadeThings.{IsMadeAll, goal_from}
+use Rattle.normaliser.specs.WholeTask.{IsMadeAll, goal_from}
 use Rattle.normal_task.specs.Normalised.{schemas, axiom_rows, made_schemas, made_axioms, after_schemas, after_axioms, made_goal, all_fresh, declared_row, fresh_predicates, fresh_rows, once_after, stated, value_row, is_same_value, normal}
 use Rattle.normal_task.specs.declared.parts.Fresh.{Fresh}
 use Rattle.normal_task.specs.Parts.{Made, in_turn}

@@ -1,16 +1,14 @@
 // The axioms of the files and of new predicates.
 ghost use Rattle.std.specs.Prelude.{◌≡◌, ◌++◌, ◌∷◌, [], map, length, true, IfOk, OnOk};
-ghost use Rattle.normaliser.specs.Code.{IsMade};
-ghost use Rattle.normaliser.specs.MadeThings.{IsMadeOf};
+ghost use Rattle.normal_rows.specs.MadeThings.{IsMadeOf};
 ghost use Rattle.normal_task.specs.Normalised as spec;
 ghost use Rattle.normal_task.specs.Numbers.{predicate_number, ranges_of};
 ghost use Rattle.normal_task.specs.Parts as parts;
 
-use crate::cut::{Here, MadeParts, cut};
-use crate::made::{Made, made_behind, nothing_made};
-use crate::rows::push_axioms;
+use action_schemas::{Here, cut};
 use lists::List;
-use normal_task::{AxiomRow, Fresh};
+use normal_rows::{Made, made_behind, nothing_made, push_axioms};
+use normal_task::{AxiomRow, Fresh, Part};
 use numbering::{Numbering, Variable, scope_inside, sum};
 use pddl_parser::{Derived, Head};
 use std::alloc::{AllocError, Global};
@@ -27,7 +25,7 @@ fn rows_from(
     alloc: Global,
     numbering: &Numbering<'_>,
     head: &Head,
-    made: MadeParts,
+    made: Made<Part>,
 ) -> Result<Made<AxiomRow>, AllocError>
     ensures { IfOk result (λ rows. (rows.items ≡ map (spec.axiom_row numbering.now.domain numbering.now.problem (predicate_number numbering.now.domain head.now.name.name) (ranges_of numbering.now.domain numbering.now.problem head.now.variables)) made.items) × (rows.fresh ≡ made.fresh)) }
 {
@@ -53,8 +51,8 @@ fn parts_in<'n, 'a>(
     rule: &'a Derived,
     scope: &[Variable<'n, 'a>],
     next: u64,
-) -> Result<MadeParts, AllocError>
-    ensures { IfOk result (IsMade (parts.parts numbering.now.domain numbering.now.problem rule.now.body true scope.now (length rule.now.head.variables) next)) }
+) -> Result<Made<Part>, AllocError>
+    ensures { IfOk result (IsMadeOf (parts.parts numbering.now.domain numbering.now.problem rule.now.body true scope.now (length rule.now.head.variables) next)) }
 {
     let here = Here {
         numbering,
@@ -70,8 +68,8 @@ fn body_parts<'n, 'a>(
     numbering: &'n Numbering<'a>,
     rule: &'a Derived,
     next: u64,
-) -> Result<MadeParts, AllocError>
-    ensures { IfOk result (IsMade (spec.body_parts numbering.now.domain numbering.now.problem rule.now next)) }
+) -> Result<Made<Part>, AllocError>
+    ensures { IfOk result (IsMadeOf (spec.body_parts numbering.now.domain numbering.now.problem rule.now next)) }
 {
     let numbering = &*numbering;
     let rule = &*rule;

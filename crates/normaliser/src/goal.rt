@@ -1,13 +1,12 @@
 // The goal.
 ghost use Rattle.std.specs.Prelude.{◌≡◌, ◌++◌, ◌∷◌, [], map, length, true, IfOk, OnOk};
-ghost use Rattle.normaliser.specs.MadeThings.{IsMadeOf, plain};
+ghost use Rattle.normal_rows.specs.MadeThings.{IsMadeOf};
+ghost use Rattle.normaliser.specs.WholeTask.{plain};
 ghost use Rattle.normal_task.specs.Normalised as spec;
 
 use crate::axioms::fresh_number;
-use crate::cut::MadeParts;
-use crate::made::Made;
-use crate::rows::copied_literals;
 use lists::List;
+use normal_rows::{Made, copied_literals};
 use normal_task::{Fresh, Literal, Part};
 use numbering::{Numbering, sum};
 use std::alloc::{AllocError, Global};
@@ -32,12 +31,12 @@ fn plain_literals(alloc: Global, parts: &[Part]) -> Result<Option<List<Literal>>
 fn goal_atom(
     alloc: Global,
     numbering: &Numbering<'_>,
-    goal: MadeParts,
+    goal: Made<Part>,
     next: u64,
 ) -> Result<Made<Literal>, AllocError>
     ensures { IfOk result (IsMadeOf (spec.goal_atom numbering.now.domain numbering.now.problem (record { items = goal.items; fresh = goal.fresh }) next)) }
 {
-    let MadeParts { items, fresh } = goal;
+    let Made { items, fresh } = goal;
     let mut fresh = fresh.into_vec();
     let number = fresh_number(numbering, sum(next, fresh.len() as u64)?)?;
     fresh.push(Fresh {
@@ -56,7 +55,7 @@ fn goal_atom(
 pub(crate) fn goal_of(
     alloc: Global,
     numbering: &Numbering<'_>,
-    goal: MadeParts,
+    goal: Made<Part>,
     next: u64,
 ) -> Result<Made<Literal>, AllocError>
     ensures { IfOk result (IsMadeOf (spec.goal_of numbering.now.domain numbering.now.problem (record { items = goal.items; fresh = goal.fresh }) goal.items next)) }

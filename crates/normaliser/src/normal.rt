@@ -1,16 +1,16 @@
 // The normal task of a checked pair.
 ghost use Rattle.std.specs.Prelude.{◌≡◌, ◌++◌, ◌∷◌, [], map, length, true, IfOk, OnOk};
 ghost use Rattle.pddl_parser.specs.Objects.{objects};
-ghost use Rattle.normaliser.specs.MadeThings.{IsMadeAll, IsMadeOf, goal_from};
+ghost use Rattle.normaliser.specs.WholeTask.{IsMadeAll, goal_from};
+ghost use Rattle.normal_rows.specs.MadeThings.{IsMadeOf};
 ghost use Rattle.normal_task.specs.Normalised as spec;
 ghost use Rattle.normal_task.specs.Numbers as numbers;
 
 use crate::axioms::{axioms_of, push_fresh_axioms};
-use crate::cut::{Here, cut};
 use crate::goal::goal_of;
-use crate::made::{Made, joined_lists};
-use crate::schemas::schemas_of;
+use action_schemas::{Here, cut, schemas_of};
 use lists::{List, Text};
+use normal_rows::{Made, joined_lists};
 use normal_task::{AxiomRow, Fresh, Literal, Normal, Schema};
 use numbering::{Numbering, predicate_rows, stated_atoms, stated_values, sum};
 use pddl_parser::Typed;

@@ -2,7 +2,7 @@ use Rattle.std.proofs.Common.{List, ◌+◌, map, take, length, ap, ◌∙◌}
 use Rattle.lists.proofs.LoopSteps.{map_next}
 use Rattle.normal_task.specs.declared.parts.Fresh.{Fresh}
 use Rattle.normal_task.specs.Normalised as spec
-use Rattle.normaliser.proofs.TurnSteps.{turn-more}
+use Rattle.normal_rows.proofs.TurnSteps.{turn-more}
 use Rattle.normaliser.proofs.axioms.axioms_of.Goals as goal
 
 pub loop-rule-preserved : goal.loop-rule-preserved

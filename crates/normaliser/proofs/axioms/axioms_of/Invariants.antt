@@ -1,5 +1,5 @@
 use Rattle.std.proofs.Common.{map, take}
-use Rattle.normaliser.specs.MadeThings.{IsMadeOf}
+use Rattle.normal_rows.specs.MadeThings.{IsMadeOf}
 use Rattle.normal_task.specs.Normalised as spec
 use Rattle.normal_task.specs.Parts.{in_turn}
 use Rattle.normaliser.proofs.axioms.axioms_of.Given as goal

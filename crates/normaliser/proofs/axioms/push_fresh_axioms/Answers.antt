@@ -1,7 +1,7 @@
 use Rattle.std.proofs.Common.{List, ◌++◌, map, ap, ◌∙◌, arith, ℕ}
 use Rattle.normal_task.specs.Normalised.{axiom_row}
 use Rattle.normal_task.specs.declared.parts.Part.{Part}
-use Rattle.normaliser.proofs.SchemaRows.{axioms-more}
+use Rattle.normaliser.proofs.FreshAxioms.{axioms-more}
 use Rattle.normaliser.proofs.axioms.push_fresh_axioms.Goals as goal
 
 pub loop-number-preserved : goal.loop-number-preserved

@@ -4,8 +4,8 @@ use Rattle.pddl_parser.specs.declared.types.Problem.{Problem}
 use Rattle.normal_task.specs.declared.parts.Part.{Part}
 use Rattle.normal_task.specs.Normalised.{goal_of}
 use Rattle.normal_task.specs.Parts.{Made, parts}
-use Rattle.normaliser.specs.MadeThings.{IsMadeOf}
-use Rattle.normaliser.proofs.SchemaRows.{made-same}
+use Rattle.normal_rows.specs.MadeThings.{IsMadeOf}
+use Rattle.normal_rows.proofs.MadeSame.{made-same}
 use Rattle.normaliser.proofs.normal.goal_made.Goals as goal
 
 pub returns : goal.returns

@@ -1,0 +1,4 @@
+-- Lemmas of this crate.
+mod CutSteps
+mod EffectRows
+mod SchemaRows

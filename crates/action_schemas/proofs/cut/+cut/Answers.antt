@@ -1,0 +1,81 @@
+use Rattle.std.proofs.Common.{not, List, ◌+◌, map, take, length, ap, subst, ◌∙◌}
+use Rattle.std.specs.Prelude.{IfOk}
+use Rattle.pddl_parser.specs.declared.types.Condition.{Condition}
+use Rattle.normal_task.specs.declared.parts.Fresh.{Fresh}
+use Rattle.normal_task.specs.declared.parts.Part.{Part}
+use Rattle.normal_task.specs.Parts.{Made, Known, known, parts}
+use Rattle.normal_rows.specs.MadeThings.{IsMadeOf}
+use Rattle.action_schemas.proofs.CutSteps.{member-more, two-are, imply-is, forall-none, forall-some, exists-some, exists-none}
+use Rattle.normal_rows.proofs.TurnSteps.{twice-next}
+use Rattle.action_schemas.proofs.cut.+cut.Goals as goal
+
+pub cut_members-loop-member-preserved : goal.cut_members-loop-member-preserved
+cut_members-loop-member-preserved t c =
+    let domain = c.args.here.now.numbering.now.domain in
+    let problem = c.args.here.now.numbering.now.problem in
+    let around = c.args.here.now.around in
+    let cut = λ (member : Known). member.cut c.args.positive c.args.here.now.scope.now around in
+    let makes = λ (l : List Condition). map cut (map (known domain problem) l) in
+    member-more c.args.every around (makes (take c.loop-member.member-index c.args.members.now)) (makes (take (c.loop-member.member-index + 1) c.args.members.now)) (cut (known domain problem c.member-item.result))
+    (twice-next cut (known domain problem) c.args.members.now c.loop-member.member-index c.member-item.result c.loop-member-test.true c.member-item.is)
+    c.args.next c.loop-member.made.items c.loop-member.made.fresh c.loop-member.invariant
+    c.in_ok-start.start (c.in_ok-start.ensures ∙ ap (λ (l : List Fresh). c.args.next + length l) c.as_slice.ensures) c.in_ok-more.more.items c.in_ok-more.more.fresh c.in_ok-more.ensures
+    c.in_ok-made-2.made.items c.in_ok-made-2.made.fresh c.in_ok-made-2.ensures.0 c.in_ok-made-2.ensures.1
+
+pub cut-returns-in_ok-made-in-Imply : goal.cut-returns-in_ok-made-in-Imply
+cut-returns-in_ok-made-in-Imply t c =
+    let domain = c.args.here.now.numbering.now.domain in
+    let problem = c.args.here.now.numbering.now.problem in
+    let scope = c.args.here.now.scope.now in
+    let around = c.args.here.now.around in
+    subst (λ (m : Made Part). IsMadeOf m c.in_ok-made-in-Imply.made)
+    (imply-is domain problem c.args.positive scope around c.args.next c.args.condition.now c.in-Imply.premise c.in-Imply.conclusion c.get-in-Imply.result.now c.get-in-Imply-2.result.now c.in-Imply.field-2 c.in-Imply.is c.get-in-Imply.ensures c.get-in-Imply-2.ensures)
+    (two-are around (parts domain problem c.get-in-Imply.result.now (not c.args.positive) scope around) (parts domain problem c.get-in-Imply-2.result.now c.args.positive scope around) c.args.next
+    c.in_ok-first-in-Imply.first.items c.in_ok-first-in-Imply.first.fresh c.in_ok-first-in-Imply.ensures
+    c.in_ok-start-in-Imply.start (c.in_ok-start-in-Imply.ensures ∙ ap (λ (l : List Fresh). c.args.next + length l) c.as_slice-in-Imply.ensures)
+    c.in_ok-second-in-Imply.second.items c.in_ok-second-in-Imply.second.fresh c.in_ok-second-in-Imply.ensures
+    (not c.args.positive) c.in_ok-made-in-Imply.made.items c.in_ok-made-in-Imply.made.fresh c.in_ok-made-in-Imply.ensures.0 c.in_ok-made-in-Imply.ensures.1)
+
+pub cut-returns-then-positive : goal.cut-returns-then-positive
+cut-returns-then-positive t c =
+    let domain = c.args.here.now.numbering.now.domain in
+    let problem = c.args.here.now.numbering.now.problem in
+    let scope = c.args.here.now.scope.now in
+    let around = c.args.here.now.around in
+    subst (λ (m : Made Part). IfOk c.cut_none.result (IsMadeOf m))
+    (forall-none domain problem c.args.positive scope around c.args.next c.args.condition.now c.in-Forall.variables c.as_slice-then-positive.result.now c.in-Forall.inside c.get-then-positive.result.now c.in-Forall.field-2
+    c.as_slice-then-positive.ensures c.get-then-positive.ensures c.in-Forall.is c.if-positive.true)
+    c.cut_none.ensures
+
+pub cut-returns-else-positive : goal.cut-returns-else-positive
+cut-returns-else-positive t c =
+    let domain = c.args.here.now.numbering.now.domain in
+    let problem = c.args.here.now.numbering.now.problem in
+    let scope = c.args.here.now.scope.now in
+    let around = c.args.here.now.around in
+    subst (λ (m : Made Part). IfOk c.cut_some.result (IsMadeOf m))
+    (forall-some domain problem c.args.positive scope around c.args.next c.args.condition.now c.in-Forall.variables c.as_slice-else-positive.result.now c.in-Forall.inside c.get-else-positive.result.now c.in-Forall.field-2
+    c.as_slice-else-positive.ensures c.get-else-positive.ensures c.in-Forall.is c.if-positive.false)
+    c.cut_some.ensures
+
+pub cut-returns-then-positive-2 : goal.cut-returns-then-positive-2
+cut-returns-then-positive-2 t c =
+    let domain = c.args.here.now.numbering.now.domain in
+    let problem = c.args.here.now.numbering.now.problem in
+    let scope = c.args.here.now.scope.now in
+    let around = c.args.here.now.around in
+    subst (λ (m : Made Part). IfOk c.cut_some-then-positive-2.result (IsMadeOf m))
+    (exists-some domain problem c.args.positive scope around c.args.next c.args.condition.now c.in-Exists.variables c.as_slice-then-positive-2.result.now c.in-Exists.inside c.get-then-positive-2.result.now c.in-Exists.field-2
+    c.as_slice-then-positive-2.ensures c.get-then-positive-2.ensures c.in-Exists.is c.if-positive-2.true)
+    c.cut_some-then-positive-2.ensures
+
+pub cut-returns-else-positive-2 : goal.cut-returns-else-positive-2
+cut-returns-else-positive-2 t c =
+    let domain = c.args.here.now.numbering.now.domain in
+    let problem = c.args.here.now.numbering.now.problem in
+    let scope = c.args.here.now.scope.now in
+    let around = c.args.here.now.around in
+    subst (λ (m : Made Part). IfOk c.cut_none-else-positive-2.result (IsMadeOf m))
+    (exists-none domain problem c.args.positive scope around c.args.next c.args.condition.now c.in-Exists.variables c.as_slice-else-positive-2.result.now c.in-Exists.inside c.get-else-positive-2.result.now c.in-Exists.field-2
+    c.as_slice-else-positive-2.ensures c.get-else-positive-2.ensures c.in-Exists.is c.if-positive-2.false)
+    c.cut_none-else-positive-2.ensures

@@ -1,0 +1,257 @@
+// How a condition is cut into parts.
+ghost use Rattle.std.specs.Prelude.{◌≡◌, ◌++◌, ◌+◌, ◌∷◌, [], map, length, true, false, IfOk, OnOk, if◌then◌else◌};
+ghost use Rattle.normal_task.specs.declared.task.Literal.TheVariants.{Holds, Equal};
+ghost use Rattle.normal_task.specs.declared.task.Place.TheVariants as place;
+ghost use Rattle.normal_task.specs.Numbers.{predicate_number, ranges_of};
+ghost use Rattle.normal_task.specs.Parts as spec;
+ghost use Rattle.normal_rows.specs.MadeThings.{IsMadeOf};
+ghost use Rattle.action_schemas.specs.Cuts.{combined};
+
+use lists::List;
+use normal_rows::{
+    Made, behind_ranges, free_slots, joined_lists, one_part, paired, part_alone, renumbered, variables_of, with_fresh,
+};
+use normal_task::{Literal, Part};
+use numbering::{Numbering, Variable, place_of, places_of, scope_inside, sum};
+use pddl_parser::{Atom, Condition, Term, Typed};
+use std::alloc::{AllocError, Global};
+
+/// Where a condition stands: the variables in scope, and how many variables there are around it.
+#[derive(Clone, Copy)]
+pub struct Here<'s, 'n, 'a> {
+    pub numbering: &'n Numbering<'a>,
+    pub scope: &'s [Variable<'n, 'a>],
+    pub around: u64,
+}
+
+// ---- conditions
+
+/// How a condition is cut, or its negation where it isn't `positive`.
+#[cycle(cut)]
+pub fn cut<'n, 'a>(
+    alloc: Global,
+    here: &Here<'_, 'n, 'a>,
+    condition: &'a Condition,
+    positive: bool,
+    next: u64,
+) -> Result<Made<Part>, AllocError>
+    ensures { IfOk result (IsMadeOf (spec.parts here.now.numbering.now.domain here.now.numbering.now.problem condition.now positive here.now.scope.now here.now.around next)) }
+{
+    match condition {
+        Condition::True(_) => neutral(alloc, positive),
+        Condition::Atom(atom) => atom_part(alloc, here, atom, positive),
+        Condition::Equal(left, right, _) => equal_part(alloc, here, left, right, positive),
+        Condition::Not(inside, _) => cut(alloc, here, inside.get(), !positive, next),
+        Condition::And(members, _) => {
+            cut_members(alloc, here, members.as_slice(), positive, positive, next)
+        }
+        Condition::Or(members, _) => {
+            cut_members(alloc, here, members.as_slice(), positive, !positive, next)
+        }
+        Condition::Imply(premise, conclusion, _) => {
+            let first = cut(alloc, here, premise.get(), !positive, next)?;
+            let start = sum(next, first.fresh.as_slice().len() as u64)?;
+            let second = cut(alloc, here, conclusion.get(), positive, start)?;
+            let made = joined_made(alloc, !positive, here.around, first, second)?;
+            Ok(made)
+        }
+        Condition::Forall(variables, inside, _) => {
+            if positive {
+                cut_none(alloc, here, variables.as_slice(), inside.get(), false, next)
+            } else {
+                cut_some(alloc, here, variables.as_slice(), inside.get(), false, next)
+            }
+        }
+        Condition::Exists(variables, inside, _) => {
+            if positive {
+                cut_some(alloc, here, variables.as_slice(), inside.get(), true, next)
+            } else {
+                cut_none(alloc, here, variables.as_slice(), inside.get(), true, next)
+            }
+        }
+    }
+}
+
+/// Every pairing of the members' parts where `every` says so, or else their parts one after another.
+#[cycle(cut)]
+fn cut_members<'n, 'a>(
+    alloc: Global,
+    here: &Here<'_, 'n, 'a>,
+    members: &'a [Condition],
+    positive: bool,
+    every: bool,
+    next: u64,
+) -> Result<Made<Part>, AllocError>
+    ensures { IfOk result (IsMadeOf (combined every here.now.around (map (λ member. member.cut positive here.now.scope.now here.now.around) (map (spec.known here.now.numbering.now.domain here.now.numbering.now.problem) members.now)) next)) }
+{
+    let mut made = neutral(alloc, every)?;
+    for member in members {
+        let start = sum(next, made.fresh.as_slice().len() as u64)?;
+        let more = cut(alloc, here, member, positive, start)?;
+        made = joined_made(alloc, every, here.around, made, more)?;
+    }
+    Ok(made)
+}
+
+/// Some objects of the variables make the inside true, or its negation where it isn't `positive`.
+#[cycle(cut)]
+fn cut_some<'n, 'a>(
+    alloc: Global,
+    here: &Here<'_, 'n, 'a>,
+    variables: &'a [Typed],
+    inside: &'a Condition,
+    positive: bool,
+    next: u64,
+) -> Result<Made<Part>, AllocError>
+    ensures { IfOk result (IsMadeOf (spec.exists_inside here.now.numbering.now.domain here.now.numbering.now.problem variables.now (spec.known here.now.numbering.now.domain here.now.numbering.now.problem inside.now) positive here.now.scope.now here.now.around next)) }
+{
+    let scope = scope_inside(alloc, here.numbering, variables, here.around, here.scope)?;
+    let inner = Here {
+        numbering: here.numbering,
+        scope: scope.as_slice(),
+        around: sum(here.around, variables.len() as u64)?,
+    };
+    let made = cut(alloc, &inner, inside, positive, next)?;
+    behind(alloc, here.numbering, variables, made)
+}
+
+/// No objects of the variables make the inside true, or its negation where it isn't `positive`.
+#[cycle(cut)]
+fn cut_none<'n, 'a>(
+    alloc: Global,
+    here: &Here<'_, 'n, 'a>,
+    variables: &'a [Typed],
+    inside: &'a Condition,
+    positive: bool,
+    next: u64,
+) -> Result<Made<Part>, AllocError>
+    ensures { IfOk result (IsMadeOf (spec.none_inside here.now.numbering.now.domain here.now.numbering.now.problem variables.now (spec.known here.now.numbering.now.domain here.now.numbering.now.problem inside.now) positive here.now.scope.now here.now.around next)) }
+{
+    let arguments = free_slots(alloc, here.numbering, variables, inside, here.scope)?;
+    let outer = renumbered(alloc, &arguments)?;
+    let there = Here {
+        numbering: here.numbering,
+        scope: outer.as_slice(),
+        around: arguments.len() as u64,
+    };
+    let body = cut_some(alloc, &there, variables, inside, positive, sum(next, 1)?)?;
+    denied(alloc, here.numbering, &arguments, next, body)
+}
+
+/// The negation of a new derived predicate with these arguments, whose axioms have these parts.
+fn denied(
+    alloc: Global,
+    numbering: &Numbering<'_>,
+    arguments: &[Variable<'_, '_>],
+    next: u64,
+    body: Made<Part>,
+) -> Result<Made<Part>, AllocError>
+    ensures { IfOk result (IsMadeOf (spec.denied numbering.now.domain numbering.now.problem arguments.now next record { items = body.items; fresh = body.fresh })) }
+{
+    let fresh = with_fresh(alloc, arguments, body)?;
+    let items = denied_atom(alloc, numbering, arguments, next)?;
+    Ok(Made { items, fresh })
+}
+
+/// The part of the negation of a new derived predicate with these arguments.
+fn denied_atom(
+    alloc: Global,
+    numbering: &Numbering<'_>,
+    arguments: &[Variable<'_, '_>],
+    next: u64,
+) -> Result<List<Part>, AllocError>
+    ensures { IfOk result (λ items. items ≡ (spec.only (Holds false (spec.fresh_number numbering.now.domain numbering.now.problem next) (map (λ slot. place.Variable slot.place) arguments.now))).items) }
+{
+    let predicate = sum(numbering.domain_predicates(), next)?;
+    let places = variables_of(alloc, arguments)?;
+    one_part(alloc, Literal::Holds(false, predicate, places))
+}
+
+/// The parts behind some variables more.
+fn behind(
+    alloc: Global,
+    numbering: &Numbering<'_>,
+    variables: &[Typed],
+    made: Made<Part>,
+) -> Result<Made<Part>, AllocError>
+    ensures { IfOk result (λ all. (all.items ≡ map (spec.with_variables (ranges_of numbering.now.domain numbering.now.problem variables.now)) made.items) × (all.fresh ≡ made.fresh)) }
+{
+    let Made { items, fresh } = made;
+    let items = behind_ranges(alloc, numbering, variables, items)?;
+    Ok(Made { items, fresh })
+}
+
+// ---- one part, and no part
+
+fn only(alloc: Global, literal: Literal) -> Result<Made<Part>, AllocError>
+    ensures { IfOk result (IsMadeOf (spec.only literal)) }
+{
+    Ok(Made {
+        items: one_part(alloc, literal)?,
+        fresh: List::from_vec(Vec::new(alloc)),
+    })
+}
+
+fn atom_part(
+    alloc: Global,
+    here: &Here<'_, '_, '_>,
+    atom: &Atom,
+    positive: bool,
+) -> Result<Made<Part>, AllocError>
+    ensures { IfOk result (IsMadeOf (spec.only (Holds positive (predicate_number here.now.numbering.now.domain atom.now.predicate.name) (spec.places_of here.now.numbering.now.domain here.now.numbering.now.problem here.now.scope.now atom.now.terms)))) }
+{
+    let predicate = here.numbering.predicate(atom.predicate.name.as_slice());
+    let places = places_of(alloc, here.numbering, here.scope, atom.terms.as_slice())?;
+    only(alloc, Literal::Holds(positive, predicate, places))
+}
+
+fn equal_part(
+    alloc: Global,
+    here: &Here<'_, '_, '_>,
+    left: &Term,
+    right: &Term,
+    positive: bool,
+) -> Result<Made<Part>, AllocError>
+    ensures { IfOk result (IsMadeOf (spec.only (Equal positive (spec.place_of here.now.numbering.now.domain here.now.numbering.now.problem here.now.scope.now left.now) (spec.place_of here.now.numbering.now.domain here.now.numbering.now.problem here.now.scope.now right.now)))) }
+{
+    let left = place_of(here.numbering, here.scope, left);
+    let right = place_of(here.numbering, here.scope, right);
+    only(alloc, Literal::Equal(positive, left, right))
+}
+
+/// What is made of no members: the part of nothing where every member must hold, or else no part.
+pub(crate) fn neutral(alloc: Global, every: bool) -> Result<Made<Part>, AllocError>
+    ensures { IfOk result (IsMadeOf (combined every 0 [] 0)) }
+{
+    let items = if every {
+        part_alone(alloc, List::from_vec(Vec::new(alloc)))?
+    } else {
+        List::from_vec(Vec::new(alloc))
+    };
+    Ok(Made {
+        items,
+        fresh: List::from_vec(Vec::new(alloc)),
+    })
+}
+
+// ---- two things that are made
+
+/// Every pairing of a part of the first with one of the second where `every` says so, or else the parts of the first and
+/// then those of the second.
+pub(crate) fn joined_made(
+    alloc: Global,
+    every: bool,
+    around: u64,
+    first: Made<Part>,
+    second: Made<Part>,
+) -> Result<Made<Part>, AllocError>
+    ensures { IfOk result (λ made. (made.items ≡ (if every then spec.paired around first.items second.items else first.items ++ second.items)) × (made.fresh ≡ first.fresh ++ second.fresh)) }
+{
+    let fresh = joined_lists(first.fresh, second.fresh)?;
+    let items = if every {
+        paired(alloc, around, first.items, second.items.as_slice())?
+    } else {
+        joined_lists(first.items, second.items)?
+    };
+    Ok(Made { items, fresh })
+}

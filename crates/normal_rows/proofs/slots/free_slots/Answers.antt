@@ -1,0 +1,16 @@
+use Rattle.std.proofs.Common.{◌-◌, take, drop, refl, ap, ◌∙◌, sym, arith}
+use Rattle.normal_rows.specs.Asked.{is_asked}
+use Rattle.normal_task.specs.Parts.{slots_for}
+use Rattle.normal_rows.proofs.FreeVariables.{asked-step, one-less}
+use Rattle.normal_rows.proofs.slots.free_slots.Goals as goal
+
+pub loop-left-preserved : goal.loop-left-preserved
+loop-left-preserved c = record {
+  within = omega (arith, c.loop-left.invariant.within);
+  so_far =
+      asked-step c.args.numbering.now.domain c.args.numbering.now.problem c.args.variables.now c.args.inside.now c.args.scope.now (c.loop-left.left - 1) c.index-scope-left.result
+      (omega (arith, c.loop-left.invariant.within, c.loop-left-test.true)) c.index-scope-left.is c.loop-left.free.items c.push_if_free.new.slots.items (take (c.loop-left.left - 1) c.args.scope.now) refl
+      c.in_ok-push_if_free.ensures
+      (c.loop-left.invariant.so_far
+      ∙ ap (λ n. slots_for (is_asked c.args.numbering.now.domain c.args.numbering.now.problem c.args.variables.now c.args.inside.now (take n c.args.scope.now)) (drop n c.args.scope.now)) (sym (one-less c.loop-left.left c.loop-left-test.true)));
+}

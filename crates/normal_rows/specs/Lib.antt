@@ -1,0 +1,4 @@
+pub mod Asked
+pub mod Changes
+pub mod Costs
+pub mod MadeThings

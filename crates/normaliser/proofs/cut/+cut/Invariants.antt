@@ -1,8 +1,0 @@
-use Rattle.std.proofs.Common.{map, take}
-use Rattle.normal_task.specs.Parts as spec
-use Rattle.normaliser.specs.Code.{IsMade, combined}
-use Rattle.normaliser.proofs.cut.+cut.Given as goal
-
-abbrev pub invariant-cut_members-loop-member : goal.invariant-cut_members-loop-member
-invariant-cut_members-loop-member l =
-    IsMade (combined l.every l.here.around (map (λ member. member.cut l.positive l.here.scope.now l.here.around) (map (spec.known l.here.numbering.now.domain l.here.numbering.now.problem) (take l.member-index l.members))) l.next) l.made

@@ -1,6 +1,0 @@
-use Rattle.std.proofs.Common.{◌≡◌, map}
-use Rattle.normal_task.specs.Parts as spec
-use Rattle.normaliser.proofs.cut.all_behind.Given as goal
-
-abbrev pub invariant-loop-part : goal.invariant-loop-part
-invariant-loop-part l = l.all.items ≡ map (spec.with_variables l.ranges) l.yielded

@@ -1,8 +1,0 @@
-use Rattle.std.proofs.Common.{map, take}
-use Rattle.normaliser.specs.Code.{IsMade}
-use Rattle.normaliser.specs.MadeThings.{cuts_of}
-use Rattle.normal_task.specs.Parts.{all_of}
-use Rattle.normaliser.proofs.effects.cut_required.Given as goal
-
-abbrev pub invariant-loop-one : goal.invariant-loop-one
-invariant-loop-one l = IsMade (all_of l.around (map (λ cut. cut l.around) (cuts_of l.numbering.domain l.numbering.problem (take l.one-index l.required))) l.next) l.made
