@@ -1,49 +1,16 @@
 //! How many candidates are tried for pairs of files, and which are accepted, worked by hand.
 
-ghost use Rattle.std.specs.Prelude.{IfOk};
-ghost use Rattle.pddl_parser.specs.Spelled.{IsWellSpelled, IsWellSpelledProblem};
-
 use invariant_check::{Candidate, Part};
 use invariant_guess::{Found, find};
-use normal_task::Normal;
-use normaliser::normalise;
-use pddl_lexer::read_tree;
-use pddl_parser::{Domain, ParseEnd, Problem, parse_domain, parse_problem};
 use std::alloc::Global;
 use std::test::*;
-use type_checker::check;
-
-fn domain_of(alloc: Global, text: &str) -> Result<Domain, ParseEnd>
-    ensures { IfOk result IsWellSpelled }
-{
-    match read_tree(alloc, text.as_bytes()) {
-        Ok(tree) => parse_domain(alloc, &tree),
-        Err(_) => Err(ParseEnd::NoMemory),
-    }
-}
-
-fn problem_of(alloc: Global, text: &str) -> Result<Problem, ParseEnd>
-    ensures { IfOk result IsWellSpelledProblem }
-{
-    match read_tree(alloc, text.as_bytes()) {
-        Ok(tree) => parse_problem(alloc, &tree),
-        Err(_) => Err(ParseEnd::NoMemory),
-    }
-}
-
-fn normal_of(alloc: Global, domain: Domain, problem: Problem) -> Option<Normal>
-    requires domain { IsWellSpelled domain }
-    requires problem { IsWellSpelledProblem problem }
-{
-    let checked = check(alloc, domain, problem).ok()?;
-    normalise(alloc, &checked).ok()
-}
+use worked_tasks::{
+    BACK, BALLS, BELL, BLOCKS, GRIPPER, ONE, RUNG, SWITCH, THREE, TWO, normal_task,
+};
 
 /// What is found for the two texts, where they have no fault.
 fn found_for(alloc: Global, domain: &str, problem: &str, max: u64) -> Option<Found> {
-    let domain = domain_of(alloc, domain).ok()?;
-    let problem = problem_of(alloc, problem).ok()?;
-    let normal = normal_of(alloc, domain, problem)?;
+    let normal = normal_task(alloc, domain, problem)?;
     find(alloc, &normal, max).ok()
 }
 
@@ -81,52 +48,6 @@ fn is_found(
         None => false,
     }
 }
-
-static SWITCH: &str = "(define (domain switch) (:predicates (on) (off))
- (:action flip :parameters () :precondition (off) :effect (and (on) (not (off)))))";
-
-static ONE: &str = "(define (problem one) (:domain switch) (:init (off)) (:goal (on)))";
-
-static BLOCKS: &str = "(define (domain blocks)
- (:predicates (on ?x ?y) (ontable ?x) (clear ?x) (handempty) (holding ?x))
- (:action pick-up :parameters (?x) :precondition (and (clear ?x) (ontable ?x) (handempty))
-  :effect (and (not (ontable ?x)) (not (clear ?x)) (not (handempty)) (holding ?x)))
- (:action put-down :parameters (?x) :precondition (holding ?x)
-  :effect (and (not (holding ?x)) (clear ?x) (handempty) (ontable ?x)))
- (:action stack :parameters (?x ?y) :precondition (and (holding ?x) (clear ?y))
-  :effect (and (not (holding ?x)) (not (clear ?y)) (clear ?x) (handempty) (on ?x ?y)))
- (:action unstack :parameters (?x ?y) :precondition (and (on ?x ?y) (clear ?x) (handempty))
-  :effect (and (holding ?x) (clear ?y) (not (clear ?x)) (not (handempty)) (not (on ?x ?y)))))";
-
-static THREE: &str = "(define (problem three) (:domain blocks) (:objects a b c)
- (:init (ontable a) (ontable b) (ontable c) (clear a) (clear b) (clear c) (handempty)) (:goal (and (on a b) (on b c))))";
-
-static BACK: &str = "(define (domain back) (:predicates (p ?x) (q ?x))
- (:action act :parameters (?x ?y) :precondition (q ?x) :effect (and (p ?x) (not (q ?x)) (q ?y))))";
-
-static TWO: &str = "(define (problem b) (:domain back) (:objects a b) (:init (q a)) (:goal (p b)))";
-
-static BELL: &str = "(define (domain bell) (:constants l1) (:predicates (at ?l) (rung))
- (:action move :parameters (?x ?y) :precondition (at ?x) :effect (and (not (at ?x)) (at ?y)))
- (:action ring :precondition (not (at l1)) :effect (rung)))";
-
-static RUNG: &str =
-    "(define (problem b) (:domain bell) (:objects l2 l3 l4) (:init (at l1)) (:goal (rung)))";
-
-static GRIPPER: &str =
-    "(define (domain gripper) (:requirements :strips :typing) (:types room ball gripper)
- (:predicates (at-robby ?r - room) (at ?b - ball ?r - room) (free ?g - gripper) (carry ?b - ball ?g - gripper))
- (:action move :parameters (?from ?to - room) :precondition (at-robby ?from)
-  :effect (and (at-robby ?to) (not (at-robby ?from))))
- (:action pick :parameters (?b - ball ?r - room ?g - gripper) :precondition (and (at ?b ?r) (at-robby ?r) (free ?g))
-  :effect (and (carry ?b ?g) (not (at ?b ?r)) (not (free ?g))))
- (:action drop :parameters (?b - ball ?r - room ?g - gripper) :precondition (and (carry ?b ?g) (at-robby ?r))
-  :effect (and (at ?b ?r) (free ?g) (not (carry ?b ?g)))))";
-
-static BALLS: &str = "(define (problem made) (:domain gripper)
- (:objects rooma roomb - room left right - gripper ball1 ball2 - ball)
- (:init (at-robby rooma) (free left) (free right) (at ball1 rooma) (at ball2 rooma))
- (:goal (and (at ball1 roomb) (at ball2 roomb))))";
 
 #[test]
 fn candidates_are_tried_and_accepted_as_worked_by_hand(rt: HostRuntime) {

@@ -8,6 +8,4 @@ mod candidates;
 #[cfg(test)]
 mod listed;
 #[cfg(test)]
-mod task;
-#[cfg(test)]
 mod verdicts;

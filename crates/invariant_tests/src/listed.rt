@@ -1,10 +1,10 @@
 //! The candidates with one part, worked by hand.
 
 use crate::candidates::{PartRow, are_candidates};
-use crate::task::normal_task;
 use invariant_check::one_predicate;
 use std::alloc::Global;
 use std::test::*;
+use worked_tasks::normal_task;
 
 /// A domain, and the candidates with one part, by predicate: first none of its positions is counted, and then each in
 /// its turn.

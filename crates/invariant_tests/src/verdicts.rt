@@ -1,12 +1,12 @@
 //! What is said of candidates, and their repairs, worked by hand.
 
 use crate::candidates::{PartRow, are_candidates, candidate_of};
-use crate::task::normal_task;
 use invariant_check::{Candidate, Verdict, check_candidate, repairs};
 use normal_task::Normal;
 use std::alloc::Global;
 use std::process::Abort;
 use std::test::*;
+use worked_tasks::normal_task;
 
 /// What is said of a candidate. One that isn't balanced has the schema and the row of its first add effect that isn't,
 /// and its repairs in their order.

@@ -8,12 +8,8 @@ mod checks;
 #[cfg(test)]
 mod meaning;
 #[cfg(test)]
-mod normal;
-#[cfg(test)]
 mod parser;
 #[cfg(test)]
 mod reading;
 #[cfg(test)]
 mod shapes;
-#[cfg(test)]
-mod shown;

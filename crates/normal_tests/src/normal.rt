@@ -1,30 +1,9 @@
 //! Normal tasks of pairs of files, worked by hand.
 
-ghost use Rattle.pddl_parser.specs.Spelled.{IsWellSpelled, IsWellSpelledProblem};
-
-use crate::reading::{domain_of, problem_of};
 use crate::shown::{costs, shown, stated};
-use normal_task::Normal;
-use normaliser::normalise;
-use pddl_parser::{Domain, Problem};
 use std::alloc::{AllocError, Global};
 use std::test::*;
-use type_checker::check;
-
-fn normal_of(alloc: Global, domain: Domain, problem: Problem) -> Option<Normal>
-    requires domain { IsWellSpelled domain }
-    requires problem { IsWellSpelledProblem problem }
-{
-    let checked = check(alloc, domain, problem).ok()?;
-    normalise(alloc, &checked).ok()
-}
-
-/// The normal task of two texts, where they have no fault.
-fn normal_task(alloc: Global, domain: &str, problem: &str) -> Option<Normal> {
-    let domain = domain_of(alloc, domain).ok()?;
-    let problem = problem_of(alloc, problem).ok()?;
-    normal_of(alloc, domain, problem)
-}
+use worked_tasks::normal_task;
 
 /// Whether this is shown of the normal task of the two texts.
 fn is_shown(alloc: Global, domain: &str, problem: &str, wanted: &str) -> bool {

@@ -1,0 +1,61 @@
+//! The checked pair and the normal task of two texts.
+
+ghost use Rattle.std.specs.Prelude.{IfOk, IfSome};
+ghost use Rattle.pddl_parser.specs.Spelled.{IsWellSpelled, IsWellSpelledProblem};
+ghost use Rattle.type_checker.specs.Checked.{IsChecked};
+ghost use Rattle.normal_task.specs.Lawful.{IsLawful};
+
+use normal_task::Normal;
+use normal_task::laws::lawful;
+use normaliser::normalise;
+use pddl_lexer::read_tree;
+use pddl_parser::{Domain, Problem, parse_domain, parse_problem};
+use std::alloc::{AllocError, Global};
+use type_checker::{CheckEnd, Checked, check};
+
+fn domain_of(alloc: Global, text: &str) -> Option<Domain>
+    ensures { IfSome result IsWellSpelled }
+{
+    let tree = read_tree(alloc, text.as_bytes()).ok()?;
+    parse_domain(alloc, &tree).ok()
+}
+
+fn problem_of(alloc: Global, text: &str) -> Option<Problem>
+    ensures { IfSome result IsWellSpelledProblem }
+{
+    let tree = read_tree(alloc, text.as_bytes()).ok()?;
+    parse_problem(alloc, &tree).ok()
+}
+
+fn check_pair(alloc: Global, domain: Domain, problem: Problem) -> Result<Checked, CheckEnd>
+    requires domain { IsWellSpelled domain }
+    requires problem { IsWellSpelledProblem problem }
+    ensures { IfOk result IsChecked }
+{
+    check(alloc, domain, problem)
+}
+
+/// The pair of two texts, where they have no fault.
+pub fn checked_of(alloc: Global, domain: &str, problem: &str) -> Option<Checked>
+    ensures { IfSome result IsChecked }
+{
+    let domain = domain_of(alloc, domain)?;
+    let problem = problem_of(alloc, problem)?;
+    check_pair(alloc, domain, problem).ok()
+}
+
+fn normal_of(alloc: Global, checked: &Checked) -> Result<Normal, AllocError>
+    requires { IsChecked checked.now }
+    ensures { IfOk result IsLawful }
+{
+    lawful();
+    normalise(alloc, checked)
+}
+
+/// The normal task of two texts, where they have no fault.
+pub fn normal_task(alloc: Global, domain: &str, problem: &str) -> Option<Normal>
+    ensures { IfSome result IsLawful }
+{
+    let checked = checked_of(alloc, domain, problem)?;
+    normal_of(alloc, &checked).ok()
+}
