@@ -1,66 +1,22 @@
 // Operators in the order in which they are written.
 
-ghost use Rattle.std.specs.Prelude.{◌≡◌, IfOk, OnOk, IsPermutation, IsSorted, IsSortedByKey};
+ghost use Rattle.std.specs.Prelude.{IfOk, OnOk, IsPermutation, IsSorted, IsSortedByKey};
 ghost use Rattle.std.specs.List.{AllZip};
-ghost use Rattle.std.specs.Ordering.{nat_cmp, then_cmp, on};
 ghost use Rattle.std.specs.List.Sorted.{IsStableByKey};
-ghost use Rattle.sas_task.specs.Orders.{pair_cmp, pairs_cmp, effect_cmp, name_cmp};
+ghost use Rattle.sas_task.specs.Orders.{pair_cmp, effect_cmp, name_cmp};
 ghost use Rattle.fdr_encoder.specs.Ordered.{IsInOrder, AreByName};
 
 use lists::List;
+use sas_orders::Ranked;
 use sas_task::{Effect, Operator, Pair};
 use std::alloc::{AllocError, Global};
-use std::cmp::Ordering;
-
-/// The order of pairs.
-fn pair_order(front: &Pair, back: &Pair) -> Ordering
-    ensures { result ≡ pair_cmp front.now back.now }
-{
-    front
-        .var
-        .cmp(&back.var)
-        .then_with(|| front.val.cmp(&back.val))
-}
-
-/// The order of lists of pairs.
-fn pairs_order(front: &[Pair], back: &[Pair]) -> Ordering
-    ensures { result ≡ pairs_cmp front.now back.now }
-{
-    let both = front.len().min(back.len());
-    for i in 0..both {
-        let order = pair_order(&front[i], &back[i]);
-        if order.is_ne() {
-            return order;
-        }
-    }
-    front.len().cmp(&back.len())
-}
 
 /// Puts pairs into their order.
 pub(crate) fn sort_pairs(pairs: &mut Vec<Pair>)
     ensures same { IsPermutation pairs.old.items pairs.new.items }
     ensures in_order { IsSorted pair_cmp pairs.new.items }
 {
-    pairs.sort_unstable_by(|front, back| pair_order(front, back));
-}
-
-/// The order of effects on one variable: by conditions, then by new value.
-fn order_on_one_variable(front: &Effect, back: &Effect) -> Ordering
-    ensures { result ≡ then_cmp (on (λ e. e.conditions) pairs_cmp) (on (λ e. e.after) nat_cmp) front.now back.now }
-{
-    pairs_order(front.conditions.as_slice(), back.conditions.as_slice()).then_with(|| front
-        .after
-        .cmp(&back.after))
-}
-
-/// The order of effects.
-fn effect_order(front: &Effect, back: &Effect) -> Ordering
-    ensures { result ≡ effect_cmp front.now back.now }
-{
-    front
-        .var
-        .cmp(&back.var)
-        .then_with(|| order_on_one_variable(front, back))
+    pairs.sort_unstable_by(|front, back| front.order(back));
 }
 
 /// Puts effects into their order.
@@ -68,7 +24,7 @@ fn sort_effects(effects: &mut Vec<Effect>) -> Result<(), AllocError>
     ensures same { OnOk result (IsPermutation effects.old.items effects.new.items) }
     ensures in_order { OnOk result (IsSorted effect_cmp effects.new.items) }
 {
-    effects.sort_by(|front, back| effect_order(front, back))?;
+    effects.sort_by(|front, back| front.order(back))?;
     Ok(())
 }
 

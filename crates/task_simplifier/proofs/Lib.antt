@@ -2,7 +2,6 @@ mod Lists
 mod Sorted
 mod Turns
 mod Searched
-mod Compared
 mod Exact
 mod NewNumbers
 mod KeptValues
