@@ -18,7 +18,7 @@ use Rattle.normal_task.specs.Parts.{Slot, Scope, renumbered, Part, Fresh, Made, 
 use Rattle.normal_task.specs.Normalised.{Rows, row_step, rows_of}
 use Rattle.normal_task.proofs.Scopes.{length-append}
 use Rattle.normal_task.proofs.ThreeFolds.{by_folds}
-use Rattle.normal_task.proofs.FourFolds as four
+use Rattle.type_checker.proofs.EffectFolds as four
 
 module _ (domain : Domain) (problem : Problem) (all : List Mention) where
   abbrev pub base : ℕ

@@ -44,7 +44,7 @@ use Rattle.normal_task.proofs.ConditionsMean.{same-number, terms-objects}
 use Rattle.normal_task.proofs.EffectsMean.{StandAll, same-objects}
 use Rattle.normal_task.proofs.Full.{planning, num}
 use Rattle.normal_task.proofs.Faultless.{declared_among, is_function_mention, functions_known, in_each_action, action_mentioned, action_bound, known_in_problem, unbound_rows, piece_empty}
-use Rattle.normal_task.proofs.FourFolds.{by_folds}
+use Rattle.type_checker.proofs.EffectFolds.{by_folds}
 
 nowhere : false ≡ true → ⊥
 nowhere e = cc

@@ -20,7 +20,7 @@ use Rattle.normal_task.proofs.Scopes.{InScope, wider, inside-in_scope}
 use Rattle.normal_task.proofs.Fits.{all_of-fits, condition-fits, fresh_fit, fresh-both}
 use Rattle.normal_task.proofs.Bound.{is_in, in-inside, free-bound}
 use Rattle.normal_task.proofs.EffectsMean.{declared, RequiredFits, fits-wider, fits-here, fits-also}
-use Rattle.normal_task.proofs.FourFolds.{by_folds}
+use Rattle.type_checker.proofs.EffectFolds.{by_folds}
 
 module _ (domain : Domain) (problem : Problem) where
   abbrev pub AllInScope : List Name → Scope → ℕ → Type 0

@@ -37,7 +37,7 @@ use Rattle.normal_task.proofs.Fits.{FitsFrom, InScopes, condition-fits}
 use Rattle.normal_task.proofs.PartsMean.{part_met, GivenIn, given-left, given-right, MeansFrom, EachMeans, all_of-means}
 use Rattle.normal_task.proofs.ConditionsMean.{choices-numbers, terms-objects, ShowsFull, same-number, condition-means, named-choice-length}
 use Rattle.normal_task.proofs.Bound.{is_in, in-inside, terms-bound, free-bound}
-use Rattle.normal_task.proofs.FourFolds.{by_folds}
+use Rattle.type_checker.proofs.EffectFolds.{by_folds}
 
 and_assoc : (a b c : Bool) → (a && (b && c)) ≡ ((a && b) && c)
 and_assoc true b c = refl

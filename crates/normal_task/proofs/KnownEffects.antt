@@ -35,7 +35,7 @@ use Rattle.normal_task.proofs.Fits.{part_fits, place_within, within-wider, terms
 use Rattle.normal_task.proofs.Bound.{in-inside, free-bound, terms-bound}
 use Rattle.normal_task.proofs.EffectsMean.{RequiredFits, fits-wider, fits-here, fits-also}
 use Rattle.normal_task.proofs.EffectsFit.{AllInScope}
-use Rattle.normal_task.proofs.FourFolds.{by_folds}
+use Rattle.type_checker.proofs.EffectFolds.{by_folds}
 use Rattle.normal_task.proofs.PredicateTable.{HaveRows, rows-left, rows-right}
 use Rattle.normal_task.proofs.KnownParts.{all-by_both, place_known, place-lawful, literal_known, literals-lawful, part_known, fresh_known, KnownFrom, all_of-known, ScopeKnown, HasTables, ranges-known, inside-known, terms-known, well_mentioned, AreWell, condition-known}
 

@@ -10,7 +10,6 @@ pub mod ConditionsMean
 pub mod Full
 pub mod Filled
 pub mod Bound
-pub mod FourFolds
 pub mod EffectsMean
 pub mod EffectsFit
 pub mod Turns

@@ -33,7 +33,7 @@ use Rattle.normal_task.proofs.Scopes.{length-append, length-map, longer, number,
 use Rattle.normal_task.proofs.ConditionsMean.{choices-numbers, terms-objects, ShowsFull, named-choice-length}
 use Rattle.normal_task.proofs.Bound.{in-inside, terms-bound}
 use Rattle.normal_task.proofs.EffectsMean.{StandAll, with_variables-write}
-use Rattle.normal_task.proofs.FourFolds.{by_folds}
+use Rattle.type_checker.proofs.EffectFolds.{by_folds}
 use Rattle.normal_task.proofs.Law.{same-task_atom}
 
 module _ (domain : Domain) (problem : Problem) where
