@@ -12,18 +12,31 @@ use type_checker::{CheckEnd, Side, check};
 /// A fault that is answered, or none where both files are accepted.
 type Answer = Option<(Side, Kind, u64)>;
 
-fn is_fault(side: Side, fault: Fault, expected: Answer) -> bool {
-    expected == Some((side, fault.kind, fault.line))
+fn is_fault(
+    side: Side,
+    fault: Fault,
+    (wanted_side, kind, line): (Side, Kind, u64),
+) -> bool {
+    side == wanted_side && fault.kind == kind && fault.line == line
+}
+
+/// How the check ends that doesn't accept the pair.
+// It says nothing of what it does, so that no proof of a test carries it.
+fn end_of(alloc: Global, domain: Domain, problem: Problem) -> Option<CheckEnd>
+    requires domain { IsWellSpelled domain }
+    requires problem { IsWellSpelledProblem problem }
+{
+    check(alloc, domain, problem).err()
 }
 
 fn is_answer(alloc: Global, domain: Domain, problem: Problem, expected: Answer) -> bool
     requires domain { IsWellSpelled domain }
     requires problem { IsWellSpelledProblem problem }
 {
-    match check(alloc, domain, problem) {
-        Ok(_) => expected.is_none(),
-        Err(CheckEnd::Fault(side, fault)) => is_fault(side, fault, expected),
-        Err(CheckEnd::NoMemory) => false,
+    match (end_of(alloc, domain, problem), expected) {
+        (None, None) => true,
+        (Some(CheckEnd::Fault(side, fault)), Some(wanted)) => is_fault(side, fault, wanted),
+        _ => false,
     }
 }
 

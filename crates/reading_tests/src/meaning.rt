@@ -5,6 +5,7 @@ use lists::{List, Text};
 use pddl_parser::{Condition, Domain, Problem};
 use pddl_plain::{Bound, GroundAtom, Step, action_cost, holds, initial, is_given, take_step};
 use std::alloc::{AllocError, Global};
+use std::process::Abort;
 use std::test::*;
 
 fn text(alloc: Global, bytes: &[u8]) -> Result<Text, AllocError> {
@@ -110,23 +111,52 @@ fn are_same(atoms: &[GroundAtom], others: &[GroundAtom]) -> bool {
     are_within(atoms, others) && are_within(others, atoms)
 }
 
-/// Whether the step leads from the state with these entries to the other one, or nowhere where there is none.
-fn leads(
+// A function owns little, and hands on references: the proof of a function that owns much lets go of it at each end.
+
+/// Where the step leads from the initial state of the problem.
+fn next_in(
+    alloc: Global,
+    domain: &str,
+    problem: &str,
+    objects: &str,
+) -> Result<Option<Vec<GroundAtom>>, AllocError> {
+    let (domain, problem) = read(alloc, domain, problem)?;
+    after_step(alloc, &domain, &problem, objects)
+}
+
+/// Where the step leads from the state with these entries.
+fn next_from(
     alloc: Global,
     domain: &str,
     (before, after): (&str, &str),
     init: &str,
     objects: &str,
+) -> Result<Option<Vec<GroundAtom>>, AllocError> {
+    let problem = format!(in alloc; "{before}{init}{after}")?;
+    next_in(alloc, domain, &problem, objects)
+}
+
+/// The state with these entries.
+fn state_with(
+    alloc: Global,
+    (before, after): (&str, &str),
+    entries: &str,
+) -> Result<Vec<GroundAtom>, AllocError> {
+    let problem = format!(in alloc; "{before}{entries}{after}")?;
+    stated(alloc, &problem)
+}
+
+/// Whether the step leads from the state with these entries to the other one, or nowhere where there is none.
+fn leads(
+    alloc: Global,
+    domain: &str,
+    around: (&str, &str),
+    init: &str,
+    objects: &str,
     wanted: Option<&str>,
 ) -> Result<bool, AllocError> {
-    let problem = format!(in alloc; "{before}{init}{after}")?;
-    let (domain, problem) = read(alloc, domain, &problem)?;
-    let next = after_step(alloc, &domain, &problem, objects)?;
-    match (next, wanted) {
-        (Some(next), Some(wanted)) => {
-            let problem = format!(in alloc; "{before}{wanted}{after}")?;
-            Ok(are_same(&next, &stated(alloc, &problem)?))
-        }
+    match (next_from(alloc, domain, around, init, objects)?, wanted) {
+        (Some(next), Some(wanted)) => Ok(are_same(&next, &state_with(alloc, around, wanted)?)),
         (next, wanted) => Ok(next.is_none() && wanted.is_none()),
     }
 }
@@ -319,15 +349,27 @@ fn are_given(
     Ok(true)
 }
 
+/// The same of the initial state of the problem.
+fn are_given_at_first(
+    alloc: Global,
+    domain: &Domain,
+    problem: &Problem,
+    derived: &[GroundAtom],
+) -> Result<bool, AllocError> {
+    let full = state(alloc, problem)?;
+    are_given(alloc, domain, problem, &full, derived)
+}
+
+fn is_full_in(alloc: Global, problem: &str, derived: &[GroundAtom]) -> Result<bool, AllocError> {
+    let (domain, problem) = read(alloc, LIGHT, problem)?;
+    are_given_at_first(alloc, &domain, &problem, derived)
+}
+
 /// Whether the entries, over the objects `a` of type `t` and `b` and `c` of type `u`, are those of a full state.
-fn is_full(alloc: Global, entries: &str) -> Result<bool, AllocError> {
+fn is_full(alloc: Global, entries: &str, derived: &[GroundAtom]) -> Result<bool, AllocError> {
     let (before, after) = TYPED;
-    let full = format!(in alloc; "{before}{entries}{after}")?;
-    let derived = format!(in alloc; "{before}(seen a) (seen b) (dark){after}")?;
-    let (domain, full) = read(alloc, LIGHT, &full)?;
-    let atoms = state(alloc, &full)?;
-    let derived = stated(alloc, &derived)?;
-    are_given(alloc, &domain, &full, &atoms, &derived)
+    let problem = format!(in alloc; "{before}{entries}{after}")?;
+    is_full_in(alloc, &problem, derived)
 }
 
 static FULL_STATES: &[(&str, bool)] = &[
@@ -343,13 +385,19 @@ static FULL_STATES: &[(&str, bool)] = &[
     ("(q a) (dark)", true),
 ];
 
-#[test]
-fn full_states_as_worked_by_hand(rt: HostRuntime) {
+fn assert_full(rt: &impl Abort, alloc: Global, derived: &[GroundAtom]) {
     for row in FULL_STATES {
         let (entries, wanted) = *row;
-        let answer = is_full(rt.alloc(), entries);
+        let answer = is_full(alloc, entries, derived);
         assert!(rt; matches!(answer, Ok(full) if full == wanted), "{entries}");
     }
+}
+
+#[test]
+fn full_states_as_worked_by_hand(rt: HostRuntime) -> Result<(), AllocError> {
+    let derived = state_with(rt.alloc(), TYPED, "(seen a) (seen b) (dark)")?;
+    assert_full(&rt, rt.alloc(), &derived);
+    Ok(())
 }
 
 /// A boat is a vessel, which is a thing and a vehicle; what an entry says of `object` is ignored.

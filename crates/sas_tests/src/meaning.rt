@@ -5,6 +5,7 @@ ghost use Rattle.sas_task.specs.Examples.{room};
 
 use sas_task::{SasTask, examples, plain_step};
 use std::alloc::{AllocError, Global};
+use std::process::Abort;
 use std::test::*;
 
 /// The room, without what is known of it, so that the proof of a test doesn't carry it.
@@ -69,9 +70,9 @@ fn flickered(alloc: Global, task: &SasTask, state: &[u64]) -> Result<Option<Vec<
     plain_step::successor(alloc, task, state, &flicker)
 }
 
-#[test]
-fn derived_variables_get_their_values(rt: HostRuntime) -> Result<(), Fail> {
-    let task = room(rt.alloc())?;
+// Each test owns the room, and a function that is handed it asserts, so that the room is let go at one place.
+
+fn assert_values(rt: &impl Abort, alloc: Global, task: &SasTask) -> Result<(), AllocError> {
     let rows: [([u64; 4], [u64; 4]); 3] = [
         ([1, 0, 1, 1], [1, 0, 0, 0]),
         ([1, 1, 1, 1], [1, 1, 1, 1]),
@@ -79,7 +80,7 @@ fn derived_variables_get_their_values(rt: HostRuntime) -> Result<(), Fail> {
     ];
     for (state, expected) in rows {
         assert!(rt;
-            are_values(rt.alloc(), &task, &state, &expected)?,
+            are_values(alloc, task, &state, &expected)?,
             "{state:?}"
         );
     }
@@ -87,31 +88,51 @@ fn derived_variables_get_their_values(rt: HostRuntime) -> Result<(), Fail> {
 }
 
 #[test]
-fn the_lamp_is_pressed_in_the_dark_room(rt: HostRuntime) -> Result<(), Fail> {
+fn derived_variables_get_their_values(rt: HostRuntime) -> Result<(), AllocError> {
     let task = room(rt.alloc())?;
+    assert_values(&rt, rt.alloc(), &task)
+}
+
+fn assert_applicable(rt: &impl Abort, alloc: Global, task: &SasTask) -> Result<(), AllocError> {
     assert_eq!(rt; task.operators(), 3);
-    assert!(rt; is_applicable(rt.alloc(), &task, &[1, 1, 1, 1], 1)?);
-    assert!(rt; !is_applicable(rt.alloc(), &task, &[0, 1, 1, 1], 1)?);
-    assert!(rt; !is_applicable(rt.alloc(), &task, &[1, 0, 1, 1], 1)?);
+    assert!(rt; is_applicable(alloc, task, &[1, 1, 1, 1], 1)?);
+    assert!(rt; !is_applicable(alloc, task, &[0, 1, 1, 1], 1)?);
+    assert!(rt; !is_applicable(alloc, task, &[1, 0, 1, 1], 1)?);
     Ok(())
 }
 
 #[test]
-fn effects_are_read_in_the_old_state(rt: HostRuntime) -> Result<(), Fail> {
+fn the_lamp_is_pressed_in_the_dark_room(rt: HostRuntime) -> Result<(), AllocError> {
     let task = room(rt.alloc())?;
+    assert_applicable(&rt, rt.alloc(), &task)
+}
+
+fn assert_steps(rt: &impl Abort, alloc: Global, task: &SasTask) -> Result<(), AllocError> {
     assert_eq!(rt; task.operators(), 3);
     assert_eq!(rt; task.variables(), 4);
-    assert!(rt; leads(rt.alloc(), &task, &[0, 1, 1, 1], 0, &[1, 1, 1, 1])?);
-    assert!(rt; leads(rt.alloc(), &task, &[1, 1, 1, 1], 2, &[1, 0, 1, 1])?);
-    assert!(rt; leads(rt.alloc(), &task, &[1, 0, 1, 1], 2, &[1, 1, 1, 1])?);
+    assert!(rt; leads(alloc, task, &[0, 1, 1, 1], 0, &[1, 1, 1, 1])?);
+    assert!(rt; leads(alloc, task, &[1, 1, 1, 1], 2, &[1, 0, 1, 1])?);
+    assert!(rt; leads(alloc, task, &[1, 0, 1, 1], 2, &[1, 1, 1, 1])?);
     Ok(())
 }
 
 #[test]
-fn firing_effects_may_disagree(rt: HostRuntime) -> Result<(), Fail> {
-    let task = examples::room(rt.alloc())?;
-    let outside = flickered(rt.alloc(), &task, &[0, 0, 1, 1])?.ok_or("a disagreement")?;
-    assert_eq!(rt; outside.as_slice(), [0, 1, 1, 1].as_slice());
-    assert!(rt; flickered(rt.alloc(), &task, &[1, 0, 1, 1])?.is_none());
+fn effects_are_read_in_the_old_state(rt: HostRuntime) -> Result<(), AllocError> {
+    let task = room(rt.alloc())?;
+    assert_steps(&rt, rt.alloc(), &task)
+}
+
+fn assert_flickers(rt: &impl Abort, alloc: Global, task: &SasTask) -> Result<(), AllocError>
+    requires { task.now ≡ room }
+{
+    let outside = flickered(alloc, task, &[0, 0, 1, 1])?;
+    assert!(rt; matches!(&outside, Some(state) if state.as_slice() == [0, 1, 1, 1].as_slice()));
+    assert!(rt; flickered(alloc, task, &[1, 0, 1, 1])?.is_none());
     Ok(())
+}
+
+#[test]
+fn firing_effects_may_disagree(rt: HostRuntime) -> Result<(), AllocError> {
+    let task = examples::room(rt.alloc())?;
+    assert_flickers(&rt, rt.alloc(), &task)
 }

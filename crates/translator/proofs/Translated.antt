@@ -79,6 +79,11 @@ module _ (domain : Domain) (problem : Problem) (grounded : Ground) (reached : Re
 
 -- ---- what the calls give, put together
 
+-- what is reached of the instances is reached of the task
+pub reached_of_instances : {E : Type 0} (made : Normal) (grounded : Ground) (result : Result Reached E) → IsGroundTask made grounded → IfOk result (IsReachedTask grounded) → IfOk result (IsReachedOf made)
+reached_of_instances made grounded (Ok reached) is_ground is_reached = record { ground_of = grounded; is_ground = is_ground; is_reached = is_reached }
+reached_of_instances made grounded (Err end) is_ground is_reached = tt
+
 -- the passes' results up to the encoding are those of the run
 pub encoding_of_run : {E : Type 0} (made : Normal) (found : Found) (grounded : Ground) (reached : Reached) (layers layers' : List ℕ) (groups sets : List (List ℕ)) (facts : ℕ) (result : Result Task E)
     → IsGroundTask made grounded → IsReachedTask grounded reached → AreLayers reached layers → layers' ≡ layers → AreGroups made found.accepted reached groups

@@ -18,7 +18,7 @@ use tl_device::{Console, Failed, say_all};
 use type_checker::Side;
 
 /// A fixed part of what is printed.
-#[derive(Clone, Copy, Debug, PartialEq, Eq)]
+#[derive(Clone, Copy, PartialEq, Eq)]
 pub(crate) enum Phrase {
     Usage,
     OutOfMemory,
@@ -63,7 +63,7 @@ impl Phrase {
 }
 
 /// A part of what is printed.
-#[derive(Clone, Copy, Debug)]
+#[derive(Clone, Copy)]
 pub(crate) enum Piece<'a> {
     Fixed(Phrase),
     Name(&'a str),

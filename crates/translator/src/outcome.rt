@@ -11,7 +11,7 @@ use std::process::ExitCode;
 use type_checker::{CheckEnd, Side};
 
 /// What the process answers.
-#[derive(Clone, Copy, Debug, PartialEq, Eq)]
+#[derive(Clone, Copy, PartialEq, Eq)]
 pub enum Status {
     /// The output file is written.
     Done,
@@ -61,7 +61,7 @@ impl From<Status> for ExitCode {
 }
 
 /// How the search for invariants went, and the sizes of the written task.
-#[derive(Clone, Copy, Debug, PartialEq, Eq)]
+#[derive(Clone, Copy, PartialEq, Eq)]
 pub struct Summary {
     /// How many candidates were tried.
     pub candidates: u64,
@@ -77,7 +77,7 @@ pub struct Summary {
 }
 
 /// Why no task is written.
-#[derive(Clone, Copy, Debug, PartialEq, Eq)]
+#[derive(Clone, Copy, PartialEq, Eq)]
 pub enum End {
     NoMemory,
     CannotRead(Side),

@@ -12,7 +12,7 @@ use std::{env, io, rt};
 use tl_device::{RealConsole, RealFiles};
 
 /// How a run ended. Only `run` makes one, so that a `main` which answers it ends with the run's own exit number.
-#[derive(Debug, Drop)]
+#[derive(Drop)]
 pub struct Ended {
     status: Status,
 }

@@ -14,6 +14,7 @@ ghost use Rattle.invariant_guess.specs.Trial.{IsFound};
 ghost use Rattle.static_matcher.specs.Lawful.{IsLawful as IsLawfulGround};
 ghost use Rattle.relaxed_reach.specs.Lawful.{IsLawful};
 ghost use Rattle.relaxed_reach.specs.Reachable.{IsReachedTask};
+ghost use Rattle.mutex_groups.specs.Laws.{IsReachedOf};
 ghost use Rattle.type_checker.specs.Checked.{IsChecked};
 ghost use Rattle.translator.specs.Run.{of_texts};
 ghost use Rattle.translator.specs.RunTask.{IsRunEncoding, IsRunTask};
@@ -45,7 +46,7 @@ use task_simplifier::simplify;
 use type_checker::{Checked, Side, check};
 
 /// The text of a task, with its sizes and those of the search for invariants.
-#[derive(Debug, Drop)]
+#[derive(Drop)]
 pub(crate) struct Translation {
     pub(crate) text: Vec<u8>,
     pub(crate) summary: Summary,
@@ -109,13 +110,38 @@ fn encoded(alloc: Global, normal: &Normal, found: &Found) -> Result<SasTask, All
     requires well_formed { list_all (is_well_formed normal.now) found.now.accepted ≡ true }
     ensures { IfOk result (IsRunEncoding normal.now found.now) }
 {
+    let reached = reached_of(alloc, normal)?;
+    encoded_over(alloc, normal, found, &reached)
+}
+
+/// The encoding of the reached task over the cover by the groups of the invariants.
+fn encoded_over(
+    alloc: Global,
+    normal: &Normal,
+    found: &Found,
+    reached: &Reached,
+) -> Result<SasTask, AllocError>
+    requires lawful { IsLawfulNormal normal.now }
+    requires well_formed { list_all (is_well_formed normal.now) found.now.accepted ≡ true }
+    requires reached { IsReachedOf normal.now reached.now }
+    requires lawful_reached { IsLawful reached.now }
+    ensures { IfOk result (IsRunEncoding normal.now found.now) }
+{
     groups_of_facts();
-    let ground = instances(alloc, normal)?;
-    let reached = reached::<Brand>(alloc, &ground, Blank::new(1))?;
-    let layers = layers(alloc, &reached)?;
-    let groups = groups(alloc, normal, found.accepted.as_slice(), &reached)?;
+    let layers = layers(alloc, reached)?;
+    let groups = groups(alloc, normal, found.accepted.as_slice(), reached)?;
     let cover = cover(alloc, reached.facts.as_slice().len() as u64, &groups)?;
-    encode(alloc, &reached, &cover, &groups, &layers)
+    encode(alloc, reached, &cover, &groups, &layers)
+}
+
+/// What can be reached of the normal task's instances.
+fn reached_of(alloc: Global, normal: &Normal) -> Result<Reached, AllocError>
+    requires { IsLawfulNormal normal.now }
+    ensures reached { IfOk result (IsReachedOf normal.now) }
+    ensures lawful { IfOk result IsLawful }
+{
+    let ground = instances(alloc, normal)?;
+    reached::<Brand>(alloc, &ground, Blank::new(1))
 }
 
 /// What can be reached of a ground task. Its steps are counted in the blank's ledger, which nothing asks for.

@@ -1,9 +1,8 @@
 //! Larger tasks, whose texts follow a rule.
 
-use super::{PROBLEM, WORDS, answers, prepared};
+use super::{PROBLEM, gives};
 use std::alloc::{AllocError, Global};
 use std::test::*;
-use translator::Status;
 
 const GRIPPER: &[u8] = b"(define (domain gripper)
  (:requirements :strips :typing)
@@ -119,37 +118,21 @@ end_operator
 ";
 
 fn four_balls(alloc: Global) -> Result<String, AllocError> {
-    let mut text = String::from_str(
-        alloc,
-        "begin_version\n3\nend_version\nbegin_metric\n0\nend_metric\n",
-    )?;
-    push_variables(alloc, &mut text)?;
-    push_groups(alloc, &mut text)?;
-    text.push_str("begin_state\n0\n0\n0\n0\n0\n0\n0\nend_state\n")?;
-    text.push_str("begin_goal\n4\n3 1\n4 1\n5 1\n6 1\nend_goal\n34\n")?;
-    push_handlings(alloc, &mut text, Handling::Drop)?;
-    text.push_str(MOVES)?;
-    push_handlings(alloc, &mut text, Handling::Pick)?;
-    text.push_str("0\n")?;
+    let mut text = String::new(alloc);
+    push_four_balls(alloc, &mut text)?;
     Ok(text)
 }
 
-/// Whether this text and these lines come of the two files.
-fn is_written(
-    alloc: Global,
-    domain: &[u8],
-    problem: &[u8],
-    text: &str,
-    summary: &str,
-) -> Result<bool, AllocError> {
-    let mut outside = prepared(alloc, domain, problem)?;
-    outside.room(1_000_000)?;
-    let is_done = answers(alloc, &WORDS, &mut outside, Status::Done)?;
-    Ok(
-        is_done
-            && outside.holds("output.sas", text.as_bytes())
-            && outside.has_printed(summary.as_bytes()),
-    )
+fn push_four_balls(alloc: Global, text: &mut String) -> Result<(), AllocError> {
+    text.push_str("begin_version\n3\nend_version\nbegin_metric\n0\nend_metric\n")?;
+    push_variables(alloc, text)?;
+    push_groups(alloc, text)?;
+    text.push_str("begin_state\n0\n0\n0\n0\n0\n0\n0\nend_state\n")?;
+    text.push_str("begin_goal\n4\n3 1\n4 1\n5 1\n6 1\nend_goal\n34\n")?;
+    push_handlings(alloc, text, Handling::Drop)?;
+    text.push_str(MOVES)?;
+    push_handlings(alloc, text, Handling::Pick)?;
+    text.push_str("0\n")
 }
 
 #[test]
@@ -163,7 +146,7 @@ Translator mutex groups: 7
 Translator operators: 34
 Translator axioms: 0
 ";
-    assert!(rt; is_written(rt.alloc(), GRIPPER, FOUR_BALLS, &text, summary)?);
+    assert!(rt; gives(rt.alloc(), GRIPPER, FOUR_BALLS, &text, summary)?);
     Ok(())
 }
 

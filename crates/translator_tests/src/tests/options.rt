@@ -170,14 +170,24 @@ fn is_written_within(
     numbers: &[u64; 2],
     text: &[u8],
 ) -> Result<bool, AllocError> {
-    let mut outside = switch(alloc)?;
     let words = ["translate", "d.pddl", "p.pddl", CANDIDATES, limit];
-    let is_done = answers(alloc, &words, &mut outside, Status::Done)?;
     let [candidates, invariants] = *numbers;
     let printed = format!(in alloc;
         "Translator candidates: {candidates}\nTranslator invariants: {invariants}\nTranslator variables: "
     )?;
-    Ok(is_done && outside.holds("output.sas", text) && outside.begins_with(printed.as_bytes()))
+    begins_with(alloc, &words, text, printed.as_bytes())
+}
+
+/// Whether these words write the text, and what is printed begins so.
+fn begins_with(
+    alloc: Global,
+    words: &[&str],
+    text: &[u8],
+    printed: &[u8],
+) -> Result<bool, AllocError> {
+    let mut outside = switch(alloc)?;
+    let is_done = answers(alloc, words, &mut outside, Status::Done)?;
+    Ok(is_done && outside.holds("output.sas", text) && outside.begins_with(printed))
 }
 
 #[test]

@@ -1,24 +1,17 @@
 //! The top call on the real files and the standard output.
 
-use super::{DOMAIN, PROBLEM, TEXT};
+use super::{DOMAIN, PROBLEM, TEXT, words};
 use std::alloc::AllocError;
 use std::fs;
 use std::test::*;
 use tl_device::{RealConsole, RealFiles};
 use translator::{Status, translate};
 
-fn words(rt: &HostRuntime, names: [&str; 3]) -> Result<Vec<String>, AllocError> {
-    let mut words = Vec::new(rt.alloc());
-    for name in names {
-        words.push(String::from_str(rt.alloc(), name)?)?;
-    }
-    Ok(words)
-}
-
-fn answers(rt: &HostRuntime, names: [&str; 3], status: Status) -> Result<bool, AllocError> {
+fn answers(rt: &HostRuntime, names: &[&str], status: Status) -> Result<bool, AllocError> {
+    let words = words(rt.alloc(), names)?;
     let mut files = RealFiles::new(rt);
     let mut console = RealConsole::new(rt);
-    Ok(translate(rt.alloc(), words(rt, names)?, &mut files, &mut console) == status)
+    Ok(translate(rt.alloc(), words, &mut files, &mut console) == status)
 }
 
 fn holds(rt: &HostRuntime, name: &str, bytes: &[u8]) -> bool {
@@ -38,11 +31,11 @@ fn the_switch_task_is_written_to_the_real_output_file(rt: HostRuntime) -> Result
     assert!(rt;
         answers(
             &rt,
-            ["translate", DOMAIN_NAME, "translate_no_file"],
+            &["translate", DOMAIN_NAME, "translate_no_file"],
             Status::Device
         )?
     );
-    assert!(rt; answers(&rt, ["translate", DOMAIN_NAME, PROBLEM_NAME], Status::Done)?);
+    assert!(rt; answers(&rt, &["translate", DOMAIN_NAME, PROBLEM_NAME], Status::Done)?);
     assert!(rt; holds(&rt, "output.sas", TEXT));
     for name in [DOMAIN_NAME, PROBLEM_NAME, "output.sas"] {
         fs::remove_file(&rt, name)?;

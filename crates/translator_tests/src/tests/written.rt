@@ -1,10 +1,9 @@
 //! What is written for pairs of files. Every text was worked by hand from the rules of the output.
 
-use super::{WORDS, answers, prepared};
+use super::gives;
 use std::alloc::{AllocError, Global};
 use std::process::Abort;
 use std::test::*;
-use translator::Status;
 
 /// A pair of files and the task that is written for it. In its lines ` / ` stands for a line feed.
 pub(super) struct Row {
@@ -66,6 +65,17 @@ fn push_groups(alloc: Global, text: &mut String, groups: &[&str]) -> Result<(), 
     Ok(())
 }
 
+/// The lines between the two that tell the sort.
+fn push_block(
+    alloc: Global,
+    text: &mut String,
+    sort: &str,
+    lines: &str,
+) -> Result<(), AllocError> {
+    let block = format!(in alloc; "begin_{sort} / {lines} / end_{sort}")?;
+    push_lines(text, &block)
+}
+
 /// The blocks of operators or of rules.
 fn push_blocks(
     alloc: Global,
@@ -75,8 +85,7 @@ fn push_blocks(
 ) -> Result<(), AllocError> {
     push_count(alloc, text, blocks.len())?;
     for block in blocks {
-        let block = format!(in alloc; "begin_{sort} / {block} / end_{sort}")?;
-        push_lines(text, &block)?;
+        push_block(alloc, text, sort, block)?;
     }
     Ok(())
 }
@@ -84,18 +93,20 @@ fn push_blocks(
 impl Row {
     /// The whole text of the task.
     fn text(&self, alloc: Global) -> Result<String, AllocError> {
-        let mut text = String::from_str(alloc, "begin_version\n3\nend_version\n")?;
-        let metric = format!(in alloc; "begin_metric / {} / end_metric", self.metric)?;
-        push_lines(&mut text, &metric)?;
-        push_variables(alloc, &mut text, self.variables)?;
-        push_groups(alloc, &mut text, self.groups)?;
-        let state = format!(in alloc; "begin_state / {} / end_state", self.state)?;
-        push_lines(&mut text, &state)?;
-        let goal = format!(in alloc; "begin_goal / {} / end_goal", self.goal)?;
-        push_lines(&mut text, &goal)?;
-        push_blocks(alloc, &mut text, "operator", self.operators)?;
-        push_blocks(alloc, &mut text, "rule", self.rules)?;
+        let mut text = String::new(alloc);
+        self.push_text(alloc, &mut text)?;
         Ok(text)
+    }
+
+    fn push_text(&self, alloc: Global, text: &mut String) -> Result<(), AllocError> {
+        push_block(alloc, text, "version", "3")?;
+        push_block(alloc, text, "metric", self.metric)?;
+        push_variables(alloc, text, self.variables)?;
+        push_groups(alloc, text, self.groups)?;
+        push_block(alloc, text, "state", self.state)?;
+        push_block(alloc, text, "goal", self.goal)?;
+        push_blocks(alloc, text, "operator", self.operators)?;
+        push_blocks(alloc, text, "rule", self.rules)
     }
 
     /// The lines that are printed: what was found, and the sizes of the task.
@@ -116,16 +127,9 @@ impl Row {
 
     /// Whether its task is written for its files, and its sizes are printed.
     fn is_written(&self, alloc: Global) -> Result<bool, AllocError> {
-        let mut outside = prepared(alloc, self.domain.as_bytes(), self.problem.as_bytes())?;
-        outside.room(100_000)?;
-        let is_done = answers(alloc, &WORDS, &mut outside, Status::Done)?;
         let text = self.text(alloc)?;
         let summary = self.summary(alloc)?;
-        Ok(
-            is_done
-                && outside.holds("output.sas", text.as_bytes())
-                && outside.has_printed(summary.as_bytes()),
-        )
+        gives(alloc, self.domain.as_bytes(), self.problem.as_bytes(), &text, &summary)
     }
 }
 
