@@ -12,7 +12,7 @@ use clap::error::ErrorKind;
 use std::alloc::{AllocError, Global};
 
 /// The words that were accepted: the names of the files, and the greatest number of candidates.
-#[derive(Clone, Copy, Debug, PartialEq, Eq)]
+#[derive(Clone, Copy, PartialEq, Eq)]
 pub struct Accepted<'a> {
     pub domain: &'a str,
     pub problem: &'a str,

@@ -1,7 +1,7 @@
 //! The command's options and positions.
 
 ghost use Rattle.std.specs.Prelude.{◌≡◌, IfOk, false};
-ghost use Rattle.clap.specs.Words.{app_of, new_rule, rule_of};
+ghost use Rattle.clap.specs.Words.{app_of, rule_of};
 ghost use Rattle.command_line.specs.Command as spec;
 
 use clap::{Arg, ArgAction, Command};

@@ -42,7 +42,7 @@ pub(crate) fn term_at(position: u64, terms: &[Place]) -> Place
 }
 
 /// Two terms that are equated, or the leader of a class and the one that now leads it.
-#[derive(Debug, Drop)]
+#[derive(Drop)]
 pub(crate) struct Pair {
     pub(crate) left: Place,
     pub(crate) right: Place,

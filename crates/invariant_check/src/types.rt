@@ -10,7 +10,7 @@ use std::hash::{Hash, Hasher};
 
 /// A candidate for an invariant: with an object for each parameter, it covers the atoms that have these objects at the
 /// places of a part.
-#[derive(Debug, PartialEq, Eq, Drop)]
+#[derive(PartialEq, Eq, Drop)]
 pub struct Candidate {
     pub parameters: u64,
     pub parts: List<Part>,
@@ -45,7 +45,7 @@ impl Hash for Candidate {
 
 /// The atoms of a predicate that have the parameters at these argument positions, in the order of the parameters. At most
 /// one position is left, which is counted.
-#[derive(Debug, PartialEq, Eq, Drop)]
+#[derive(PartialEq, Eq, Drop)]
 pub struct Part {
     pub predicate: u64,
     pub places: List<u64>,
@@ -90,14 +90,14 @@ pub(crate) fn copies(alloc: Global, parts: &[Part]) -> Result<Vec<Part>, AllocEr
 }
 
 /// An add effect, by its schema and its effect row.
-#[derive(Debug, Drop)]
+#[derive(Drop)]
 pub struct AddPlace {
     pub schema: u64,
     pub effect: u64,
 }
 
 /// What the check says of a candidate.
-#[derive(Debug, Drop)]
+#[derive(Drop)]
 pub enum Verdict {
     /// It is light and balanced.
     Accepted,

@@ -5,7 +5,7 @@ ghost use Rattle.std.specs.Cmp.{nat_eq_equiv, partial_equiv_from_equiv};
 use std::marker::Model;
 
 /// A text. Contracts see its bytes, in order.
-#[derive(Debug, Drop)]
+#[derive(Drop)]
 pub struct Text {
     bytes: Vec<u8>,
 }

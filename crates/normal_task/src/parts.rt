@@ -4,14 +4,14 @@ use crate::task::Literal;
 use lists::List;
 
 /// A list of variables, each by the objects that it ranges over, and a list of literals.
-#[derive(Debug, Drop)]
+#[derive(Drop)]
 pub struct Part {
     pub variables: List<List<u64>>,
     pub literals: List<Literal>,
 }
 
 /// A new derived predicate: what its arguments range over, and the parts of its axioms.
-#[derive(Debug, Drop)]
+#[derive(Drop)]
 pub struct Fresh {
     pub arguments: List<List<u64>>,
     pub parts: List<Part>,

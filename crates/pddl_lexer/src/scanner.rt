@@ -5,7 +5,7 @@ ghost use Rattle.pddl_lexer.specs.Text.{is_word_byte, is_blank, mark};
 ghost use Rattle.pddl_lexer.specs.Scanner.{StandsAfter};
 
 /// What stands at a byte.
-#[derive(Clone, Copy, Debug, PartialEq, Eq)]
+#[derive(Clone, Copy, PartialEq, Eq)]
 pub(crate) enum Mark {
     /// A comment, a blank, or a word that began earlier.
     Nothing,
@@ -20,7 +20,7 @@ pub(crate) enum Mark {
 }
 
 /// A place in a text, and what the bytes before it say about it.
-#[derive(Clone, Copy, Debug)]
+#[derive(Clone, Copy)]
 pub(crate) struct Scanner {
     /// The line of the place, from 1.
     pub(crate) line: u64,

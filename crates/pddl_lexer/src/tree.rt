@@ -7,7 +7,7 @@ ghost use Rattle.pddl_lexer.specs.Nodes.{entry, content_word, content_below, Sho
 use std::marker::Model;
 
 /// What a node is.
-#[derive(Clone, Copy, Debug)]
+#[derive(Clone, Copy)]
 pub(crate) enum Content<'a> {
     /// A word, with its bytes as written.
     Word(&'a [u8]),
@@ -16,7 +16,7 @@ pub(crate) enum Content<'a> {
 }
 
 /// A word or a list of the tree.
-#[derive(Clone, Copy, Debug)]
+#[derive(Clone, Copy)]
 pub(crate) struct Node<'a> {
     pub(crate) line: u64,
     /// How many lists it stands in.
@@ -40,7 +40,7 @@ impl<'a> Content<'a> {
 ///
 /// The words and lists in it are its nodes. They are numbered from 0 in pre-order: node 0 is the whole list, and
 /// the members of a list come after it, each with what stands in it.
-#[derive(Debug, Drop)]
+#[derive(Drop)]
 pub struct Tree<'a> {
     nodes: Vec<Node<'a>>,
 }

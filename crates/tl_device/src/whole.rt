@@ -60,7 +60,7 @@ pub fn put_all<F: Files>(files: &mut F, bytes: &[u8]) -> Result<(), Failed>
 }
 
 /// How a read of a whole file ends without its bytes.
-#[derive(Clone, Copy, Debug, PartialEq, Eq)]
+#[derive(Clone, Copy, PartialEq, Eq)]
 pub enum ReadEnd {
     /// A call on the files failed.
     Failed,
