@@ -7,7 +7,7 @@ ghost use Rattle.normal_task.specs.Normalised as spec;
 ghost use Rattle.normal_task.specs.Numbers.{ranges_of};
 ghost use Rattle.normal_task.specs.Parts as parts;
 
-use crate::cut::{Here, cut, joined_made, neutral};
+use crate::conditions::{Here, cut, joined_made, neutral};
 use lists::List;
 use normal_rows::{Change, Made, effect_rows, joined_ranges, made_behind, nothing_made};
 use normal_task::{EffectRow, Part};

@@ -5,7 +5,7 @@ ghost use Rattle.action_schemas.specs.SchemaRows.{schemas_in_scope, schemas_of_p
 ghost use Rattle.normal_task.specs.Normalised as spec;
 ghost use Rattle.normal_task.specs.Parts as parts;
 
-use crate::cut::{Here, cut};
+use crate::conditions::{Here, cut};
 use crate::effects::{Around, rows_of};
 use lists::{List, Text};
 use normal_rows::{Made, action_cost, joined_lists, joined_ranges, made_behind, moved_rows, nothing_made};

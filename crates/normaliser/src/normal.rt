@@ -131,6 +131,14 @@ fn normal_of(alloc: Global, numbering: &Numbering<'_>, made: MadeAll) -> Result<
     })
 }
 
+/// The normal task of the two files by their numbers.
+fn numbered(alloc: Global, numbering: &Numbering<'_>) -> Result<Normal, AllocError>
+    ensures { IfOk result (λ normal. normal ≡ spec.normal numbering.now.domain numbering.now.problem) }
+{
+    let made = make_all(alloc, numbering)?;
+    normal_of(alloc, numbering, made)
+}
+
 /// The normal task of the two files (Helmert 2009, section 4): objects and predicates become numbers, and conditions,
 /// effects and axioms become lists of literals, with a new derived predicate for each `forall`. The only error is want
 /// of memory, also where numbers would exceed a `u64`.
@@ -138,6 +146,5 @@ pub fn normalise(alloc: Global, task: &Checked) -> Result<Normal, AllocError>
     ensures { IfOk result (λ normal. normal ≡ spec.normal task.now.domain task.now.problem) }
 {
     let numbering = Numbering::of(alloc, task)?;
-    let made = make_all(alloc, &numbering)?;
-    normal_of(alloc, &numbering, made)
+    numbered(alloc, &numbering)
 }

@@ -5,4 +5,4 @@ use Rattle.normal_task.specs.Normalised as spec
 use Rattle.normaliser.proofs.normal.normalise.Goals as goal
 
 pub returns : goal.returns
-returns c = subst (λ (p : Pair). IfOk c.normal_of.result (λ normal. normal ≡ spec.normal p.domain p.problem)) c.in_ok-numbering.ensures c.normal_of.ensures
+returns c = subst (λ (p : Pair). IfOk c.numbered.result (λ normal. normal ≡ spec.normal p.domain p.problem)) c.in_ok-numbering.ensures c.numbered.ensures

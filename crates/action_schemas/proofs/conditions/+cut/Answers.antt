@@ -7,7 +7,7 @@ use Rattle.normal_task.specs.Parts.{Made, Known, known, parts}
 use Rattle.normal_rows.specs.MadeThings.{IsMadeOf}
 use Rattle.action_schemas.proofs.CutSteps.{member-more, two-are, imply-is, forall-none, forall-some, exists-some, exists-none}
 use Rattle.normal_rows.proofs.TurnSteps.{twice-next}
-use Rattle.action_schemas.proofs.cut.+cut.Goals as goal
+use Rattle.action_schemas.proofs.conditions.+cut.Goals as goal
 
 pub cut_members-loop-member-preserved : goal.cut_members-loop-member-preserved
 cut_members-loop-member-preserved t c =

@@ -1,5 +1,5 @@
 // How a condition is cut into parts.
-ghost use Rattle.std.specs.Prelude.{◌≡◌, ◌++◌, ◌+◌, ◌∷◌, [], map, length, true, false, IfOk, OnOk, if◌then◌else◌};
+ghost use Rattle.std.specs.Prelude.{◌≡◌, ◌++◌, ◌+◌, ◌∷◌, [], suc, map, length, true, false, IfOk, OnOk, if◌then◌else◌};
 ghost use Rattle.normal_task.specs.declared.task.Literal.TheVariants.{Holds, Equal};
 ghost use Rattle.normal_task.specs.declared.task.Place.TheVariants as place;
 ghost use Rattle.normal_task.specs.Numbers.{predicate_number, ranges_of};
@@ -105,11 +105,12 @@ fn cut_some<'n, 'a>(
 ) -> Result<Made<Part>, AllocError>
     ensures { IfOk result (IsMadeOf (spec.exists_inside here.now.numbering.now.domain here.now.numbering.now.problem variables.now (spec.known here.now.numbering.now.domain here.now.numbering.now.problem inside.now) positive here.now.scope.now here.now.around next)) }
 {
+    let around = sum(here.around, variables.len() as u64)?;
     let scope = scope_inside(alloc, here.numbering, variables, here.around, here.scope)?;
     let inner = Here {
         numbering: here.numbering,
         scope: scope.as_slice(),
-        around: sum(here.around, variables.len() as u64)?,
+        around,
     };
     let made = cut(alloc, &inner, inside, positive, next)?;
     behind(alloc, here.numbering, variables, made)
@@ -128,14 +129,31 @@ fn cut_none<'n, 'a>(
     ensures { IfOk result (IsMadeOf (spec.none_inside here.now.numbering.now.domain here.now.numbering.now.problem variables.now (spec.known here.now.numbering.now.domain here.now.numbering.now.problem inside.now) positive here.now.scope.now here.now.around next)) }
 {
     let arguments = free_slots(alloc, here.numbering, variables, inside, here.scope)?;
-    let outer = renumbered(alloc, &arguments)?;
+    cut_denied(alloc, here.numbering, &arguments, variables, inside, positive, next)
+}
+
+/// The same, where a new predicate has these arguments.
+#[cycle(cut)]
+fn cut_denied<'n, 'a>(
+    alloc: Global,
+    numbering: &'n Numbering<'a>,
+    arguments: &[Variable<'n, 'a>],
+    variables: &'a [Typed],
+    inside: &'a Condition,
+    positive: bool,
+    next: u64,
+) -> Result<Made<Part>, AllocError>
+    ensures { IfOk result (IsMadeOf (spec.denied numbering.now.domain numbering.now.problem arguments.now next (spec.exists_inside numbering.now.domain numbering.now.problem variables.now (spec.known numbering.now.domain numbering.now.problem inside.now) positive (spec.renumbered arguments.now 0 []) (length arguments.now) (suc next)))) }
+{
+    let after = sum(next, 1)?;
+    let scope = renumbered(alloc, arguments)?;
     let there = Here {
-        numbering: here.numbering,
-        scope: outer.as_slice(),
+        numbering,
+        scope: scope.as_slice(),
         around: arguments.len() as u64,
     };
-    let body = cut_some(alloc, &there, variables, inside, positive, sum(next, 1)?)?;
-    denied(alloc, here.numbering, &arguments, next, body)
+    let body = cut_some(alloc, &there, variables, inside, positive, after)?;
+    denied(alloc, numbering, arguments, next, body)
 }
 
 /// The negation of a new derived predicate with these arguments, whose axioms have these parts.

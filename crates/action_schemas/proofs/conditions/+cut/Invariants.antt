@@ -2,7 +2,7 @@ use Rattle.std.proofs.Common.{map, take}
 use Rattle.normal_task.specs.Parts as spec
 use Rattle.normal_rows.specs.MadeThings.{IsMadeOf}
 use Rattle.action_schemas.specs.Cuts.{combined}
-use Rattle.action_schemas.proofs.cut.+cut.Given as goal
+use Rattle.action_schemas.proofs.conditions.+cut.Given as goal
 
 abbrev pub invariant-cut_members-loop-member : goal.invariant-cut_members-loop-member
 invariant-cut_members-loop-member l =
