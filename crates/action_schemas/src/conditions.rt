@@ -1,5 +1,5 @@
 // How a condition is cut into parts.
-ghost use Rattle.std.specs.Prelude.{◌≡◌, ◌++◌, ◌+◌, ◌∷◌, [], suc, map, length, true, false, IfOk, OnOk, if◌then◌else◌};
+ghost use Rattle.std.specs.Prelude.{◌≡◌, ◌++◌, ◌+◌, [], suc, map, length, true, false, IfOk, if◌then◌else◌};
 ghost use Rattle.normal_task.specs.declared.task.Literal.TheVariants.{Holds, Equal};
 ghost use Rattle.normal_task.specs.declared.task.Place.TheVariants as place;
 ghost use Rattle.normal_task.specs.Numbers.{predicate_number, ranges_of};
@@ -9,7 +9,8 @@ ghost use Rattle.action_schemas.specs.Cuts.{combined};
 
 use lists::List;
 use normal_rows::{
-    Made, behind_ranges, free_slots, joined_lists, one_part, paired, part_alone, renumbered, variables_of, with_fresh,
+    Made, behind_ranges, free_slots, joined_lists, one_part, paired, part_alone, renumbered,
+    variables_of, with_fresh,
 };
 use normal_task::{Literal, Part};
 use numbering::{Numbering, Variable, place_of, places_of, scope_inside, sum};
@@ -129,7 +130,15 @@ fn cut_none<'n, 'a>(
     ensures { IfOk result (IsMadeOf (spec.none_inside here.now.numbering.now.domain here.now.numbering.now.problem variables.now (spec.known here.now.numbering.now.domain here.now.numbering.now.problem inside.now) positive here.now.scope.now here.now.around next)) }
 {
     let arguments = free_slots(alloc, here.numbering, variables, inside, here.scope)?;
-    cut_denied(alloc, here.numbering, &arguments, variables, inside, positive, next)
+    cut_denied(
+        alloc,
+        here.numbering,
+        &arguments,
+        variables,
+        inside,
+        positive,
+        next,
+    )
 }
 
 /// The same, where a new predicate has these arguments.

@@ -1,5 +1,5 @@
 // The effects of an action.
-ghost use Rattle.std.specs.Prelude.{◌≡◌, ◌++◌, ◌∷◌, [], map, true, IfOk, OnOk};
+ghost use Rattle.std.specs.Prelude.{◌≡◌, ◌++◌, ◌∷◌, [], map, true, IfOk};
 ghost use Rattle.normal_rows.specs.MadeThings.{IsMadeOf};
 ghost use Rattle.normal_rows.specs.Changes.{changed_row};
 ghost use Rattle.action_schemas.specs.Cuts.{cut_of, cuts_of};

@@ -1,5 +1,5 @@
 // The schemas of actions.
-ghost use Rattle.std.specs.Prelude.{◌≡◌, ◌++◌, ◌∷◌, [], map, length, IfOk, OnOk};
+ghost use Rattle.std.specs.Prelude.{◌≡◌, [], map, IfOk};
 ghost use Rattle.normal_rows.specs.MadeThings.{IsMadeOf};
 ghost use Rattle.action_schemas.specs.SchemaRows.{schemas_in_scope, schemas_of_parts, shared_schema};
 ghost use Rattle.normal_task.specs.Normalised as spec;
@@ -8,7 +8,9 @@ ghost use Rattle.normal_task.specs.Parts as parts;
 use crate::conditions::{Here, cut};
 use crate::effects::{Around, rows_of};
 use lists::{List, Text};
-use normal_rows::{Made, action_cost, joined_lists, joined_ranges, made_behind, moved_rows, nothing_made};
+use normal_rows::{
+    Made, action_cost, joined_lists, joined_ranges, made_behind, moved_rows, nothing_made,
+};
 use normal_task::{EffectRow, Part, Schema};
 use numbering::{Numbering, Variable, scope_inside, sum};
 use pddl_parser::Action;

@@ -1,5 +1,5 @@
 // What actions cost.
-ghost use Rattle.std.specs.Prelude.{◌≡◌, [], ◌∷◌, map, IfOk, if◌then◌else◌};
+ghost use Rattle.std.specs.Prelude.{◌≡◌, map, IfOk};
 ghost use Rattle.std.specs.List.{flat_map};
 ghost use Rattle.std.specs.Option.{option_map};
 ghost use Rattle.pddl_parser.specs.Step.{increases};

@@ -1,5 +1,5 @@
 //! The parts and rows of a normal task: how they are copied, moved and joined, which variables a quantified condition
-//! asks for, and what actions cost.
+//! asks for, and what actions cost. The only error of a call is want of memory, also where numbers would exceed a `u64`.
 #![tactic(auto)]
 
 mod behind;

@@ -1,5 +1,5 @@
 // The rows of a normal task, made of parts.
-ghost use Rattle.std.specs.Prelude.{◌≡◌, ◌++◌, ◌∷◌, [], map, length, IfOk, OnOk};
+ghost use Rattle.std.specs.Prelude.{◌≡◌, ◌++◌, map, length, IfOk, OnOk};
 ghost use Rattle.normal_task.specs.Parts as spec;
 
 use crate::moved::moved_places;
@@ -30,10 +30,8 @@ fn copied_ranges(alloc: Global, ranges: &[List<u64>]) -> Result<List<List<u64>>,
     Ok(List::from_vec(copy))
 }
 
-pub fn copied_literals(
-    alloc: Global,
-    literals: &[Literal],
-) -> Result<List<Literal>, AllocError>
+/// A copy of the literals.
+pub fn copied_literals(alloc: Global, literals: &[Literal]) -> Result<List<Literal>, AllocError>
     ensures { IfOk result (λ copy. copy ≡ literals.now) }
 {
     let mut copy = Vec::new(alloc);

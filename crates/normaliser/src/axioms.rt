@@ -1,5 +1,5 @@
 // The axioms of the files and of new predicates.
-ghost use Rattle.std.specs.Prelude.{◌≡◌, ◌++◌, ◌∷◌, [], map, length, true, IfOk, OnOk};
+ghost use Rattle.std.specs.Prelude.{◌≡◌, ◌++◌, [], map, length, true, IfOk, OnOk};
 ghost use Rattle.normal_rows.specs.MadeThings.{IsMadeOf};
 ghost use Rattle.normal_task.specs.Normalised as spec;
 ghost use Rattle.normal_task.specs.Numbers.{predicate_number, ranges_of};

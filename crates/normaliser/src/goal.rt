@@ -1,5 +1,5 @@
 // The goal.
-ghost use Rattle.std.specs.Prelude.{◌≡◌, ◌++◌, ◌∷◌, [], map, length, true, IfOk, OnOk};
+ghost use Rattle.std.specs.Prelude.{◌≡◌, true, IfOk};
 ghost use Rattle.normal_rows.specs.MadeThings.{IsMadeOf};
 ghost use Rattle.normaliser.specs.WholeTask.{plain};
 ghost use Rattle.normal_task.specs.Normalised as spec;

@@ -1,5 +1,5 @@
 // The normal task of a checked pair.
-ghost use Rattle.std.specs.Prelude.{◌≡◌, ◌++◌, ◌∷◌, [], map, length, true, IfOk, OnOk};
+ghost use Rattle.std.specs.Prelude.{◌≡◌, ◌++◌, [], map, true, IfOk, OnOk};
 ghost use Rattle.pddl_parser.specs.Objects.{objects};
 ghost use Rattle.normaliser.specs.WholeTask.{IsMadeAll, goal_from};
 ghost use Rattle.normal_rows.specs.MadeThings.{IsMadeOf};

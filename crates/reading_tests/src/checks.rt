@@ -12,11 +12,7 @@ use type_checker::{CheckEnd, Side, check};
 /// A fault that is answered, or none where both files are accepted.
 type Answer = Option<(Side, Kind, u64)>;
 
-fn is_fault(
-    side: Side,
-    fault: Fault,
-    (wanted_side, kind, line): (Side, Kind, u64),
-) -> bool {
+fn is_fault(side: Side, fault: Fault, (wanted_side, kind, line): (Side, Kind, u64)) -> bool {
     side == wanted_side && fault.kind == kind && fault.line == line
 }
 

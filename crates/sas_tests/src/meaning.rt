@@ -79,10 +79,7 @@ fn assert_values(rt: &impl Abort, alloc: Global, task: &SasTask) -> Result<(), A
         ([0, 0, 0, 0], [0, 0, 1, 1]),
     ];
     for (state, expected) in rows {
-        assert!(rt;
-            are_values(alloc, task, &state, &expected)?,
-            "{state:?}"
-        );
+        assert!(rt; are_values(alloc, task, &state, &expected)?, "{state:?}");
     }
     Ok(())
 }

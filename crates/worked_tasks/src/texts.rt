@@ -28,7 +28,8 @@ pub const BACK: &str = "(define (domain back) (:predicates (p ?x) (q ?x))
  (:action act :parameters (?x ?y) :precondition (q ?x) :effect (and (p ?x) (not (q ?x)) (q ?y))))";
 
 /// Two objects, of which the first has it.
-pub const TWO: &str = "(define (problem b) (:domain back) (:objects a b) (:init (q a)) (:goal (p b)))";
+pub const TWO: &str =
+    "(define (problem b) (:domain back) (:objects a b) (:init (q a)) (:goal (p b)))";
 
 /// A bell rings where one isn't at the first place.
 pub const BELL: &str = "(define (domain bell) (:constants l1) (:predicates (at ?l) (rung))

@@ -66,12 +66,7 @@ fn push_groups(alloc: Global, text: &mut String, groups: &[&str]) -> Result<(), 
 }
 
 /// The lines between the two that tell the sort.
-fn push_block(
-    alloc: Global,
-    text: &mut String,
-    sort: &str,
-    lines: &str,
-) -> Result<(), AllocError> {
+fn push_block(alloc: Global, text: &mut String, sort: &str, lines: &str) -> Result<(), AllocError> {
     let block = format!(in alloc; "begin_{sort} / {lines} / end_{sort}")?;
     push_lines(text, &block)
 }
@@ -129,7 +124,13 @@ impl Row {
     fn is_written(&self, alloc: Global) -> Result<bool, AllocError> {
         let text = self.text(alloc)?;
         let summary = self.summary(alloc)?;
-        gives(alloc, self.domain.as_bytes(), self.problem.as_bytes(), &text, &summary)
+        gives(
+            alloc,
+            self.domain.as_bytes(),
+            self.problem.as_bytes(),
+            &text,
+            &summary,
+        )
     }
 }
 
