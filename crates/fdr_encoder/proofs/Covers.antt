@@ -11,7 +11,8 @@ use Rattle.planning.specs.Task.{State}
 use Rattle.relaxed_reach.specs.declared.types.Reached.{Reached}
 use Rattle.relaxed_reach.specs.ReachedTask.{is_derived}
 use Rattle.fdr_encoder.specs.Places.{Cover, set_of}
-use Rattle.fdr_encoder.specs.Simulates.{AtMostOne, IsExclusive, IsCover, IsGroup}
+use Rattle.relaxed_reach.specs.Exclusive.{AtMostOne, IsExclusive}
+use Rattle.fdr_encoder.specs.Simulates.{IsCover, IsGroup}
 use Rattle.fdr_encoder.specs.Covers.{singles, IsGroupCover}
 use Rattle.group_cover.specs.Cover.{IsCover as IsCoverBy, AreParts, uncovered, single}
 use Rattle.group_cover.proofs.Parts.{covers_all, covers_once, lie_inside, are_filled, are_sorted, are_facts}

@@ -34,7 +34,8 @@ use Rattle.fdr_encoder.specs.Places.{Cover, pair, set_of, has, first_place, last
 use Rattle.fdr_encoder.specs.Effects.{effects_of, simplified}
 use Rattle.relaxed_reach.specs.Lawful.{IsLawfulEffect, IsLawfulAction, IsLawful}
 use Rattle.fdr_encoder.specs.Encoding.{is_groups, group_of, groups_of, IsSameOperator, IsEncoding}
-use Rattle.fdr_encoder.specs.Simulates.{IsCover, IsExclusive, IsGroup, Shows, Correspond, Simulates}
+use Rattle.relaxed_reach.specs.Exclusive.{IsExclusive}
+use Rattle.fdr_encoder.specs.Simulates.{IsCover, IsGroup, Shows, Correspond, Simulates}
 use Rattle.fdr_encoder.proofs.Lists.{any_member, member_map, map_member, filter_member}
 use Rattle.fdr_encoder.proofs.Sets.{has_member, place_of_true, true_at_place, same_place}
 use Rattle.fdr_encoder.proofs.After.{adds_fact, deletes_fact, is_added, is_deleted, after, successor_is}

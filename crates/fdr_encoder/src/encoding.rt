@@ -13,7 +13,8 @@ ghost use Rattle.fdr_encoder.specs.Encoding as parts;
 ghost use Rattle.relaxed_reach.specs.Lawful.{IsLawful};
 ghost use Rattle.relaxed_reach.specs.Layers.{AreLayers};
 ghost use Rattle.fdr_encoder.specs.Ordered.{AreByName, IsEncodingInOrder};
-ghost use Rattle.fdr_encoder.specs.Simulates.{IsCover, IsExclusive, IsGroup, Simulates};
+ghost use Rattle.relaxed_reach.specs.Exclusive.{IsExclusive};
+ghost use Rattle.fdr_encoder.specs.Simulates.{IsCover, IsGroup, Simulates};
 
 use crate::flags::flags;
 use crate::goal::{goal_pairs, goal_split, push_goal_rules, push_goal_value, push_goal_variable};

@@ -42,7 +42,8 @@ use Rattle.invariant_check.specs.WellFormed.{is_well_formed}
 use Rattle.invariant_check.proofs.Sound.{invariants_are_sound}
 use Rattle.invariant_check.proofs.Weights.{most_of_weight}
 use Rattle.mutex_groups.specs.Groups.{covers_fact, IsGroup}
-use Rattle.mutex_groups.specs.Laws.{IsReachedOf, IsExclusive, GroupsAreExclusive, GroupsAreSorted, GroupsAreFacts, GroupsAreBasic}
+use Rattle.relaxed_reach.specs.Exclusive.{IsExclusive}
+use Rattle.mutex_groups.specs.Laws.{IsReachedOf, GroupsAreExclusive, GroupsAreSorted, GroupsAreFacts, GroupsAreBasic}
 use Rattle.mutex_groups.proofs.Formed.{formed-part}
 
 -- ---- predicates that effects change

@@ -2,16 +2,14 @@
 use Rattle.std.specs.Prelude.{◌≡◌, ℕ, ◌<◌, true, false, List, length, Contains}
 use Rattle.std.specs.List.{list_all}
 use Rattle.std.specs.List.Sorted.{IsStrictlyIncreasing}
-use Rattle.planning.specs.Task.{State}
-use Rattle.planning.specs.Plan.{IsReachable}
 use Rattle.normal_task.specs.declared.task.Normal.{Normal}
 use Rattle.normal_task.specs.Lawful.{IsLawful}
 use Rattle.static_matcher.specs.declared.types.Ground.{Ground}
 use Rattle.static_matcher.specs.Instances.{IsGroundTask}
-use Rattle.static_matcher.specs.Literals.{meaning}
 use Rattle.relaxed_reach.specs.declared.types.Reached.{Reached}
-use Rattle.relaxed_reach.specs.ReachedTask.{is_derived, reached_task}
+use Rattle.relaxed_reach.specs.ReachedTask.{is_derived}
 use Rattle.relaxed_reach.specs.Reachable.{IsReachedTask}
+use Rattle.relaxed_reach.specs.Exclusive.{IsExclusive}
 use Rattle.invariant_check.specs.declared.types.Candidate.{Candidate}
 use Rattle.invariant_check.specs.Accepted.{is_accepted}
 use Rattle.invariant_check.specs.WellFormed.{is_well_formed}
@@ -22,12 +20,6 @@ pub record IsReachedOf (task : Normal) (reached : Reached) : Type 0 where
   pub ground_of : Ground
   pub is_ground : IsGroundTask task ground_of
   pub is_reached : IsReachedTask ground_of reached
-
--- in every reachable state of the reached task at most one fact of the group is true
-abbrev pub IsExclusive : Reached → List ℕ → Type 0
-IsExclusive reached group =
-    (state : State ℕ) → IsReachable (meaning (reached_task reached)) state →
-    (fact other : ℕ) → Contains group fact → Contains group other → state fact ≡ true → state other ≡ true → fact ≡ other
 
 -- the groups of accepted candidates are exclusive, where the reached task is the normal task's
 abbrev pub AreExclusive : Normal → List Candidate → Reached → List (List ℕ) → Type 0

@@ -4,7 +4,8 @@ use Rattle.std.specs.Prelude.{IfOk}
 use Rattle.std.specs.List.{All}
 use Rattle.std.specs.List.Sorted.{IsStrictlyIncreasing}
 use Rattle.relaxed_reach.specs.declared.types.Fact.{Fact}
-use Rattle.fdr_encoder.specs.Simulates.{IsCover, IsExclusive, IsGroup, Simulates}
+use Rattle.relaxed_reach.specs.Exclusive.{IsExclusive}
+use Rattle.fdr_encoder.specs.Simulates.{IsCover, IsGroup, Simulates}
 use Rattle.fdr_encoder.proofs.Covers.{covered_by_groups, exclusive_by_groups, sets_apart, sets_of_facts}
 use Rattle.fdr_encoder.proofs.encoding.encode.Goals as goal
 

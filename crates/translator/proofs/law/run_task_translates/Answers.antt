@@ -1,6 +1,6 @@
 use Rattle.normal_task.specs.Normalised.{normal}
 use Rattle.mutex_groups.specs.Laws.{IsReachedOf}
-use Rattle.fdr_encoder.specs.Simulates.{IsExclusive}
+use Rattle.relaxed_reach.specs.Exclusive.{IsExclusive}
 use Rattle.sas_task.proofs.Members.{all_from_members}
 use Rattle.translator.proofs.Translated.{sorted_groups, translates}
 use Rattle.translator.proofs.law.run_task_translates.Goals as goal
