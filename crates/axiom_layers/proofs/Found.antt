@@ -11,7 +11,7 @@ use Rattle.relaxed_reach.specs.ReachedTask.{is_derived, axiom_row}
 use Rattle.relaxed_reach.specs.Lawful.{IsLawful, IsLawfulAxiom}
 use Rattle.relaxed_reach.specs.Layers.{Names, RestsOn, AreLayers}
 use Rattle.relaxed_reach.proofs.OneLayers.{derived_below}
-use Rattle.axiom_layers.specs.declared.arcs.Arc.{Arc}
+use Rattle.names.specs.declared.arcs.Arc.{Arc}
 use Rattle.axiom_layers.specs.Arcs.{arc_to, arcs_at, arcs_of, AreSound, IsAbove, AreHeld}
 
 -- ---- an arc and its axiom
@@ -20,9 +20,9 @@ use Rattle.axiom_layers.specs.Arcs.{arc_to, arcs_at, arcs_of, AreSound, IsAbove,
 record Origin (reached : Reached) (arc : Arc) : Type 0 where
   row : ReachedAxiom
   of_task : Among row reached.axioms
-  for_fact : row.fact ≡ arc.fact
-  literal : Among arc.low row.condition.positive ⊎ Among arc.low row.condition.negative
-  derived : is_derived reached.facts arc.low ≡ true
+  for_fact : row.fact ≡ arc.to
+  literal : Among arc.from row.condition.positive ⊎ Among arc.from row.condition.negative
+  derived : is_derived reached.facts arc.from ≡ true
 
 origin : (reached : Reached) (arc : Arc) → Contains (arcs_of reached) arc → Origin reached arc
 origin reached arc in' =
@@ -39,9 +39,9 @@ origin reached arc in' =
         record {
           row = row;
           of_task = among;
-          for_fact = ap (λ (a : Arc). a.fact) from.gives;
-          literal = inl (subst (λ (a : Arc). Among a.low row.condition.positive) from.gives found.0);
-          derived = subst (λ (a : Arc). is_derived reached.facts a.low ≡ true) from.gives found.1;
+          for_fact = ap (λ (a : Arc). a.to) from.gives;
+          literal = inl (subst (λ (a : Arc). Among a.from row.condition.positive) from.gives found.0);
+          derived = subst (λ (a : Arc). is_derived reached.facts a.from ≡ true) from.gives found.1;
         }
     by_half row among (inr negative) =
         let from = map_source (arc_to row.fact) (filter (is_derived reached.facts) row.condition.negative) arc negative in
@@ -49,9 +49,9 @@ origin reached arc in' =
         record {
           row = row;
           of_task = among;
-          for_fact = ap (λ (a : Arc). a.fact) from.gives;
-          literal = inr (subst (λ (a : Arc). Among a.low row.condition.negative) from.gives found.0);
-          derived = subst (λ (a : Arc). is_derived reached.facts a.low ≡ true) from.gives found.1;
+          for_fact = ap (λ (a : Arc). a.to) from.gives;
+          literal = inr (subst (λ (a : Arc). Among a.from row.condition.negative) from.gives found.0);
+          derived = subst (λ (a : Arc). is_derived reached.facts a.from ≡ true) from.gives found.1;
         }
 
 -- a fact that rests on another has an arc to it
@@ -78,25 +78,25 @@ module _ (reached : Reached) (lawful : IsLawful reached) where
   head_derived : (row : ReachedAxiom) → Among row reached.axioms → is_derived reached.facts row.fact ≡ true
   head_derived row among = (All-contains (IsLawfulAxiom reached) reached.axioms row lawful.axioms (contains_among reached.axioms row among)).derived
 
-  arc_derived : (arc : Arc) → Origin reached arc → is_derived reached.facts arc.fact ≡ true
+  arc_derived : (arc : Arc) → Origin reached arc → is_derived reached.facts arc.to ≡ true
   arc_derived arc from = subst (λ (f : ℕ). is_derived reached.facts f ≡ true) from.for_fact (head_derived from.row from.of_task)
 
   pub sound : AreSound (length reached.facts) (arcs_of reached)
   sound = record {
-    within = λ arc in'. let from = origin reached arc in' in (derived_below reached.facts arc.fact (arc_derived arc from), derived_below reached.facts arc.low from.derived);
+    within = λ arc in'. let from = origin reached arc in' in (derived_below reached.facts arc.to (arc_derived arc from), derived_below reached.facts arc.from from.derived);
     rank = lawful.ranked.rank;
     falls = λ arc in'.
         let from = origin reached arc in' in
-        subst (λ (f : ℕ). lawful.ranked.rank arc.low < lawful.ranked.rank f) from.for_fact (by_sign arc from from.literal);
+        subst (λ (f : ℕ). lawful.ranked.rank arc.from < lawful.ranked.rank f) from.for_fact (by_sign arc from from.literal);
   }
     where
-      by_sign : (arc : Arc) (from : Origin reached arc) → Among arc.low from.row.condition.positive ⊎ Among arc.low from.row.condition.negative → lawful.ranked.rank arc.low < lawful.ranked.rank from.row.fact
+      by_sign : (arc : Arc) (from : Origin reached arc) → Among arc.from from.row.condition.positive ⊎ Among arc.from from.row.condition.negative → lawful.ranked.rank arc.from < lawful.ranked.rank from.row.fact
       by_sign arc from (inl positive) =
           lawful.ranked.positive (axiom_row from.row) (contains_among (map axiom_row reached.axioms) (axiom_row from.row) (among_map axiom_row from.row reached.axioms from.of_task))
-          arc.low (contains_among from.row.condition.positive arc.low positive) from.derived
+          arc.from (contains_among from.row.condition.positive arc.from positive) from.derived
       by_sign arc from (inr negative) =
           lawful.ranked.negative (axiom_row from.row) (contains_among (map axiom_row reached.axioms) (axiom_row from.row) (among_map axiom_row from.row reached.axioms from.of_task))
-          arc.low (contains_among from.row.condition.negative arc.low negative) from.derived
+          arc.from (contains_among from.row.condition.negative arc.from negative) from.derived
 
   pub are_layers : (layers : List ℕ) → length layers ≡ length reached.facts → AreHeld (arcs_of reached) layers → All (IsAbove layers) (arcs_of reached) → AreLayers reached layers
   are_layers layers count held above = record {
@@ -108,15 +108,15 @@ module _ (reached : Reached) (lawful : IsLawful reached) where
     above = λ fact low within rests. All-contains (IsAbove layers) (arcs_of reached) (arc_to fact low) above (arc_in reached fact low rests);
     least = λ fact within. elim (held fact within) [
       | inl none ↦ inl none
-      | inr some ↦ inr (some.0.low, rests fact some.0 some.2 (origin reached some.0 some.1), exact fact some.0 some.2 some.3 (All-contains (IsAbove layers) (arcs_of reached) some.0 above some.1))
+      | inr some ↦ inr (some.0.from, rests fact some.0 some.2 (origin reached some.0 some.1), exact fact some.0 some.2 some.3 (All-contains (IsAbove layers) (arcs_of reached) some.0 above some.1))
     ];
   }
     where
-      names : (arc : Arc) (from : Origin reached arc) → Among arc.low from.row.condition.positive ⊎ Among arc.low from.row.condition.negative → Names from.row.condition arc.low
-      names arc from (inl positive) = inl (contains_among from.row.condition.positive arc.low positive)
-      names arc from (inr negative) = inr (contains_among from.row.condition.negative arc.low negative)
+      names : (arc : Arc) (from : Origin reached arc) → Among arc.from from.row.condition.positive ⊎ Among arc.from from.row.condition.negative → Names from.row.condition arc.from
+      names arc from (inl positive) = inl (contains_among from.row.condition.positive arc.from positive)
+      names arc from (inr negative) = inr (contains_among from.row.condition.negative arc.from negative)
 
-      rests : (fact : ℕ) (arc : Arc) → arc.fact ≡ fact → Origin reached arc → RestsOn reached fact arc.low
+      rests : (fact : ℕ) (arc : Arc) → arc.to ≡ fact → Origin reached arc → RestsOn reached fact arc.from
       rests fact arc for from = record {
         axiom' = from.row;
         of_task = contains_among reached.axioms from.row from.of_task;
@@ -125,7 +125,7 @@ module _ (reached : Reached) (lawful : IsLawful reached) where
         derived = from.derived;
       }
 
-      exact : (fact : ℕ) (arc : Arc) → arc.fact ≡ fact → get_or layers fact 0 ≤ get_or layers arc.low 0 + 1 → get_or layers arc.low 0 < get_or layers arc.fact 0 → get_or layers fact 0 ≡ get_or layers arc.low 0 + 1
+      exact : (fact : ℕ) (arc : Arc) → arc.to ≡ fact → get_or layers fact 0 ≤ get_or layers arc.from 0 + 1 → get_or layers arc.from 0 < get_or layers arc.to 0 → get_or layers fact 0 ≡ get_or layers arc.from 0 + 1
       exact fact arc for most least =
-          let same : get_or layers arc.fact 0 ≡ get_or layers fact 0 = ap (λ (f : ℕ). get_or layers f 0) for in
+          let same : get_or layers arc.to 0 ≡ get_or layers fact 0 = ap (λ (f : ℕ). get_or layers f 0) for in
           omega arith

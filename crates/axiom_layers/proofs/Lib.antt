@@ -1,2 +1,3 @@
-pub mod Lifts
-pub mod Found
+-- lemmas of this crate
+mod Lifts
+mod Found

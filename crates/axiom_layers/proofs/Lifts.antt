@@ -6,7 +6,7 @@ use Rattle.std.proofs.lemmas.List.Elements.{All-from_get_or}
 use Rattle.std.proofs.lemmas.List.Sums.{sum_by-le, sum_by-set}
 use Rattle.lists.proofs.Items.{Among, among_at}
 use Rattle.relaxed_reach.proofs.LongLists.{as_long}
-use Rattle.axiom_layers.specs.declared.arcs.Arc.{Arc}
+use Rattle.names.specs.declared.arcs.Arc.{Arc}
 use Rattle.axiom_layers.specs.Arcs.{AreSound, IsAbove, AreHeld, lifted}
 
 -- ---- how high a layer can be
@@ -21,10 +21,10 @@ module _ (arcs : List Arc) (layers : List ℕ) (sound : AreSound (length layers)
       | inl none ↦ absurd (omega arith)
       | inr some ↦
           let falls = sound.falls some.0 some.1 in
-          let same : sound.rank some.0.fact ≡ sound.rank fact = ap sound.rank some.2 in
+          let same : sound.rank some.0.to ≡ sound.rank fact = ap sound.rank some.2 in
           let low = (sound.within some.0 some.1).1 in
           let at = some.3 in
-          each_smaller bound some.0.low (omega arith) low n (omega arith)
+          each_smaller bound some.0.from (omega arith) low n (omega arith)
     ]
   ]
 
@@ -44,73 +44,73 @@ either a b = elim (cases_Bool (nat_eq a b)) [
   | inr not ↦ inr (λ same. true≢false (sym (eq-eqb a b same) ∙ not))
 ]
 
-module _ (arcs : List Arc) (layers : List ℕ) (arc : Arc) (within : arc.fact < length layers) (low : get_or layers arc.fact 0 ≤ get_or layers arc.low 0) where
+module _ (arcs : List Arc) (layers : List ℕ) (arc : Arc) (within : arc.to < length layers) (low : get_or layers arc.to 0 ≤ get_or layers arc.from 0) where
   abbrev above : ℕ
-  above = get_or layers arc.low 0 + 1
+  above = get_or layers arc.from 0 + 1
 
   abbrev now : List ℕ
-  now = set layers arc.fact above
+  now = set layers arc.to above
 
   grows : (fact : ℕ) → get_or layers fact 0 ≤ get_or now fact 0
-  grows fact = elim (either fact arc.fact) [
+  grows fact = elim (either fact arc.to) [
     | inl same ↦
-        let new : get_or now fact 0 ≡ above = subst (λ (f : ℕ). get_or now f 0 ≡ above) (sym same) (get_or-set_same layers arc.fact above 0 within) in
-        let old : get_or layers fact 0 ≡ get_or layers arc.fact 0 = ap (λ (f : ℕ). get_or layers f 0) same in
+        let new : get_or now fact 0 ≡ above = subst (λ (f : ℕ). get_or now f 0 ≡ above) (sym same) (get_or-set_same layers arc.to above 0 within) in
+        let old : get_or layers fact 0 ≡ get_or layers arc.to 0 = ap (λ (f : ℕ). get_or layers f 0) same in
         omega arith
-    | inr other ↦ let new = get_or-set_other layers arc.fact fact above 0 other in omega arith
+    | inr other ↦ let new = get_or-set_other layers arc.to fact above 0 other in omega arith
   ]
 
   held_now : Contains arcs arc → AreHeld arcs layers → AreHeld arcs now
-  held_now in' held fact within_now = elim (either fact arc.fact) [
+  held_now in' held fact within_now = elim (either fact arc.to) [
     | inl same ↦
-        let new : get_or now fact 0 ≡ above = subst (λ (f : ℕ). get_or now f 0 ≡ above) (sym same) (get_or-set_same layers arc.fact above 0 within) in
-        let more = grows arc.low in
+        let new : get_or now fact 0 ≡ above = subst (λ (f : ℕ). get_or now f 0 ≡ above) (sym same) (get_or-set_same layers arc.to above 0 within) in
+        let more = grows arc.from in
         inr (arc, in', sym same, omega arith)
     | inr other ↦
-        let new : get_or now fact 0 ≡ get_or layers fact 0 = get_or-set_other layers arc.fact fact above 0 other in
-        by new (held fact (subst (λ n. fact < n) (length-set layers arc.fact above) within_now))
+        let new : get_or now fact 0 ≡ get_or layers fact 0 = get_or-set_other layers arc.to fact above 0 other in
+        by new (held fact (subst (λ n. fact < n) (length-set layers arc.to above) within_now))
   ]
     where
-      by : get_or now fact 0 ≡ get_or layers fact 0 → (get_or layers fact 0 ≡ 0) ⊎ ((a : Arc) × Contains arcs a × (a.fact ≡ fact) × (get_or layers fact 0 ≤ get_or layers a.low 0 + 1)) →
-          (get_or now fact 0 ≡ 0) ⊎ ((a : Arc) × Contains arcs a × (a.fact ≡ fact) × (get_or now fact 0 ≤ get_or now a.low 0 + 1))
+      by : get_or now fact 0 ≡ get_or layers fact 0 → (get_or layers fact 0 ≡ 0) ⊎ ((a : Arc) × Contains arcs a × (a.to ≡ fact) × (get_or layers fact 0 ≤ get_or layers a.from 0 + 1)) →
+          (get_or now fact 0 ≡ 0) ⊎ ((a : Arc) × Contains arcs a × (a.to ≡ fact) × (get_or now fact 0 ≤ get_or now a.from 0 + 1))
       by new (inl none) = inl (new ∙ none)
-      by new (inr some) = let at = some.3 in let more = grows some.0.low in inr (some.0, some.1, some.2, omega arith)
+      by new (inr some) = let at = some.3 in let more = grows some.0.from in inr (some.0, some.1, some.2, omega arith)
 
   sum_now : sum layers < sum now
-  sum_now = let change = sum_by-set (λ (x : ℕ). x) layers arc.fact above 0 within in omega arith
+  sum_now = let change = sum_by-set (λ (x : ℕ). x) layers arc.to above 0 within in omega arith
 
-pub held_lifted : (arcs : List Arc) (layers : List ℕ) (arc : Arc) → arc.fact < length layers → Contains arcs arc → AreHeld arcs layers → AreHeld arcs (lifted layers arc)
-held_lifted arcs layers arc within in' held = by (nat_le (get_or layers arc.fact 0) (get_or layers arc.low 0)) refl
+pub held_lifted : (arcs : List Arc) (layers : List ℕ) (arc : Arc) → arc.to < length layers → Contains arcs arc → AreHeld arcs layers → AreHeld arcs (lifted layers arc)
+held_lifted arcs layers arc within in' held = by (nat_le (get_or layers arc.to 0) (get_or layers arc.from 0)) refl
   where
-    by : (lifts : Bool) → nat_le (get_or layers arc.fact 0) (get_or layers arc.low 0) ≡ lifts → AreHeld arcs (cond lifts (set layers arc.fact (get_or layers arc.low 0 + 1)) layers)
-    by true e = held_now arcs layers arc within (leb-true (get_or layers arc.fact 0) (get_or layers arc.low 0) e) in' held
+    by : (lifts : Bool) → nat_le (get_or layers arc.to 0) (get_or layers arc.from 0) ≡ lifts → AreHeld arcs (cond lifts (set layers arc.to (get_or layers arc.from 0 + 1)) layers)
+    by true e = held_now arcs layers arc within (leb-true (get_or layers arc.to 0) (get_or layers arc.from 0) e) in' held
     by false e = held
 
-pub sum_lifted : (layers : List ℕ) (arc : Arc) → arc.fact < length layers → nat_le (get_or layers arc.fact 0) (get_or layers arc.low 0) ≡ true → sum layers < sum (lifted layers arc)
+pub sum_lifted : (layers : List ℕ) (arc : Arc) → arc.to < length layers → nat_le (get_or layers arc.to 0) (get_or layers arc.from 0) ≡ true → sum layers < sum (lifted layers arc)
 sum_lifted layers arc within lifts =
-    subst (λ (l : List ℕ). sum layers < sum l) (sym (ap (λ b. cond b (set layers arc.fact (get_or layers arc.low 0 + 1)) layers) lifts))
-    (sum_now [] layers arc within (leb-true (get_or layers arc.fact 0) (get_or layers arc.low 0) lifts))
+    subst (λ (l : List ℕ). sum layers < sum l) (sym (ap (λ b. cond b (set layers arc.to (get_or layers arc.from 0 + 1)) layers) lifts))
+    (sum_now [] layers arc within (leb-true (get_or layers arc.to 0) (get_or layers arc.from 0) lifts))
 
-pub lifted_stays : (layers : List ℕ) (arc : Arc) → nat_le (get_or layers arc.fact 0) (get_or layers arc.low 0) ≡ false → lifted layers arc ≡ layers
-lifted_stays layers arc stays = ap (λ b. cond b (set layers arc.fact (get_or layers arc.low 0 + 1)) layers) stays
+pub lifted_stays : (layers : List ℕ) (arc : Arc) → nat_le (get_or layers arc.to 0) (get_or layers arc.from 0) ≡ false → lifted layers arc ≡ layers
+lifted_stays layers arc stays = ap (λ b. cond b (set layers arc.to (get_or layers arc.from 0 + 1)) layers) stays
 
 -- ---- an arc of a sound list
 
 module _ (count : ℕ) (arcs : List Arc) (layers : List ℕ) (same : length layers ≡ count) (sound : AreSound count arcs) (arc : Arc) (in' : Contains arcs arc) where
-  pub fact_within : arc.fact < length layers
-  fact_within = subst (λ n. arc.fact < n) (sym same) (sound.within arc in').0
+  pub fact_within : arc.to < length layers
+  fact_within = subst (λ n. arc.to < n) (sym same) (sound.within arc in').0
 
-  pub low_within : arc.low < length layers
-  low_within = subst (λ n. arc.low < n) (sym same) (sound.within arc in').1
+  pub low_within : arc.from < length layers
+  low_within = subst (λ n. arc.from < n) (sym same) (sound.within arc in').1
 
-  pub low_small : AreHeld arcs layers → get_or layers arc.low 0 < count
-  low_small held = subst (λ n. get_or layers arc.low 0 < n) same (below_count arcs layers (subst (λ n. AreSound n arcs) (sym same) sound) held arc.low low_within)
+  pub low_small : AreHeld arcs layers → get_or layers arc.from 0 < count
+  low_small held = subst (λ n. get_or layers arc.from 0 < n) same (below_count arcs layers (subst (λ n. AreSound n arcs) (sym same) sound) held arc.from low_within)
 
 -- an arc that needs no lift
-pub above_if : (layers : List ℕ) (arc : Arc) → nat_le (get_or layers arc.fact 0) (get_or layers arc.low 0) ≡ false → IsAbove layers arc
-above_if layers arc stays = elim (cases_lt (get_or layers arc.low 0) (get_or layers arc.fact 0)) [
+pub above_if : (layers : List ℕ) (arc : Arc) → nat_le (get_or layers arc.to 0) (get_or layers arc.from 0) ≡ false → IsAbove layers arc
+above_if layers arc stays = elim (cases_lt (get_or layers arc.from 0) (get_or layers arc.to 0)) [
   | inl above ↦ above
-  | inr not ↦ absurd (true≢false (sym (le-leb (get_or layers arc.fact 0) (get_or layers arc.low 0) not) ∙ stays))
+  | inr not ↦ absurd (true≢false (sym (le-leb (get_or layers arc.to 0) (get_or layers arc.from 0) not) ∙ stays))
 ]
 
 -- what is left to lift falls

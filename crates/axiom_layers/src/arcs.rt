@@ -4,15 +4,9 @@ ghost use Rattle.std.specs.List.{flat_map};
 ghost use Rattle.relaxed_reach.specs.ReachedTask.{is_derived as is_derived_in};
 ghost use Rattle.axiom_layers.specs.Arcs.{arc_to, arcs_at, arcs_of};
 
+use names::Arc;
 use relaxed_reach::{Fact, Reached, ReachedAxiom};
 use std::alloc::{AllocError, Global};
-
-/// An axiom for the fact has the lower fact, a derived one, in its body.
-#[derive(Clone, Copy)]
-pub(crate) struct Arc {
-    pub(crate) fact: u64,
-    pub(crate) low: u64,
-}
 
 /// Whether the fact is derived.
 fn is_derived(facts: &[Fact], fact: u64) -> bool
@@ -24,7 +18,7 @@ fn is_derived(facts: &[Fact], fact: u64) -> bool
     }
 }
 
-/// Adds an arc from the fact to each derived fact among the literals.
+/// Adds an arc to the fact from each derived fact among the literals.
 fn push_arcs(
     arcs: &mut Vec<Arc>,
     facts: &[Fact],
@@ -35,7 +29,10 @@ fn push_arcs(
 {
     for low in literals {
         if is_derived(facts, *low) {
-            arcs.push(Arc { fact, low: *low })?;
+            arcs.push(Arc {
+                from: *low as usize,
+                to: fact as usize,
+            })?;
         }
     }
     Ok(())

@@ -4,23 +4,24 @@ ghost use Rattle.relaxed_reach.specs.Lawful.{IsLawful};
 ghost use Rattle.relaxed_reach.specs.Layers.{AreLayers};
 ghost use Rattle.axiom_layers.specs.Arcs.{AreSound, AreHeld, IsAbove, lifted};
 
-use crate::arcs::{Arc, arcs};
+use crate::arcs::arcs;
 use crate::order::order;
+use names::Arc;
 use relaxed_reach::Reached;
 use std::alloc::{AllocError, Global};
 
-/// Lifts the arc's fact above its lower fact. Answers whether it had to.
+/// Lifts the fact to which the arc leads above the lower fact from which it leads. Answers whether it had to.
 fn lift(layers: &mut [u64], arc: Arc) -> bool
-    requires fact { arc.fact < length layers.old }
-    requires low { arc.low < length layers.old }
-    requires small { slice_index layers.old arc.low < 2 ^ 63 }
+    requires fact { arc.to < length layers.old }
+    requires low { arc.from < length layers.old }
+    requires small { slice_index layers.old arc.from < 2 ^ 63 }
     ensures layers { layers.new ≡ lifted layers.old arc }
-    ensures lifts { result ≡ nat_le (slice_index layers.old arc.fact) (slice_index layers.old arc.low) }
+    ensures lifts { result ≡ nat_le (slice_index layers.old arc.to) (slice_index layers.old arc.from) }
 {
-    let low = layers[arc.low as usize];
-    let lifts = layers[arc.fact as usize] <= low;
+    let low = layers[arc.from];
+    let lifts = layers[arc.to] <= low;
     if lifts {
-        layers[arc.fact as usize] = low + 1;
+        layers[arc.to] = low + 1;
     }
     lifts
 }

@@ -1,16 +1,14 @@
 // An order of arcs in which each one comes after those of its lower fact.
-use crate::arcs::Arc;
+use names::{Arc, ArcsBySource};
 use std::alloc::{AllocError, Global};
 
 /// What is left to wait for. Facts are taken one by one, each after the facts on which it rests.
 #[derive(Drop)]
 struct Waiting<'a> {
     arcs: &'a [Arc],
-    /// For each fact the first of the arcs that lead to it.
-    first: Vec<Option<usize>>,
-    /// For each arc the next one to the same fact.
-    next: Vec<Option<usize>>,
-    /// For each fact how many of its own arcs lead to facts that weren't taken.
+    /// The arcs that weren't taken, by their lower facts.
+    rest: ArcsBySource,
+    /// For each fact how many of the facts on which it rests weren't taken.
     open: Vec<u64>,
     /// The facts that wait for none, and weren't taken.
     ready: Vec<usize>,
@@ -18,16 +16,9 @@ struct Waiting<'a> {
 
 impl<'a> Waiting<'a> {
     fn new(alloc: Global, facts: usize, arcs: &'a [Arc]) -> Result<Waiting<'a>, AllocError> {
-        let mut first = vec![in alloc; None; facts]?;
-        let mut next = Vec::new(alloc);
         let mut open = vec![in alloc; 0u64; facts]?;
-        for (place, arc) in arcs.iter().enumerate() {
-            let rest = match first.as_mut_slice().get_mut(arc.low as usize) {
-                Some(slot) => slot.replace(place),
-                None => None,
-            };
-            next.push(rest)?;
-            if let Some(count) = open.as_mut_slice().get_mut(arc.fact as usize) {
+        for arc in arcs {
+            if let Some(count) = open.as_mut_slice().get_mut(arc.to) {
                 *count = count.wrapping_add(1);
             }
         }
@@ -39,19 +30,10 @@ impl<'a> Waiting<'a> {
         }
         Ok(Waiting {
             arcs,
-            first,
-            next,
+            rest: ArcsBySource::new(alloc, facts, arcs)?,
             open,
             ready,
         })
-    }
-
-    /// The next arc to the fact.
-    fn take_arc(&mut self, fact: usize) -> Option<usize> {
-        let slot = self.first.as_mut_slice().get_mut(fact)?;
-        let place = (*slot)?;
-        *slot = *self.next.get(place)?;
-        Some(place)
     }
 
     /// The arc's fact waits for one fact less.
@@ -59,11 +41,10 @@ impl<'a> Waiting<'a> {
         let Some(arc) = self.arcs.get(place) else {
             return Ok(());
         };
-        let fact = arc.fact as usize;
-        if let Some(count) = self.open.as_mut_slice().get_mut(fact) {
+        if let Some(count) = self.open.as_mut_slice().get_mut(arc.to) {
             *count = count.wrapping_sub(1);
             if *count == 0 {
-                self.ready.push(fact)?;
+                self.ready.push(arc.to)?;
             }
         }
         Ok(())
@@ -78,7 +59,7 @@ pub(crate) fn order(alloc: Global, facts: usize, arcs: &[Arc]) -> Result<Vec<usi
         let Some(fact) = waiting.ready.pop() else {
             break;
         };
-        if let Some(place) = waiting.take_arc(fact) {
+        if let Some(place) = waiting.rest.take(fact) {
             waiting.ready.push(fact)?;
             waiting.pass(place)?;
             order.push(place)?;

@@ -8,14 +8,15 @@ use Rattle.std.proofs.lemmas.Bool.{cases_lt, lt-ltb, ltb-true, eqb-true, eq-eqb,
 use Rattle.std.proofs.lemmas.List.{map-append}
 use Rattle.std.proofs.lemmas.List.Elements.{All-contains, filter-append}
 use Rattle.std.proofs.lemmas.List.Kept.{AllPairs-filter}
+use Rattle.lists.specs.Members.{is_among}
 use Rattle.sas_task.specs.declared.parts.Pair.{Pair}
 use Rattle.static_matcher.specs.declared.types.Cond.{Cond}
 use Rattle.relaxed_reach.specs.declared.types.ReachedEffect.{ReachedEffect}
 use Rattle.fdr_encoder.specs.declared.rivals.Rival.{Rival}
-use Rattle.fdr_encoder.specs.Places.{Cover, pair, set_of, has, places, stands_in}
+use Rattle.fdr_encoder.specs.Places.{Cover, pair, set_of, places, stands_in}
 use Rattle.fdr_encoder.specs.Effects.{rivals}
 use Rattle.fdr_encoder.specs.Rivals.{seen, rivals_of, conditions_on, AreRivals}
-use Rattle.fdr_encoder.proofs.Lists.{map_member}
+use Rattle.lists.proofs.Members.{map_member}
 use Rattle.fdr_encoder.proofs.Marked.{filter_no}
 use Rattle.fdr_encoder.proofs.Rising.{IsBelowBy, range_rises, pairs_map}
 
@@ -91,8 +92,8 @@ once_on var c (p ∷ ps) rises = by_case (eqb p.var var) refl (once_on var c ps 
 
 places_rise : (cover : Cover) (fact : ℕ) → AllPairs (IsBelowBy (λ p. p.var)) (places cover fact)
 places_rise cover fact =
-    pairs_map (IsBelowBy (λ (p : Pair). p.var)) (λ v w. v < w) (λ var. pair var (position_or_len (λ f. eqb f fact) (set_of cover var))) (filter (λ var. has (set_of cover var) fact) (range_with_len 0 (length cover))) (λ v w less. less)
-    (AllPairs-filter (λ v w. v < w) (λ var. has (set_of cover var) fact) (range_with_len 0 (length cover)) (range_rises 0 (length cover)))
+    pairs_map (IsBelowBy (λ (p : Pair). p.var)) (λ v w. v < w) (λ var. pair var (position_or_len (eqb fact) (set_of cover var))) (filter (λ var. is_among eqb (set_of cover var) fact) (range_with_len 0 (length cover))) (λ v w less. less)
+    (AllPairs-filter (λ v w. v < w) (λ var. is_among eqb (set_of cover var) fact) (range_with_len 0 (length cover)) (range_rises 0 (length cover)))
 
 of_effect : (cover : Cover) (var : ℕ) (e : ReachedEffect) → map second (filter (on var) (rivals_of cover e)) ≡ map (λ (q : ReachedEffect). q.condition) (filter (λ q. q.adds && stands_in cover q.fact var) (e ∷ []))
 of_effect cover var e = by_case e.adds

@@ -5,12 +5,11 @@ use Rattle.std.specs.List.Sorted.{IsNonDecreasingBy, IsStrictlyIncreasing}
 use Rattle.std.proofs.lemmas.Bool.{cases_lt}
 use Rattle.std.proofs.lemmas.List.Kept.{IsStrictlyIncreasing-filter}
 use Rattle.sas_task.specs.declared.parts.Pair.{Pair}
-use Rattle.sas_task.proofs.Members.{flat_map_member, all_from_members}
+use Rattle.lists.proofs.Members.{flat_map_member, all_from_members, map_member, member_single}
 use Rattle.static_matcher.specs.declared.types.Cond.{Cond}
 use Rattle.fdr_encoder.specs.Places.{Cover, pair}
 use Rattle.fdr_encoder.specs.Split.{is_looked_at, values_left, combinations, split}
 use Rattle.fdr_encoder.specs.Marks.{on}
-use Rattle.fdr_encoder.proofs.Lists.{map_member, member_single}
 use Rattle.fdr_encoder.proofs.Rising.{rising_from, range_increases}
 
 -- the variables of a combination are those that were asked for

@@ -12,8 +12,8 @@ use Rattle.itertools.specs.declared.combinations.MultiProduct.{MultiProduct}
 use Rattle.std.proofs.lemmas.Bool.{and_from, and_parts, ltb-true, lt-ltb}
 use Rattle.itertools.specs.Odometer.{ways, numbers}
 use Rattle.itertools.specs.Pool.{sizes_high, pool_sizes, multi_left, ClonesEach, PoolsAre}
-use Rattle.sas_task.proofs.Members.{flat_map_member, range_member}
-use Rattle.fdr_encoder.proofs.Lists.{map_member}
+use Rattle.lists.proofs.Items.{map_flat_map, same_flat_map}
+use Rattle.lists.proofs.Members.{flat_map_member, range_member, map_member}
 use Rattle.sas_task.specs.declared.parts.Pair.{Pair}
 use Rattle.fdr_encoder.specs.Places.{pair}
 use Rattle.fdr_encoder.specs.Split.{combinations}
@@ -46,10 +46,6 @@ taken_are values (var ∷ vars) = over (taken_are values vars) (values var)
         ap (λ ms. map (λ r. pair var val ∷ r) ms ++ flat_map (λ x. map (λ rest. x ∷ rest) (taken (map (λ v. map (pair v) (values v)) vars))) (map (pair var) vals)) rest
         ∙ ap (λ l. map (λ rest. pair var val ∷ rest) (combinations values vars) ++ l) (over rest vals)
 
-map_flat_map : {X Y Z : Type 0} (f : Y → Z) (g : X → List Y) (xs : List X) → map f (flat_map g xs) ≡ flat_map (λ x. map f (g x)) xs
-map_flat_map f g [] = refl
-map_flat_map f g (x ∷ xs) = map-append f (g x) (flat_map g xs) ∙ ap (λ l. map f (g x) ++ l) (map_flat_map f g xs)
-
 -- the places from one of a pool on, after as many pairs as lie before them
 by_place : (before rest : List Pair) (f : Pair → List (List Pair)) → flat_map (λ d. f (get_or (before ++ rest) d none)) (numbers (length before) (length rest)) ≡ flat_map f rest
 by_place before [] f = refl
@@ -64,10 +60,6 @@ by_place before (x ∷ rest) f =
     at_end : (ps : List Pair) → get_or (ps ++ x ∷ rest) (length ps) none ≡ x
     at_end [] = refl
     at_end (p ∷ ps) = at_end ps
-
-flat_map_same : {X Y : Type 0} (f g : X → List Y) (xs : List X) → ((x : X) → f x ≡ g x) → flat_map f xs ≡ flat_map g xs
-flat_map_same f g [] same = refl
-flat_map_same f g (x ∷ xs) same = ap (λ l. l ++ flat_map f xs) (same x) ∙ ap (λ l. g x ++ l) (flat_map_same f g xs same)
 
 abbrev pub low : List ℕ → ℕ
 low p = 0
@@ -87,7 +79,7 @@ ways_after front (pool ∷ pools) p same =
     let size : high p - 0 ≡ length pool = (let e : high p ≡ length pool = ap (λ k. get_or (front ++ sizes (pool ∷ pools)) k 0) same ∙ size_at front (length pool) (sizes pools) in omega arith) in
     ap (λ n. map (read (pool ∷ pools)) (flat_map (λ d. map (λ ds. d ∷ ds) (next d)) (numbers 0 n))) size
     ∙ map_flat_map (read (pool ∷ pools)) (λ d. map (λ ds. d ∷ ds) (next d)) (numbers 0 (length pool))
-    ∙ flat_map_same (λ d. map (read (pool ∷ pools)) (map (λ ds. d ∷ ds) (next d))) (λ d. map (λ rest. get_or pool d none ∷ rest) (taken pools)) (numbers 0 (length pool)) (λ d.
+    ∙ same_flat_map (λ d. map (read (pool ∷ pools)) (map (λ ds. d ∷ ds) (next d))) (λ d. map (λ rest. get_or pool d none ∷ rest) (taken pools)) (numbers 0 (length pool)) (λ d among.
     map-map (read (pool ∷ pools)) (λ ds. d ∷ ds) (next d)
     ∙ sym (map-map (λ rest. get_or pool d none ∷ rest) (read pools) (next d))
     ∙ ap (map (λ rest. get_or pool d none ∷ rest)) (

@@ -5,16 +5,14 @@ use Rattle.std.specs.List.Sorted.{IsStrictlyIncreasing}
 use Rattle.std.proofs.lemmas.Bool.{both_ways, cases_eq, cases_lt}
 use Rattle.std.proofs.lemmas.List.Elements.{All-contains, All-from_get_or, Contains-get_or}
 use Rattle.std.proofs.lemmas.List.FromFn.{length-map-range_with_len, get_or-map-range_with_len}
-use Rattle.sas_task.proofs.Members.{no_member, member_first, all_from_members}
-use Rattle.fdr_encoder.proofs.Lists.{member_single}
+use Rattle.lists.proofs.Members.{no_member, member_first, all_from_members, member_single}
 use Rattle.planning.specs.Task.{State}
 use Rattle.relaxed_reach.specs.declared.types.Reached.{Reached}
 use Rattle.relaxed_reach.specs.ReachedTask.{is_derived}
 use Rattle.fdr_encoder.specs.Places.{Cover, set_of}
 use Rattle.relaxed_reach.specs.Exclusive.{AtMostOne, IsExclusive}
-use Rattle.fdr_encoder.specs.Simulates.{IsCover, IsGroup}
-use Rattle.fdr_encoder.specs.Covers.{singles, IsGroupCover}
-use Rattle.group_cover.specs.Cover.{IsCover as IsCoverBy, AreParts, uncovered, single}
+use Rattle.fdr_encoder.specs.Covers.{singles, IsGroupCover, MakesVariables, IsBasicGroup}
+use Rattle.group_cover.specs.Cover.{IsCover, AreParts, uncovered, single}
 use Rattle.group_cover.proofs.Parts.{covers_all, covers_once, lie_inside, are_filled, are_sorted, are_facts}
 
 -- a set of fewer than two facts is the one fact that it has
@@ -42,27 +40,25 @@ exclusive_sets reached groups cover exclusive inside =
 pub exclusive_from_groups : (reached : Reached) (groups : List (List ℕ)) (cover : Cover) → All (IsExclusive reached) groups → IsGroupCover (length reached.facts) groups cover → All (IsExclusive reached) cover
 exclusive_from_groups reached groups cover exclusive is = exclusive_sets reached groups cover exclusive is.inside
 
-pub exclusive_by_groups : (reached : Reached) (groups : List (List ℕ)) (cover : Cover) → All (IsExclusive reached) groups → IsCoverBy (length reached.facts) groups cover → All (IsExclusive reached) cover
+pub exclusive_by_groups : (reached : Reached) (groups : List (List ℕ)) (cover : Cover) → All (IsExclusive reached) groups → IsCover (length reached.facts) groups cover → All (IsExclusive reached) cover
 exclusive_by_groups reached groups cover exclusive is =
     exclusive_sets reached groups cover exclusive (λ var low large.
     let group = lie_inside (length reached.facts) groups cover is (set_of cover var) (Contains-get_or cover var [] low) large in
     (group.group, group.of_groups, group.inside))
 
-pub cover_from_groups : (reached : Reached) (groups : List (List ℕ)) (cover : Cover) → All (IsGroup reached) groups → IsGroupCover (length reached.facts) groups cover → IsCover reached cover
+pub cover_from_groups : (reached : Reached) (groups : List (List ℕ)) (cover : Cover) → All (IsBasicGroup reached) groups → IsGroupCover (length reached.facts) groups cover → MakesVariables reached cover
 cover_from_groups reached groups cover are-groups is =
     record {
-      facts = is.are_facts;
-      filled = is.filled;
-      covered = is.covered;
+      has_all = is.has_all;
       alone = alone;
       once = λ var other fact below other-below in' other-in derived. elim (cases_eq var other) [
         | inl same ↦ same
-        | inr apart ↦ let group = is.once var other fact below other-below apart in' other-in in absurd (both_ways (is_derived reached.facts fact) (basic group.0 group.1 fact group.2) derived)
+        | inr apart ↦ let group = is.shared var other fact below other-below apart in' other-in in absurd (both_ways (is_derived reached.facts fact) (basic group.0 group.1 fact group.2) derived)
       ];
     }
   where
-    law : (group : List ℕ) → Contains groups group → IsGroup reached group
-    law group in' = All-contains (IsGroup reached) groups group are-groups in'
+    law : (group : List ℕ) → Contains groups group → IsBasicGroup reached group
+    law group in' = All-contains (IsBasicGroup reached) groups group are-groups in'
 
     basic : (group : List ℕ) → Contains groups group → (f : ℕ) → Contains group f → is_derived reached.facts f ≡ false
     basic group in' f f-in = All-contains (λ f. is_derived reached.facts f ≡ false) group f (law group in').basic f-in
@@ -77,29 +73,31 @@ cover_from_groups reached groups cover are-groups is =
         ]
 
 -- the cover of facts by groups of facts
-pub cover_of_groups : (facts : ℕ) (groups : List (List ℕ)) (cover : Cover) → IsCoverBy facts groups cover → ((group : List ℕ) → Contains groups group → (f : ℕ) → Contains group f → f < facts) → IsGroupCover facts groups cover
+pub cover_of_groups : (facts : ℕ) (groups : List (List ℕ)) (cover : Cover) → IsCover facts groups cover → ((group : List ℕ) → Contains groups group → (f : ℕ) → Contains group f → f < facts) → IsGroupCover facts groups cover
 cover_of_groups facts groups cover is below =
     record {
-      are_facts = λ var fact low in'. are_facts facts groups cover is below (set_of cover var) (set_in var low) fact in';
-      filled = λ var low. let some = are_filled facts groups cover is (set_of cover var) (set_in var low) in omega arith;
-      covered = λ fact low. let at = covers_all facts groups cover is fact low in (at.0, at.1.within, at.1.in_set);
+      has_all = record {
+        are_facts = λ var fact low in'. are_facts facts groups cover is below (set_of cover var) (set_in var low) fact in';
+        filled = λ var low. let some = are_filled facts groups cover is (set_of cover var) (set_in var low) in omega arith;
+        covered = λ fact low. let at = covers_all facts groups cover is fact low in (at.0, at.1.within, at.1.in_set);
+      };
       inside = λ var low large. let group = lie_inside facts groups cover is (set_of cover var) (set_in var low) large in (group.group, group.of_groups, group.inside);
-      once = λ var other fact low low' apart in' in''. absurd (apart (covers_once facts groups cover is fact var other (record { within = low; in_set = in' }) (record { within = low'; in_set = in'' })));
+      shared = λ var other fact low low' apart in' in''. absurd (apart (covers_once facts groups cover is fact var other (record { within = low; in_set = in' }) (record { within = low'; in_set = in'' })));
     }
   where
     set_in : (var : ℕ) → var < length cover → Contains cover (set_of cover var)
     set_in var low = Contains-get_or cover var [] low
 
 -- what groups lend to the cover by them
-module _ (reached : Reached) (groups : List (List ℕ)) (cover : Cover) (are-groups : All (IsGroup reached) groups) (is : IsCoverBy (length reached.facts) groups cover) where
+module _ (reached : Reached) (groups : List (List ℕ)) (cover : Cover) (are-groups : All (IsBasicGroup reached) groups) (is : IsCover (length reached.facts) groups cover) where
   group_facts : (group : List ℕ) → Contains groups group → (f : ℕ) → Contains group f → f < length reached.facts
-  group_facts group in' f f-in = All-contains (λ f. f < length reached.facts) group f (All-contains (IsGroup reached) groups group are-groups in').facts f-in
+  group_facts group in' f f-in = All-contains (λ f. f < length reached.facts) group f (All-contains (IsBasicGroup reached) groups group are-groups in').facts f-in
 
-  pub covered_by_groups : IsCover reached cover
+  pub covered_by_groups : MakesVariables reached cover
   covered_by_groups = cover_from_groups reached groups cover are-groups (cover_of_groups (length reached.facts) groups cover is group_facts)
 
   pub sets_apart : All IsStrictlyIncreasing cover
-  sets_apart = all_from_members IsStrictlyIncreasing cover (are_sorted (length reached.facts) groups cover is (λ group in'. (All-contains (IsGroup reached) groups group are-groups in').sorted))
+  sets_apart = all_from_members IsStrictlyIncreasing cover (are_sorted (length reached.facts) groups cover is (λ group in'. (All-contains (IsBasicGroup reached) groups group are-groups in').sorted))
 
   pub sets_of_facts : All (λ set. All (λ fact. fact < length reached.facts) set) cover
   sets_of_facts =
@@ -123,17 +121,19 @@ module _ (facts : ℕ) where
   singles_cover : IsGroupCover facts [] (singles facts)
   singles_cover =
       record {
-        are_facts = λ var fact below in'. subst (λ f. f < facts) (single_member var fact below in') (at_count var below);
-        filled = λ var below. let one = single_at var (at_count var below) in subst (λ l. 0 < length l) (sym one) (omega arith);
-        covered = λ fact below. (fact, subst (λ k. fact < k) (sym singles_count) below, subst (λ l. Contains l fact) (sym (single_at fact below)) (member_first fact []));
+        has_all = record {
+          are_facts = λ var fact below in'. subst (λ f. f < facts) (single_member var fact below in') (at_count var below);
+          filled = λ var below. let one = single_at var (at_count var below) in subst (λ l. 0 < length l) (sym one) (omega arith);
+          covered = λ fact below. (fact, subst (λ k. fact < k) (sym singles_count) below, subst (λ l. Contains l fact) (sym (single_at fact below)) (member_first fact []));
+        };
         inside = λ var below large. let one = ap (λ (l : List ℕ). length l) (single_at var (at_count var below)) in absurd (two_ones (length (set_of (singles facts) var)) one large);
-        once = λ var other fact below other-below apart in' other-in. absurd (apart (single_member var fact below in' ∙ sym (single_member other fact other-below other-in)));
+        shared = λ var other fact below other-below apart in' other-in. absurd (apart (single_member var fact below in' ∙ sym (single_member other fact other-below other-in)));
       }
     where
       two_ones : (k : ℕ) → k ≡ 1 → 2 ≤ k → ⊥
       two_ones k one large = omega arith
 
-pub singles_are_cover : (reached : Reached) → IsCover reached (singles (length reached.facts))
+pub singles_are_cover : (reached : Reached) → MakesVariables reached (singles (length reached.facts))
 singles_are_cover reached = cover_from_groups reached [] (singles (length reached.facts)) (λ k d below. absurd (omega arith)) (singles_cover (length reached.facts))
 
 pub singles_exclusive : (reached : Reached) → All (IsExclusive reached) (singles (length reached.facts))
@@ -148,7 +148,7 @@ all_uncovered : (facts : List ℕ) → uncovered [] facts ≡ facts
 all_uncovered [] = refl
 all_uncovered (fact ∷ facts) = ap (λ l. fact ∷ l) (all_uncovered facts)
 
-pub cover_without_groups : (facts : ℕ) (cover : Cover) → IsCoverBy facts [] cover → cover ≡ singles facts
+pub cover_without_groups : (facts : ℕ) (cover : Cover) → IsCover facts [] cover → cover ≡ singles facts
 cover_without_groups facts cover is =
     is.whole
     ∙ ap (λ (parts : List (List ℕ)). parts ++ map single (uncovered parts (range_with_len 0 facts))) (no_parts is.parts is.in_turn)

@@ -1,29 +1,54 @@
 -- The facts of a group at their first places, in order.
-use Rattle.std.proofs.Common.{◌≡◌, ℕ, suc, ◌<◌, Bool, true, false, eqb, ◌&&◌, List, [], ◌∷◌, map, length, get_or, Some, refl, sym, ap, ◌∙◌, subst, inl, inr, arith}
-use Rattle.std.specs.List.{All, AllPairs, Contains, dedup, filter, filter_map, position_or_len, range_with_len, slice_get}
-use Rattle.std.specs.List.Sorted.{IsPermutation, IsSorted, IsStrictlyIncreasing, IsStrictlySortedBy}
+use Rattle.std.proofs.Common.{◌≡◌, ℕ, suc, ◌<◌, Bool, true, false, eqb, ◌&&◌, Option, Some, None, List, [], ◌∷◌, map, length, get_or, refl, sym, ap, ◌∙◌, subst, inl, inr, arith}
+use Rattle.std.specs.List.{All, AllPairs, Contains, cons_option, filter, filter_map, position_or_len, range_with_len, slice_get}
+use Rattle.std.specs.List.Sorted.{IsStrictlyIncreasing}
 use Rattle.std.specs.Option.{option_map_or}
 use Rattle.std.specs.Ordering.{nat_cmp, ordering_then, is_eq, eq_by_cmp}
 use Rattle.std.specs.Cmp.{nat_cmp_is, unsigned_ties}
 use Rattle.std.specs.declared.cmp.Ordering.{Ordering}
 use Rattle.std.specs.declared.cmp.Ordering.TheVariants.{Less, Equal, Greater}
-use Rattle.std.proofs.lemmas.Cmp.{eq_by_cmp_equiv}
 use Rattle.std.proofs.lemmas.Bool.{eqb-true, eq-eqb, and_from, and_parts, false≢true, false_from_ne_true}
-use Rattle.std.proofs.lemmas.List.Elements.{All-contains}
-use Rattle.std.proofs.lemmas.List.Kept.{AllPairs-filter, AllPairs-from_increasing, IsStrictlySortedBy-dedup, Contains-dedup, Contains-from_dedup}
-use Rattle.std.proofs.lemmas.List.Sorted.{Contains-permutation, IsPermutation-sym}
+use Rattle.std.proofs.lemmas.List.Kept.{AllPairs-filter, AllPairs-from_increasing}
 use Rattle.std.proofs.lemmas.List.Sums.{position_or_len_is}
+use Rattle.lists.specs.Members.{is_among}
 use Rattle.sas_task.specs.declared.parts.Pair.{Pair}
 use Rattle.sas_task.specs.Orders.{pair_cmp}
 use Rattle.sas_task.specs.Valid.{ComesBefore}
 use Rattle.sas_task.proofs.Orders.{pair_total}
-use Rattle.sas_task.proofs.Members.{member_first, member_flat_map, flat_map_member, member_range, range_member}
-use Rattle.fdr_encoder.specs.Places.{Cover, pair, set_of, has, places, first_place, last_value}
+use Rattle.sas_orders.specs.InOrder.{sorted}
+use Rattle.sas_orders.proofs.Sorted.{same_ordered, sorted_member, member_sorted, sorted_ordered}
+use Rattle.lists.proofs.Members.{no_member, member_first, member_later, member_cases, member_flat_map, flat_map_member, member_range, range_member, member_map, map_member, member_filter, filter_member}
+use Rattle.fdr_encoder.specs.Places.{Cover, pair, set_of, places, first_place, last_value}
 use Rattle.fdr_encoder.specs.Encoding.{is_groups, group_of}
-use Rattle.fdr_encoder.proofs.Lists.{member_map, map_member, member_filter, filter_member, member_filter_map, filter_map_member, all_by_members, same_sorted}
 use Rattle.fdr_encoder.proofs.Sets.{has_member, member_has, place_below, at_place}
 use Rattle.fdr_encoder.proofs.Placed.{place_is}
 use Rattle.fdr_encoder.proofs.Rising.{range_rises, pairs_flat_map, pairs_map}
+
+-- a list with what is given, if anything is, before it
+module _ {X Y : Type 0} (f : X → Option Y) (x : X) (xs : List X) (y : Y) where
+  given_member : (more : List Y) (o : Option Y) → f x ≡ o → (Contains more y → (z : X) × Contains xs z × (f z ≡ Some y)) → Contains (cons_option o more) y → (z : X) × Contains (x ∷ xs) z × (f z ≡ Some y)
+  given_member more (Some w) is later in' =
+      elim (member_cases w y more in') [
+        | inl same ↦ (x, member_first x xs, is ∙ ap (λ v. Some v) same)
+        | inr in-more ↦ let z = later in-more in (z.0, member_later x z.0 xs z.1, z.2)
+      ]
+  given_member more None is later in' = let z = later in' in (z.0, member_later x z.0 xs z.1, z.2)
+
+  member_given : (more : List Y) (o : Option Y) → Contains more y → Contains (cons_option o more) y
+  member_given more (Some w) in' = member_later w y more in'
+  member_given more None in' = in'
+
+pub filter_map_member : {X Y : Type 0} (f : X → Option Y) (xs : List X) (y : Y) → Contains (filter_map f xs) y → (x : X) × Contains xs x × (f x ≡ Some y)
+filter_map_member f [] y none = absurd (no_member y none)
+filter_map_member f (x ∷ xs) y in' = given_member f x xs y (filter_map f xs) (f x) refl (λ later. filter_map_member f xs y later) in'
+
+pub member_filter_map : {X Y : Type 0} (f : X → Option Y) (xs : List X) (x : X) (y : Y) → Contains xs x → f x ≡ Some y → Contains (filter_map f xs) y
+member_filter_map f [] x y none is = absurd (no_member x none)
+member_filter_map f (z ∷ xs) x y in' is =
+    elim (member_cases z x xs in') [
+      | inl same ↦ subst (λ o. Contains (cons_option o (filter_map f xs)) y) (sym (ap f same ∙ is)) (member_first y (filter_map f xs))
+      | inr later ↦ member_given f z xs y (filter_map f xs) (f z) (member_filter_map f xs x y later is)
+    ]
 
 -- the first place is a place
 pub first_listed : (cover : Cover) (f : ℕ) (p : Pair) → first_place cover f ≡ Some p → Contains (places cover f) p
@@ -38,14 +63,6 @@ before_less : (p q : Pair) → ComesBefore p q → pair_cmp p q ≡ Less
 before_less p q (inl less) = ap (λ o. ordering_then o (nat_cmp p.val q.val)) (sym (nat_cmp_is p.var q.var Less less))
 before_less p q (inr same) =
     ap (λ o. ordering_then o (nat_cmp p.val q.val)) (sym (nat_cmp_is p.var q.var Equal same.0)) ∙ sym (nat_cmp_is p.val q.val Less same.1)
-
-strict : (ps : List Pair) → AllPairs ComesBefore ps → IsStrictlySortedBy pair_cmp ps
-unfolding IsStrictlySortedBy
-strict [] pairs = tt
-strict (p ∷ ps) pairs = (
-  all_by_members (λ q. pair_cmp p q ≡ Less) ps (λ q in'. before_less p q (All-contains (ComesBefore p) ps q (λ k d within. pairs 0 (suc k) d (omega arith) (omega arith)) in')),
-  strict ps (λ i j d before within. pairs (suc i) (suc j) d (omega arith) (omega arith)),
-)
 
 both_equal : (a b : Ordering) → is_eq (ordering_then a b) ≡ (is_eq a && is_eq b)
 both_equal Less b = refl
@@ -97,19 +114,19 @@ module _ (cover : Cover) (group : List ℕ) where
       let inside : p.val < last_value cover p.var = subst (λ k. k < last_value cover p.var) at.value (place_below (set_of cover p.var) f at.member) in
       let here : get_or (set_of cover p.var) p.val 0 ≡ f = ap (λ k. get_or (set_of cover p.var) k 0) (sym at.value) ∙ at_place (set_of cover p.var) f at.member 0 in
       let is-first : option_map_or (λ q. eqb q.var p.var) (first_place cover f) false ≡ true = ap (λ o. option_map_or (λ (q : Pair). eqb q.var p.var) o false) is ∙ eq-eqb p.var p.var refl in
-      let passes : is_groups cover group p.var p.val ≡ true = subst (λ g. (has group g && option_map_or (λ q. eqb q.var p.var) (first_place cover g) false) ≡ true) (sym here) (and_from _ _ (member_has group f in') is-first) in
+      let passes : is_groups cover group p.var p.val ≡ true = subst (λ g. (is_among eqb group g && option_map_or (λ q. eqb q.var p.var) (first_place cover g) false) ≡ true) (sym here) (and_from _ _ (member_has group f in') is-first) in
       member_flat_map places_in (range_with_len 0 (length cover)) p.var p (member_range (length cover) p.var at.below)
       (member_map (pair p.var) (filter (is_groups cover group p.var) (range_with_len 0 (last_value cover p.var))) p.val
       (member_filter (is_groups cover group p.var) (range_with_len 0 (last_value cover p.var)) p.val (member_range (last_value cover p.var) p.val inside) passes))
 
   module _ (apart : All IsStrictlyIncreasing cover) where
     -- a fact stands once in a set
-    place_once : (set : List ℕ) → IsStrictlyIncreasing set → (val : ℕ) → val < length set → position_or_len (λ g. eqb g (get_or set val 0)) set ≡ val
+    place_once : (set : List ℕ) → IsStrictlyIncreasing set → (val : ℕ) → val < length set → position_or_len (eqb (get_or set val 0)) set ≡ val
     place_once set up val within =
-        position_or_len_is (λ g. eqb g (get_or set val 0)) set val 0 (omega arith)
+        position_or_len_is (eqb (get_or set val 0)) set val 0 (omega arith)
         (λ k before.
         let less = AllPairs-from_increasing set up k val 0 before within in
-        false_from_ne_true (eqb (get_or set k 0) (get_or set val 0)) (λ h. let same = eqb-true (get_or set k 0) (get_or set val 0) h in absurd (omega arith)))
+        false_from_ne_true (eqb (get_or set val 0) (get_or set k 0)) (λ h. let same = eqb-true (get_or set val 0) (get_or set k 0) h in absurd (omega arith)))
         (λ within'. eq-eqb (get_or set val 0) (get_or set val 0) refl)
 
     first_at : (ps : List Pair) (var : ℕ) → option_map_or (λ q. eqb q.var var) (slice_get ps 0) false ≡ true → (q : Pair) × (slice_get ps 0 ≡ Some q) × (q.var ≡ var)
@@ -123,22 +140,22 @@ module _ (cover : Cover) (group : List ℕ) where
         let at = in_variable var.0 p var.2 in
         let set = set_of cover var.0 in
         let f = get_or set p.val 0 in
-        let both = and_parts (has group f) _ at.2 in
+        let both = and_parts (is_among eqb group f) _ at.2 in
         let first = first_at (places cover f) var.0 both.1 in
         let place = place_is cover f first.0 (first_listed cover f first.0 first.1) in
         let up : IsStrictlyIncreasing set = apart var.0 [] (range_member (length cover) var.0 var.1) in
-        let val : first.0.val ≡ p.val = sym place.value ∙ ap (λ v. position_or_len (λ g. eqb g f) (set_of cover v)) first.2 ∙ place_once set up p.val at.1 in
+        let val : first.0.val ≡ p.val = sym place.value ∙ ap (λ v. position_or_len (eqb f) (set_of cover v)) first.2 ∙ place_once set up p.val at.1 in
         let same : first.0 ≡ p = λ i. record { var = (first.2 ∙ sym at.0) i; val = val i } in
         (f, has_member group f both.0, first.1 ∙ ap (λ q. Some q) same)
 
     -- in order and without repeats, the first places are the group's facts
-    pub grouped : (sorted : List Pair) → IsPermutation (filter_map (first_place cover) group) sorted → IsSorted pair_cmp sorted → dedup (λ p q. eqb p.var q.var && eqb p.val q.val) sorted ≡ (group_of cover group).facts
-    grouped sorted moved up =
-        ap (λ (e : Pair → Pair → Bool). dedup e sorted) (λ i p q. tied p q i)
-        ∙ same_sorted pair_cmp pair_total (dedup (eq_by_cmp pair_cmp) sorted) (group_of cover group).facts (IsStrictlySortedBy-dedup pair_total (λ x y. refl) sorted up) (strict (group_of cover group).facts group_in_order)
-        (λ p in'.
-        let f = filter_map_member (first_place cover) group p (Contains-permutation sorted (filter_map (first_place cover) group) p (IsPermutation-sym (filter_map (first_place cover) group) sorted moved) (Contains-from_dedup (eq_by_cmp pair_cmp) sorted p in')) in
-        first_in_group f.0 p f.1 f.2)
+    pub grouped : sorted pair_cmp (filter_map (first_place cover) group) ≡ (group_of cover group).facts
+    grouped =
+        let first = filter_map (first_place cover) group in
+        let facts = (group_of cover group).facts in
+        same_ordered (λ p q. pair_cmp p q ≡ Less) (λ p q less more. let e = pair_total.antisymm p q in absurd cc) (sorted pair_cmp first) facts
+        (sorted_ordered pair_cmp pair_total first) (λ i j d before within. before_less (get_or facts i d) (get_or facts j d) (group_in_order i j d before within))
+        (λ p in'. let f = filter_map_member (first_place cover) group p (sorted_member pair_cmp pair_total first p in') in first_in_group f.0 p f.1 f.2)
         (λ p in'.
         let f = group_first p in' in
-        Contains-dedup (eq_by_cmp_equiv pair_total) tied_same sorted p (Contains-permutation (filter_map (first_place cover) group) sorted p moved (member_filter_map (first_place cover) group f.0 p f.1 f.2)))
+        member_sorted pair_cmp pair_total first (λ p q p-in q-in equal. tied_same p q (ap is_eq equal)) p (member_filter_map (first_place cover) group f.0 p f.1 f.2))

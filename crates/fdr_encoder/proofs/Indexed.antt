@@ -6,8 +6,9 @@ use Rattle.std.proofs.lemmas.Bool.{cases_Bool, cond-true, cond-false, eqb-true, 
 use Rattle.std.proofs.lemmas.List.{get_or-set_same, get_or-set_other, get_or_default, get_or-take, length-take-le, take_more}
 use Rattle.std.proofs.lemmas.List.Folds.{list_any-append}
 use Rattle.std.proofs.lemmas.List.Kept.{AllPairs-from_increasing}
+use Rattle.lists.specs.Members.{is_among}
 use Rattle.sas_task.specs.declared.parts.Pair.{Pair}
-use Rattle.fdr_encoder.specs.Places.{Cover, pair, set_of, has, places}
+use Rattle.fdr_encoder.specs.Places.{Cover, pair, set_of, places}
 use Rattle.fdr_encoder.specs.Marks.{place_in}
 use Rattle.fdr_encoder.proofs.Sets.{has_member}
 
@@ -23,7 +24,7 @@ map_filter f p (x ∷ xs) = by_case (p x) (map_filter f p xs)
 -- the places of a fact are those in each set
 pub places_by_set : (cover : Cover) (fact : ℕ) → places cover fact ≡ flat_map (λ var. place_in var (set_of cover var) fact) (range_with_len 0 (length cover))
 places_by_set cover fact =
-    map_filter (λ var. pair var (position_or_len (λ f. eqb f fact) (set_of cover var))) (λ var. has (set_of cover var) fact) (range_with_len 0 (length cover))
+    map_filter (λ var. pair var (position_or_len (eqb fact) (set_of cover var))) (λ var. is_among eqb (set_of cover var) fact) (range_with_len 0 (length cover))
 
 -- a position in a longer list
 module _ (p : ℕ → Bool) where
@@ -43,35 +44,32 @@ module _ (p : ℕ → Bool) where
   position_last (y ∷ xs) x none is =
       let no' = false_from_ne_true (p y) (λ h. both_ways (list_any p (y ∷ xs)) none (or_left (p y) (list_any p xs) h)) in
       let rest = false_from_ne_true (list_any p xs) (λ h. both_ways (list_any p (y ∷ xs)) none (or_right (p y) (list_any p xs) h)) in
-      ap (λ b. step b (position_or_len p (xs ++ x ∷ []))) no' ∙ ap (λ n. 1 + n) (position_last xs x rest is) ∙ one_more (length xs)
-    where
-      one_more : (n : ℕ) → 1 + n ≡ suc n
-      one_more n = omega arith
+      ap (λ b. step b (position_or_len p (xs ++ x ∷ []))) no' ∙ ap (λ n. 1 + n) (position_last xs x rest is) ∙ (let more : 1 + length xs ≡ suc (length xs) = omega arith in more)
 
 -- the place in a set with one more fact
-place_in_more : (var : ℕ) (xs : List ℕ) (x fact : ℕ) → (Contains xs x → ⊥) → place_in var (xs ++ x ∷ []) fact ≡ place_in var xs fact ++ cond (eqb x fact) (pair var (length xs) ∷ []) []
+place_in_more : (var : ℕ) (xs : List ℕ) (x fact : ℕ) → (Contains xs x → ⊥) → place_in var (xs ++ x ∷ []) fact ≡ place_in var xs fact ++ cond (eqb fact x) (pair var (length xs) ∷ []) []
 place_in_more var xs x fact new =
     ap (λ b. cond b (pair var (position_or_len test (xs ++ x ∷ [])) ∷ []) []) (list_any-append test xs (x ∷ []))
-    ∙ elim (cases_Bool (eqb x fact)) [
+    ∙ elim (cases_Bool (eqb fact x)) [
       | inl yes' ↦
-          let none : list_any test xs ≡ false = false_from_ne_true (list_any test xs) (λ h. new (subst (Contains xs) (sym (eqb-true x fact yes')) (has_member xs fact h))) in
-          both_cases (list_any test xs) (eqb x fact) false true none yes'
+          let none : list_any test xs ≡ false = false_from_ne_true (list_any test xs) (λ h. new (subst (Contains xs) (eqb-true fact x yes') (has_member xs fact h))) in
+          both_cases (list_any test xs) (eqb fact x) false true none yes'
           ∙ ap (λ n. pair var n ∷ []) (position_last test xs x none yes')
-          ∙ sym (ap (λ b. cond b (pair var (position_or_len test xs) ∷ []) [] ++ cond (eqb x fact) (pair var (length xs) ∷ []) []) none ∙ cond-true (eqb x fact) (pair var (length xs) ∷ []) [] yes')
+          ∙ sym (ap (λ b. cond b (pair var (position_or_len test xs) ∷ []) [] ++ cond (eqb fact x) (pair var (length xs) ∷ []) []) none ∙ cond-true (eqb fact x) (pair var (length xs) ∷ []) [] yes')
       | inr no' ↦
           elim (cases_Bool (list_any test xs)) [
             | inl is ↦
-                both_cases (list_any test xs) (eqb x fact) true false is no'
+                both_cases (list_any test xs) (eqb fact x) true false is no'
                 ∙ ap (λ n. pair var n ∷ []) (position_before test xs (x ∷ []) is)
-                ∙ sym (ap (λ b. cond b (pair var (position_or_len test xs) ∷ []) [] ++ cond (eqb x fact) (pair var (length xs) ∷ []) []) is ∙ ap (λ l. pair var (position_or_len test xs) ∷ l) (cond-false (eqb x fact) (pair var (length xs) ∷ []) [] no'))
+                ∙ sym (ap (λ b. cond b (pair var (position_or_len test xs) ∷ []) [] ++ cond (eqb fact x) (pair var (length xs) ∷ []) []) is ∙ ap (λ l. pair var (position_or_len test xs) ∷ l) (cond-false (eqb fact x) (pair var (length xs) ∷ []) [] no'))
             | inr none ↦
-                both_cases (list_any test xs) (eqb x fact) false false none no'
-                ∙ sym (ap (λ b. cond b (pair var (position_or_len test xs) ∷ []) [] ++ cond (eqb x fact) (pair var (length xs) ∷ []) []) none ∙ cond-false (eqb x fact) (pair var (length xs) ∷ []) [] no')
+                both_cases (list_any test xs) (eqb fact x) false false none no'
+                ∙ sym (ap (λ b. cond b (pair var (position_or_len test xs) ∷ []) [] ++ cond (eqb fact x) (pair var (length xs) ∷ []) []) none ∙ cond-false (eqb fact x) (pair var (length xs) ∷ []) [] no')
           ]
     ]
   where
     test : ℕ → Bool
-    test = λ f. eqb f fact
+    test = eqb fact
 
     both_cases : (a b a' b' : Bool) → a ≡ a' → b ≡ b' → cond (a || (b || false)) (pair var (position_or_len test (xs ++ x ∷ [])) ∷ []) [] ≡ cond (a' || (b' || false)) (pair var (position_or_len test (xs ++ x ∷ [])) ∷ []) []
     both_cases a b a' b' is is' =
@@ -95,13 +93,13 @@ pub row_more : (rows : List (List Pair)) (var : ℕ) (facts : List ℕ) (i fact 
 row_more rows var facts i fact start within low up before =
     let x = get_or facts i 0 in
     let long : length (take i facts) ≡ i = length-take-le i facts (omega arith) in
-    let more : place_in var (take (i + 1) facts) fact ≡ place_in var (take i facts) fact ++ cond (eqb x fact) (pair var i ∷ []) [] =
+    let more : place_in var (take (i + 1) facts) fact ≡ place_in var (take i facts) fact ++ cond (eqb fact x) (pair var i ∷ []) [] =
     ap (λ l. place_in var l fact) (take_more facts i 0 within)
     ∙ place_in_more var (take i facts) x fact (not_before facts up i within)
-    ∙ ap (λ n. place_in var (take i facts) fact ++ cond (eqb x fact) (pair var n ∷ []) []) long in
-    elim (cases_Bool (eqb x fact)) [
+    ∙ ap (λ n. place_in var (take i facts) fact ++ cond (eqb fact x) (pair var n ∷ []) []) long in
+    elim (cases_Bool (eqb fact x)) [
       | inl yes' ↦
-          let same : x ≡ fact = eqb-true x fact yes' in
+          let same : x ≡ fact = sym (eqb-true fact x yes') in
           ap (λ k. get_or (set rows x (get_or rows x [] ++ pair var i ∷ [])) k []) (sym same)
           ∙ get_or-set_same rows x (get_or rows x [] ++ pair var i ∷ []) [] low
           ∙ ap (λ k. get_or rows k [] ++ pair var i ∷ []) same
@@ -109,7 +107,7 @@ row_more rows var facts i fact start within low up before =
           ∙ append_assoc start (place_in var (take i facts) fact) (pair var i ∷ [])
           ∙ ap (λ l. start ++ l) (sym (more ∙ ap (λ b. place_in var (take i facts) fact ++ cond b (pair var i ∷ []) []) yes'))
       | inr no' ↦
-          get_or-set_other rows x fact (get_or rows x [] ++ pair var i ∷ []) [] (λ same. eqb-false x fact no' (sym same))
+          get_or-set_other rows x fact (get_or rows x [] ++ pair var i ∷ []) [] (eqb-false fact x no')
           ∙ before
           ∙ ap (λ l. start ++ l) (sym (more ∙ ap (λ b. place_in var (take i facts) fact ++ cond b (pair var i ∷ []) []) no' ∙ append-nil (place_in var (take i facts) fact)))
     ]

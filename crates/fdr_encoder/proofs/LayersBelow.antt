@@ -3,7 +3,7 @@ use Rattle.std.proofs.Common.{ℕ, ◌+◌, ◌<◌, ◌≤◌, cond, max, List,
 use Rattle.std.specs.Prelude.{fold}
 use Rattle.std.specs.List.{Contains, range_with_len}
 use Rattle.std.proofs.lemmas.Bool.{cases_Bool, cond-true, cond-false}
-use Rattle.sas_task.proofs.Members.{range_member, member_first, member_later}
+use Rattle.lists.proofs.Members.{range_member, member_first, member_later}
 use Rattle.relaxed_reach.specs.declared.types.Reached.{Reached}
 use Rattle.relaxed_reach.specs.ReachedTask.{is_derived}
 use Rattle.relaxed_reach.specs.Layers.{AreLayers}

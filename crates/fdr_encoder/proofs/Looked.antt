@@ -6,13 +6,12 @@ use Rattle.std.specs.Option.{option_map_or}
 use Rattle.std.proofs.lemmas.Bool.{eqb-true, eq-eqb, or_cases, false≢true}
 use Rattle.std.proofs.lemmas.List.Kept.{IsStrictlyIncreasing-filter}
 use Rattle.sas_task.specs.declared.parts.Pair.{Pair}
-use Rattle.sas_task.proofs.Members.{member_first, member_range}
+use Rattle.lists.proofs.Members.{member_first, member_range, member_filter, filter_member, any_member, member_any}
 use Rattle.static_matcher.specs.declared.types.Cond.{Cond}
 use Rattle.fdr_encoder.specs.Places.{Cover, places, first_place, stands_in}
 use Rattle.fdr_encoder.specs.Split.{is_looked_at}
-use Rattle.fdr_encoder.proofs.Lists.{member_filter, filter_member, any_member, member_any, same_in_order}
 use Rattle.fdr_encoder.proofs.Placed.{place_is, stands_below}
-use Rattle.fdr_encoder.proofs.Rising.{range_increases}
+use Rattle.fdr_encoder.proofs.Rising.{range_increases, same_in_order}
 
 -- the variables that are looked at are variables
 module _ (cover : Cover) (literals : Cond ℕ) where

@@ -1,7 +1,8 @@
 -- One more turn of the loops.
 use Rattle.std.proofs.Common.{◌≡◌, ℕ, suc, ◌+◌, ◌<◌, Bool, true, false, cond, ◌&&◌, List, [], ◌∷◌, ◌++◌, map, take, length, get_or, append-nil, append_assoc, refl, sym, ap, ◌∙◌, arith, ◌≤◌, inl, inr, subst}
 use Rattle.std.specs.Prelude.{fold}
-use Rattle.std.proofs.lemmas.List.{get_or-map, length-map}
+use Rattle.std.proofs.lemmas.List.{ext_get_or, get_or-map, length-map, map-append}
+use Rattle.std.proofs.lemmas.Simd.{map-map}
 use Rattle.std.proofs.lemmas.List.FromFn.{length-map-range_with_len, get_or-map-range_with_len}
 use Rattle.std.proofs.lemmas.List.Sums.{fold-append}
 use Rattle.std.specs.List.{filter, flat_map, range_with_len, position_or_len}
@@ -10,7 +11,7 @@ use Rattle.std.proofs.lemmas.List.Sums.{position_or_len_is}
 use Rattle.std.proofs.lemmas.List.{take_more}
 use Rattle.std.proofs.lemmas.List.Elements.{filter-append}
 use Rattle.std.proofs.lemmas.List.Concat.{flat_map-append}
-use Rattle.fdr_encoder.proofs.Lists.{range_more}
+use Rattle.lists.proofs.LoopSteps.{range_next}
 use Rattle.static_matcher.specs.declared.types.Cond.{Cond}
 use Rattle.relaxed_reach.specs.declared.types.ReachedEffect.{ReachedEffect}
 use Rattle.fdr_encoder.specs.Places.{Cover, stands_in}
@@ -19,7 +20,7 @@ use Rattle.fdr_encoder.specs.Effects.{no_literals, both, negations, choices, riv
 pub filter_range_more : (p : ℕ → Bool) (n : ℕ) → filter p (range_with_len 0 (n + 1)) ≡ filter p (range_with_len 0 n) ++ cond (p n) (n ∷ []) []
 filter_range_more p n =
     let e : 0 + n ≡ n = omega arith in
-    ap (filter p) (range_more 0 n ∙ ap (λ m. range_with_len 0 n ++ m ∷ []) e) ∙ filter-append p (range_with_len 0 n) (n ∷ [])
+    ap (filter p) (range_next 0 n ∙ ap (λ m. range_with_len 0 n ++ m ∷ []) e) ∙ filter-append p (range_with_len 0 n) (n ∷ [])
 
 -- one more piece
 pub flat_map_take_more : {X Y : Type 0} (f : X → List Y) (xs : List X) (i : ℕ) (d : X) → i < length xs → flat_map f (take (i + 1) xs) ≡ flat_map f (take i xs) ++ f (get_or xs i d)
@@ -39,18 +40,6 @@ both_none a =
     let neg = append-nil a.negative in
     λ i. record { positive = pos i; negative = neg i }
 
-map_same : {X Y : Type 0} (f g : X → Y) (xs : List X) → ((x : X) → f x ≡ g x) → map f xs ≡ map g xs
-map_same f g [] same = refl
-map_same f g (x ∷ xs) same = ap (λ y. y ∷ map f xs) (same x) ∙ ap (λ l. g x ∷ l) (map_same f g xs same)
-
-map_map : {X Y Z : Type 0} (f : Y → Z) (g : X → Y) (xs : List X) → map f (map g xs) ≡ map (λ x. f (g x)) xs
-map_map f g [] = refl
-map_map f g (x ∷ xs) = ap (λ l. f (g x) ∷ l) (map_map f g xs)
-
-map_append : {X Y : Type 0} (f : X → Y) (xs ys : List X) → map f (xs ++ ys) ≡ map f xs ++ map f ys
-map_append f [] ys = refl
-map_append f (x ∷ xs) ys = ap (λ l. f x ∷ l) (map_append f xs ys)
-
 -- one more list to choose from, at the end
 module _ (ones : List (Cond ℕ)) where
   abbrev with_each : Cond ℕ → List (Cond ℕ)
@@ -59,8 +48,8 @@ module _ (ones : List (Cond ℕ)) where
   front_in : (one : Cond ℕ) (cs : List (Cond ℕ)) → map (both one) (flat_map with_each cs) ≡ flat_map with_each (map (both one) cs)
   front_in one [] = refl
   front_in one (c ∷ cs) =
-      map_append (both one) (with_each c) (flat_map with_each cs)
-      ∙ ap (λ l. l ++ map (both one) (flat_map with_each cs)) (map_map (both one) (both c) ones ∙ map_same (λ m. both one (both c m)) (both (both one c)) ones (λ m. both_assoc one c m))
+      map-append (both one) (with_each c) (flat_map with_each cs)
+      ∙ ap (λ l. l ++ map (both one) (flat_map with_each cs)) (map-map (both one) (both c) ones ∙ ap (λ (h : Cond ℕ → Cond ℕ). map h ones) (λ i m. both_assoc one c m i))
       ∙ ap (λ l. with_each (both one c) ++ l) (front_in one cs)
 
   fronts_in : (cs fronts : List (Cond ℕ)) → flat_map (λ one. map (both one) (flat_map with_each cs)) fronts ≡ flat_map with_each (flat_map (λ one. map (both one) cs) fronts)
@@ -85,7 +74,7 @@ pub choices_after : (cover : Cover) (effects : List ReachedEffect) (i : ℕ) (e 
 choices_after cover effects i e var within is =
     ap (λ es. choices (rivals cover es var)) (take_more effects i e within ∙ ap (λ x. take i effects ++ x ∷ []) (sym is))
     ∙ ap (λ es. choices (map (λ (q : ReachedEffect). q.condition) es)) (filter-append (λ (q : ReachedEffect). q.adds && stands_in cover q.fact var) (take i effects) (e ∷ []))
-    ∙ ap choices (map_append (λ (q : ReachedEffect). q.condition) (filter (λ (q : ReachedEffect). q.adds && stands_in cover q.fact var) (take i effects)) (filter (λ (q : ReachedEffect). q.adds && stands_in cover q.fact var) (e ∷ [])))
+    ∙ ap choices (map-append (λ (q : ReachedEffect). q.condition) (filter (λ (q : ReachedEffect). q.adds && stands_in cover q.fact var) (take i effects)) (filter (λ (q : ReachedEffect). q.adds && stands_in cover q.fact var) (e ∷ [])))
     ∙ by_case (e.adds && stands_in cover e.fact var)
   where
     before : List (Cond ℕ)
@@ -114,17 +103,11 @@ module _ (p : ℕ → Bool) (xs : List ℕ) (i : ℕ) (before : (k : ℕ) → k 
 pub fold_range_more : (f : ℕ → ℕ → ℕ) (n : ℕ) → fold f 0 (range_with_len 0 (n + 1)) ≡ f (fold f 0 (range_with_len 0 n)) n
 fold_range_more f n =
     let e : 0 + n ≡ n = omega arith in
-    ap (fold f 0) (range_more 0 n ∙ ap (λ m. range_with_len 0 n ++ m ∷ []) e) ∙ fold-append f 0 (range_with_len 0 n) (n ∷ [])
+    ap (fold f 0) (range_next 0 n ∙ ap (λ m. range_with_len 0 n ++ m ∷ []) e) ∙ fold-append f 0 (range_with_len 0 n) (n ∷ [])
 
 -- a map over places is a map over elements
 pub map_places : {X Y : Type 0} (f : X → Y) (xs : List X) (d : X) → map f xs ≡ map (λ k. f (get_or xs k d)) (range_with_len 0 (length xs))
 map_places f xs d =
-    same_lists (map f xs) (map (λ k. f (get_or xs k d)) (range_with_len 0 (length xs))) (f d) (length-map xs f ∙ sym (length-map-range_with_len (λ k. f (get_or xs k d)) 0 (length xs))) (λ k within.
+    ext_get_or (f d) (map f xs) (map (λ k. f (get_or xs k d)) (range_with_len 0 (length xs))) (length-map xs f ∙ sym (length-map-range_with_len (λ k. f (get_or xs k d)) 0 (length xs))) (λ k within.
     let low : k < length xs = subst (λ m. k < m) (length-map xs f) within in
     get_or-map f xs k d (f d) low ∙ sym (get_or-map-range_with_len (λ k. f (get_or xs k d)) 0 (length xs) k k (f d) low (omega arith)))
-  where
-    same_lists : {Z : Type 0} (as' bs : List Z) (d : Z) → length as' ≡ length bs → ((k : ℕ) → k < length as' → get_or as' k d ≡ get_or bs k d) → as' ≡ bs
-    same_lists [] [] d size at = refl
-    same_lists [] (b ∷ bs) d size at = absurd (omega arith)
-    same_lists (a ∷ as') [] d size at = absurd (omega arith)
-    same_lists (a ∷ as') (b ∷ bs) d size at = ap (λ x. x ∷ as') (at 0 (omega arith)) ∙ ap (λ l. b ∷ l) (same_lists as' bs d (omega arith) (λ k within. at (suc k) (omega arith)))

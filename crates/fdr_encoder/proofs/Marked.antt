@@ -1,5 +1,6 @@
 -- What literals leave, read from the marks that they make, variable by variable.
 use Rattle.std.proofs.Common.{◌≡◌, ℕ, ◌+◌, ◌<◌, ◌≤◌, Bool, true, false, cond, not, eqb, ltb, leb, ◌&&◌, ◌||◌, Option, Some, None, List, [], ◌∷◌, ◌++◌, append-nil, map, take, drop, length, get_or, refl, sym, ap, ◌∙◌, subst, inl, inr, arith}
+use Rattle.std.specs.Cmp.{both_ways as same_tests}
 use Rattle.std.specs.List.{All, Contains, filter, filter_map, flat_map, range_with_len, list_all, list_any, cons_option, dedup, slice_get}
 use Rattle.std.specs.List.Sorted.{IsPermutation, IsNonDecreasingBy, IsPartitionPoint}
 use Rattle.std.specs.Option.{option_map_or}
@@ -12,22 +13,16 @@ use Rattle.std.proofs.lemmas.List.Sorted.{IsPermutation-sym, All-permutation, li
 use Rattle.std.proofs.lemmas.List.Kept.{IsStrictlyIncreasing-filter, Contains-dedup_nat, Contains-from_dedup}
 use Rattle.lists.proofs.Items.{any_flat_map}
 use Rattle.sas_task.specs.declared.parts.Pair.{Pair}
-use Rattle.sas_task.proofs.Members.{member_first, member_later, member_range, flat_map_member, all_from_members}
+use Rattle.lists.proofs.Members.{member_first, member_later, member_range, flat_map_member, all_from_members, map_member, member_filter, filter_member, any_member, member_any, member_single}
 use Rattle.static_matcher.specs.declared.types.Cond.{Cond}
 use Rattle.fdr_encoder.specs.Places.{Cover, pair, set_of, places, first_place, last_value}
 use Rattle.fdr_encoder.specs.Split.{is_looked_at, is_left, values_left}
 use Rattle.fdr_encoder.specs.Marks.{on, leaves, pool, values_marked}
-use Rattle.fdr_encoder.proofs.Lists.{map_member, member_filter, filter_member, filter_map_member, any_member, member_any, member_single, same_in_order}
+use Rattle.fdr_encoder.proofs.Grouped.{filter_map_member}
 use Rattle.fdr_encoder.proofs.Sets.{place_below}
 use Rattle.fdr_encoder.proofs.Placed.{place_is}
-use Rattle.fdr_encoder.proofs.Rising.{range_increases}
+use Rattle.fdr_encoder.proofs.Rising.{range_increases, same_in_order}
 use Rattle.fdr_encoder.proofs.Grouped.{first_listed}
-
--- two tests that follow from one another are one
-same_tests : (a b : Bool) → (a ≡ true → b ≡ true) → (b ≡ true → a ≡ true) → a ≡ b
-same_tests true b to from = sym (to refl)
-same_tests false true to from = from refl
-same_tests false false to from = refl
 
 all_permutation : {X : Type 0} (p : X → Bool) (xs ys : List X) → IsPermutation xs ys → list_all p xs ≡ list_all p ys
 all_permutation p xs ys moved =

@@ -4,13 +4,12 @@ use Rattle.std.specs.List.{Contains, list_all}
 use Rattle.std.proofs.lemmas.Bool.{and_parts, and_from, and_cases, not-true, not-false, not_from_false, both_ways, false_from_ne_true, true≢false}
 use Rattle.std.proofs.lemmas.List.Elements.{Contains-append_left, Contains-append_right, Contains-append_cases}
 use Rattle.std.proofs.lemmas.List.Folds.{list_all-append}
-use Rattle.sas_task.proofs.Members.{no_member, member_first, member_later, member_cases, member_flat_map, flat_map_member, all_pass}
+use Rattle.lists.proofs.Members.{no_member, member_first, member_later, member_cases, member_flat_map, flat_map_member, all_pass, member_map, map_member, member_single}
 use Rattle.static_matcher.specs.declared.types.Cond.{Cond}
 use Rattle.static_matcher.specs.Literals.{holds}
 use Rattle.planning.specs.Task.{State}
 use Rattle.fdr_encoder.specs.Effects.{no_literals, is_true, is_false, both, negations, choices}
 use Rattle.fdr_encoder.specs.Places.{Cover}
-use Rattle.fdr_encoder.proofs.Lists.{member_map, map_member, member_single}
 use Rattle.fdr_encoder.proofs.Placed.{Stands, AllStand}
 
 -- where not all pass, one fails

@@ -6,8 +6,9 @@ use Rattle.std.proofs.lemmas.List.{get_or-map, length-map}
 use Rattle.std.proofs.lemmas.List.Elements.{All-contains, Contains-append_cases}
 use Rattle.std.proofs.lemmas.List.FromFn.{length-range_with_len, get_or-range_with_len}
 use Rattle.std.proofs.lemmas.List.Kept.{AllPairs-from_increasing, AllPairs-filter, AllPairs-cons}
-use Rattle.sas_task.proofs.Members.{no_member, member_first, member_later, flat_map_member, all_from_members}
-use Rattle.fdr_encoder.proofs.Lists.{map_member, member_single}
+use Rattle.sas_orders.proofs.InOrder.{pairs_head, pairs_tail}
+use Rattle.sas_orders.proofs.Sorted.{same_ordered}
+use Rattle.lists.proofs.Members.{no_member, member_first, member_later, flat_map_member, all_from_members, map_member, member_single}
 
 abbrev pub IsBelowBy : {X : Type 0} → (X → ℕ) → X → X → Type 0
 IsBelowBy key x y = key x < key y
@@ -54,40 +55,33 @@ pairs_append R [] ys px py across = py
 pairs_append R (x ∷ xs) ys px py across =
     AllPairs-cons R x (xs ++ ys)
     (all_from_members (R x) (xs ++ ys) (λ z in'. elim (Contains-append_cases xs ys z in') [
-      | inl a ↦ head_all z a
+      | inl a ↦ pairs_head R x xs px z a
       | inr b ↦ across x z (member_first x xs) b
     ]))
-    (pairs_append R xs ys tail py (λ z y z-in y-in. across z y (member_later x z xs z-in) y-in))
-  where
-    tail : AllPairs R xs
-    tail i j d before within = px (suc i) (suc j) d (omega arith) (omega arith)
-
-    head_all : (z : _) → Contains xs z → R x z
-    head_all z in' = All-contains (R x) xs z (λ k d within. px 0 (suc k) d (omega arith) (omega arith)) in'
+    (pairs_append R xs ys (pairs_tail R x xs px) py (λ z y z-in y-in. across z y (member_later x z xs z-in) y-in))
 
 -- pieces in order, one after the other
 pub pairs_flat_map : {X Y : Type 0} (R : Y → Y → Type 0) (S : X → X → Type 0) (f : X → List Y) (xs : List X) → AllPairs S xs → ((x : X) → AllPairs R (f x)) → ((x y : X) → S x y → (a b : Y) → Contains (f x) a → Contains (f y) b → R a b) → AllPairs R (flat_map f xs)
 pairs_flat_map R S f [] px inside across = λ i j d before within. absurd (omega arith)
 pairs_flat_map R S f (x ∷ xs) px inside across =
-    pairs_append R (f x) (flat_map f xs) (inside x) (pairs_flat_map R S f xs tail inside across)
-    (λ a b a-in b-in. let z = rest b b-in in across x z.0 (All-contains (S x) xs z.0 (λ k d within. px 0 (suc k) d (omega arith) (omega arith)) z.1) a b a-in z.2)
-  where
-    tail : AllPairs S xs
-    tail i j d before within = px (suc i) (suc j) d (omega arith) (omega arith)
-
-    rest : (y : _) → Contains (flat_map f xs) y → (z : _) × Contains xs z × Contains (f z) y
-    rest y in' = flat_map_member f xs y in'
+    pairs_append R (f x) (flat_map f xs) (inside x) (pairs_flat_map R S f xs (pairs_tail S x xs px) inside across)
+    (λ a b a-in b-in. let z = flat_map_member f xs b b-in in across x z.0 (pairs_head S x xs px z.0 z.1) a b a-in z.2)
 
 -- a map keeps the order
 pub pairs_map : {X Y : Type 0} (R : Y → Y → Type 0) (S : X → X → Type 0) (f : X → Y) (xs : List X) → ((x y : X) → S x y → R (f x) (f y)) → AllPairs S xs → AllPairs R (map f xs)
 pairs_map R S f [] keeps px = λ i j d before within. absurd (omega arith)
 pairs_map R S f (x ∷ xs) keeps px =
     AllPairs-cons R (f x) (map f xs)
-    (all_from_members (R (f x)) (map f xs) (λ y in'. let z = map_member f xs y in' in subst (R (f x)) z.2 (keeps x z.0 (All-contains (S x) xs z.0 (λ k d within. px 0 (suc k) d (omega arith) (omega arith)) z.1))))
-    (pairs_map R S f xs keeps (λ i j d before within. px (suc i) (suc j) d (omega arith) (omega arith)))
+    (all_from_members (R (f x)) (map f xs) (λ y in'. let z = map_member f xs y in' in subst (R (f x)) z.2 (keeps x z.0 (pairs_head S x xs px z.0 z.1))))
+    (pairs_map R S f xs keeps (pairs_tail S x xs px))
 
 -- a list with two members that differ has at least two
 pub two_members : {X : Type 0} (xs : List X) (x y : X) → Contains xs x → Contains xs y → (x ≡ y → ⊥) → 2 ≤ length xs
 two_members [] x y x-in y-in apart = absurd (no_member x x-in)
 two_members (z ∷ []) x y x-in y-in apart = absurd (apart (sym (member_single z x x-in) ∙ member_single z y y-in))
 two_members (z ∷ w ∷ xs) x y x-in y-in apart = omega arith
+
+-- two lists in order with the same members are one
+pub same_in_order : (xs ys : List ℕ) → IsStrictlyIncreasing xs → IsStrictlyIncreasing ys → ((z : ℕ) → Contains xs z → Contains ys z) → ((z : ℕ) → Contains ys z → Contains xs z) → xs ≡ ys
+same_in_order xs ys up up' =
+    same_ordered (λ x y. x < y) (λ x y less more. absurd (omega arith)) xs ys (AllPairs-from_increasing xs up) (AllPairs-from_increasing ys up')

@@ -6,14 +6,13 @@ use Rattle.std.proofs.lemmas.Bool.{cases_Bool, eqb-true, eq-eqb, and_parts, and_
 use Rattle.std.proofs.lemmas.List.Sums.{prefix_len-le-length}
 use Rattle.sas_task.specs.declared.parts.Pair.{Pair}
 use Rattle.sas_task.specs.Values.{all_hold}
-use Rattle.sas_task.proofs.Members.{no_member, member_first, member_later, member_cases, member_flat_map, flat_map_member, member_range, range_member, all_pass, each_passes}
+use Rattle.lists.proofs.Members.{no_member, member_first, member_later, member_cases, member_flat_map, flat_map_member, member_range, range_member, all_pass, each_passes, member_map, map_member, member_filter, filter_member, member_any, member_single}
 use Rattle.static_matcher.specs.declared.types.Cond.{Cond}
 use Rattle.static_matcher.specs.Literals.{holds}
 use Rattle.planning.specs.Task.{State}
 use Rattle.fdr_encoder.specs.Places.{Cover, pair, set_of, places, first_place, stands_in, last_value, value_in}
 use Rattle.fdr_encoder.specs.Split.{is_looked_at, is_left, values_left, combinations, split}
 use Rattle.fdr_encoder.specs.Simulates.{Shows}
-use Rattle.fdr_encoder.proofs.Lists.{member_map, map_member, member_filter, filter_member, member_any, member_single}
 use Rattle.fdr_encoder.proofs.Placed.{AreExclusive, Stands, AllStand, place_is, place_stands, first, first_in, first_is, value_of_true, true_of_value}
 
 module _ (cover : Cover) (state : State ℕ) (one : AreExclusive cover state) (now : List ℕ) (shows : Shows cover state now) (literals : Cond ℕ) (stand : AllStand cover literals) where

@@ -1,9 +1,8 @@
 -- The variables of an encoding: over one derived fact, or over basic facts; and what follows from the conditions on the reached task and the cover.
 use Rattle.std.proofs.Common.{◌≡◌, ℕ, ◌<◌, Bool, true, false, cond, not, ◌&&◌, ◌||◌, eqb, List, [], ◌∷◌, length, get_or, Some, None, ◌⊎◌, refl, sym, ap, ◌∙◌, subst, inl, inr, arith}
 use Rattle.std.specs.List.{Contains, position_or_len}
-use Rattle.std.specs.Option.{option_map_or}
 use Rattle.std.proofs.lemmas.Bool.{cases_Bool, cases_lt, cond-true, cond-false, eqb-true, and_parts, both_ways, false_from_ne_true, false≢true}
-use Rattle.std.proofs.lemmas.Option.{slice_get_past}
+use Rattle.std.proofs.lemmas.Option.{none-some}
 use Rattle.std.proofs.lemmas.List.Elements.{All-contains, Contains-get_or}
 use Rattle.sas_task.specs.declared.parts.Pair.{Pair}
 use Rattle.sas_task.specs.Task.{Task}
@@ -11,28 +10,23 @@ use Rattle.sas_task.specs.Valid.{layer_of}
 use Rattle.static_matcher.specs.declared.types.Cond.{Cond}
 use Rattle.static_matcher.specs.Literals.{initial}
 use Rattle.planning.specs.Task.{State}
-use Rattle.relaxed_reach.specs.declared.types.Fact.{Fact}
 use Rattle.relaxed_reach.specs.declared.types.Reached.{Reached}
 use Rattle.relaxed_reach.specs.declared.types.ReachedAction.{ReachedAction}
+use Rattle.relaxed_reach.specs.declared.types.ReachedAxiom.{ReachedAxiom}
 use Rattle.relaxed_reach.specs.ReachedTask.{is_derived, reached_task}
 use Rattle.fdr_encoder.specs.Places.{Cover, set_of, places}
-use Rattle.relaxed_reach.specs.Lawful.{NamesFacts, IsLawfulEffect, IsLawfulAction, IsLawful}
+use Rattle.relaxed_reach.specs.Lawful.{NamesFacts, IsLawfulEffect, IsLawfulAction, IsLawfulAxiom, IsLawful}
 use Rattle.fdr_encoder.specs.Encoding.{IsEncoding}
-use Rattle.fdr_encoder.specs.Simulates.{IsCover}
-use Rattle.fdr_encoder.proofs.Lists.{any_member, member_single}
+use Rattle.fdr_encoder.specs.Covers.{MakesVariables}
+use Rattle.lists.proofs.Members.{any_member, member_single}
 use Rattle.fdr_encoder.proofs.Sets.{place_of_none}
 use Rattle.fdr_encoder.proofs.Placed.{AreExclusive, Stands, AllStand, place_in, place_is, place_at, stands_of, stands_member, stands_below}
 use Rattle.fdr_encoder.proofs.OneStep.{IsPlaced}
 use Rattle.fdr_encoder.proofs.After.{adds_fact, is_added, is_deleted, after}
 use Rattle.fdr_encoder.proofs.Parts.{layer_at}
 
--- a derived fact is a fact
-pub derived_below : (facts : List Fact) (f : ℕ) → is_derived facts f ≡ true → f < length facts
-derived_below facts f is =
-    elim (cases_lt f (length facts)) [
-      | inl below ↦ below
-      | inr past ↦ absurd (false≢true (sym (ap (λ o. option_map_or (λ (fact : Fact). fact.derived) o false) (slice_get_past facts f past)) ∙ is))
-    ]
+pub lawful_axiom : (reached : Reached) → IsLawful reached → (a : ReachedAxiom) → Contains reached.axioms a → IsLawfulAxiom reached a
+lawful_axiom reached lawful a in' = All-contains (IsLawfulAxiom reached) reached.axioms a lawful.axioms in'
 
 -- the position in a set of one fact
 pub value_single : (state : State ℕ) (f : ℕ) → position_or_len state (f ∷ []) ≡ cond (state f) 0 1
@@ -45,13 +39,13 @@ value_single state f = by_case (state f) refl
         first = grind (arith, is)
     by_case false is = place_of_none state (f ∷ []) (λ g in'. ap state (sym (member_single f g in')) ∙ is) ∙ sym (cond-false (state f) 0 1 is)
 
-module _ (reached : Reached) (cover : Cover) (ok : IsCover reached cover) where
+module _ (reached : Reached) (cover : Cover) (ok : MakesVariables reached cover) where
   abbrev derived : ℕ → Bool
   derived = is_derived reached.facts
 
   pub stands : (f : ℕ) → f < length reached.facts → Stands cover f
   stands f below =
-      let v = ok.covered f below in
+      let v = ok.has_all.covered f below in
       stands_of cover f (place_in cover f v.0) (place_at cover f v.0 v.1 v.2)
 
   pub literals_stand : (c : Cond ℕ) → NamesFacts reached c → AllStand cover c
@@ -80,7 +74,7 @@ module _ (reached : Reached) (cover : Cover) (ok : IsCover reached cover) where
   head var = get_or (set_of cover var) 0 0
 
   head_in : (var : ℕ) → var < length cover → Contains (set_of cover var) (head var)
-  head_in var below = Contains-get_or (set_of cover var) 0 0 (ok.filled var below)
+  head_in var below = Contains-get_or (set_of cover var) 0 0 (ok.has_all.filled var below)
 
   over_derived : (var : ℕ) → var < length cover → derived (head var) ≡ true → OverDerived var
   over_derived var below is =
@@ -147,21 +141,15 @@ module _ (reached : Reached) (cover : Cover) (ok : IsCover reached cover) where
     over_by_layer var layer below is =
         elim (cases_Bool (derived (head var))) [
           | inl yes' ↦ over_derived var below yes'
-          | inr no' ↦ absurd (none_some layer (sym (layer_at cover mutexes layers reached task encoding var below ∙ cond-false (derived (head var)) (Some (get_or layers (head var) 0)) None no') ∙ is))
+          | inr no' ↦ absurd (none-some layer (sym (layer_at cover mutexes layers reached task encoding var below ∙ cond-false (derived (head var)) (Some (get_or layers (head var) 0)) None no') ∙ is))
         ]
-      where
-        none_some : (l : ℕ) → None ≡ Some l → ⊥
-        none_some l e = cc
 
     pub basic_by_layer : (var : ℕ) → var < length cover → layer_of task var ≡ None → OverBasic var
     basic_by_layer var below is =
         elim (cases_Bool (derived (head var))) [
-          | inl yes' ↦ absurd (none_some (get_or layers (head var) 0) (sym is ∙ layer_at cover mutexes layers reached task encoding var below ∙ cond-true (derived (head var)) (Some (get_or layers (head var) 0)) None yes'))
+          | inl yes' ↦ absurd (none-some (get_or layers (head var) 0) (sym is ∙ layer_at cover mutexes layers reached task encoding var below ∙ cond-true (derived (head var)) (Some (get_or layers (head var) 0)) None yes'))
           | inr no' ↦ over_basic var below no'
         ]
-      where
-        none_some : (l : ℕ) → None ≡ Some l → ⊥
-        none_some l e = cc
 
     pub layer_of_derived : (var : ℕ) → var < length cover → OverDerived var → (layer : ℕ) × (layer_of task var ≡ Some layer)
     layer_of_derived var below over =

@@ -1,5 +1,5 @@
 -- An encoding is a valid task.
-use Rattle.std.proofs.Common.{◌≡◌, ℕ, suc, ◌+◌, ◌<◌, ◌≤◌, Bool, true, false, cond, not, eqb, max, List, [], ◌∷◌, ◌++◌, map, length, get_or, Some, None, refl, sym, ap, ◌∙◌, subst, inl, inr, arith, length-append}
+use Rattle.std.proofs.Common.{◌≡◌, ℕ, suc, ◌+◌, ◌<◌, ◌≤◌, Bool, true, false, cond, not, eqb, max, List, [], ◌∷◌, ◌++◌, append-nil, map, length, get_or, Some, None, refl, sym, ap, ◌∙◌, subst, inl, inr, arith, length-append}
 use Rattle.std.specs.Prelude.{◌^◌, IsSomeAnd, IsNone, IsSome, IfSome, fold}
 use Rattle.std.specs.List.{Contains, All, filter, flat_map, range_with_len, list_any, position_or_len}
 use Rattle.std.specs.Option.{option_map_or}
@@ -16,7 +16,7 @@ use Rattle.sas_task.specs.declared.parts.Operator.{Operator}
 use Rattle.sas_task.specs.declared.parts.Rule.{Rule}
 use Rattle.sas_task.specs.Task.{Task}
 use Rattle.sas_task.specs.Valid.{IsValid, IsValue, IsFact, AreConditions, IsName, IsValidVariable, IsValidGroup, IsValidEffect, IsValidOperator, IsBelow, IsValidRule, layer_of, default_of}
-use Rattle.sas_task.proofs.Members.{no_member, member_first, member_cases, flat_map_member, member_range, range_member, all_from_members}
+use Rattle.lists.proofs.Members.{no_member, member_first, member_cases, flat_map_member, member_range, range_member, all_from_members, map_member, filter_member, any_member, member_single}
 use Rattle.static_matcher.specs.declared.types.Cond.{Cond}
 use Rattle.static_matcher.specs.declared.types.GoalRow.{GoalRow}
 use Rattle.static_matcher.specs.declared.types.GoalRow.TheVariants as goals
@@ -31,14 +31,14 @@ use Rattle.fdr_encoder.specs.Effects.{among, can_go, less_known, less_idle, effe
 use Rattle.relaxed_reach.specs.Lawful.{NamesFacts, IsLawfulEffect, IsLawfulAction, IsLawfulAxiom, IsLawfulGoal, IsLawful}
 use Rattle.relaxed_reach.specs.Layers.{Names, AreLayers}
 use Rattle.fdr_encoder.specs.Encoding.{variable_over, goal_variable, goal_split, layer_above, group_of, groups_of, rule, GoalPart, IsEncoding}
-use Rattle.fdr_encoder.specs.Simulates.{IsCover, IsGroup}
-use Rattle.fdr_encoder.proofs.Lists.{map_member, filter_member, any_member, member_single}
+use Rattle.fdr_encoder.specs.Covers.{MakesVariables, IsBasicGroup}
 use Rattle.fdr_encoder.proofs.Sets.{at_place}
 use Rattle.fdr_encoder.proofs.Placed.{place_is, first, first_in, first_is, stands_member}
 use Rattle.fdr_encoder.proofs.SplitHolds.{combination_pairs, split_pairs}
 use Rattle.fdr_encoder.proofs.OneStep.{effect_from}
-use Rattle.fdr_encoder.proofs.Parts.{RuleFrom, in_one, count, count_state, variable_at, layer_at, start_at, last_variable, variable_last, layer_last, start_last, goal_whole, goal_parted, rule_from, operator_from, is_whole, is_parted, part}
-use Rattle.fdr_encoder.proofs.Standing.{derived_below, value_single, stands, literals_stand, OverBasic, kind, layer_of_basic, starts_plain}
+use Rattle.fdr_encoder.proofs.Parts.{RuleFrom, rule_after, in_one, count, count_state, variable_at, layer_at, start_at, last_variable, variable_last, layer_last, start_last, goal_whole, goal_parted, rule_from, operator_from, is_whole, is_parted, part}
+use Rattle.relaxed_reach.proofs.OneLayers.{derived_below}
+use Rattle.fdr_encoder.proofs.Standing.{lawful_axiom, value_single, stands, literals_stand, OverBasic, kind, layer_of_basic, starts_plain}
 use Rattle.fdr_encoder.proofs.Rising.{rising_filter, two_members}
 use Rattle.fdr_encoder.proofs.ByVariable.{member_rises}
 use Rattle.fdr_encoder.proofs.Grouped.{places_in, in_variable, group_in_order, first_in_group}
@@ -58,7 +58,7 @@ fold_max_member g (y ∷ xs) start x in' =
       | inr later ↦ fold_max_member g xs (max start (g y)) x later
     ]
 
-module _ (reached : Reached) (lawful : IsLawful reached) (cover : Cover) (ok : IsCover reached cover) (mutexes : List (List ℕ)) (are-groups : All (IsGroup reached) mutexes) (layers : List ℕ) (are-layers : AreLayers reached layers) (few : length reached.facts < 2 ^ 64) (task : Task) (encoding : IsEncoding cover mutexes layers reached task) where
+module _ (reached : Reached) (lawful : IsLawful reached) (cover : Cover) (ok : MakesVariables reached cover) (mutexes : List (List ℕ)) (are-groups : All (IsBasicGroup reached) mutexes) (layers : List ℕ) (are-layers : AreLayers reached layers) (few : length reached.facts < 2 ^ 64) (task : Task) (encoding : IsEncoding cover mutexes layers reached task) where
   abbrev n : ℕ
   n = length cover
 
@@ -68,18 +68,12 @@ module _ (reached : Reached) (lawful : IsLawful reached) (cover : Cover) (ok : I
   abbrev one_goal : Bool
   one_goal = in_one cover mutexes layers reached task encoding
 
-  abbrev over : List ℕ → Variable
-  over = variable_over reached layers
-
-  lawful_axiom : (a : ReachedAxiom) → Contains reached.axioms a → IsLawfulAxiom reached a
-  lawful_axiom a in' = All-contains (IsLawfulAxiom reached) reached.axioms a lawful.axioms in'
-
   -- a variable's values are the positions in its set, and the last
   is_value : (var val : ℕ) → var < n → val < last_value cover var + 1 → IsValue task var val
   is_value var val low small =
       let long = length-append (map _ (set_of cover var)) _ in
-      let size : length (over (set_of cover var)).facts ≡ length (set_of cover var) + 1 = long ∙ ap (λ k. k + 1) (length-map (set_of cover var) _) in
-      let below : val < length (over (set_of cover var)).facts = omega arith in
+      let size : length (variable_over reached layers (set_of cover var)).facts ≡ length (set_of cover var) + 1 = long ∙ ap (λ k. k + 1) (length-map (set_of cover var) _) in
+      let below : val < length (variable_over reached layers (set_of cover var)).facts = omega arith in
       subst (λ o. IsSomeAnd o (λ v. val < length v.facts)) (sym (variable_at cover mutexes layers reached task encoding var low)) below
 
   is_goal_value : (val : ℕ) → val < 2 → one_goal ≡ false → IsValue task n val
@@ -198,7 +192,7 @@ module _ (reached : Reached) (lawful : IsLawful reached) (cover : Cover) (ok : I
   axiom_rule_valid : (r : Rule) → RuleFrom cover reached r → IsValidRule task r
   axiom_rule_valid r from =
       let a = from.axiom' in
-      let law = lawful_axiom a from.of_task in
+      let law = lawful_axiom reached lawful a from.of_task in
       let below = derived_below reached.facts a.fact law.derived in
       let var = from.place.var in
       let place = place_is cover a.fact from.place from.at in
@@ -243,12 +237,8 @@ module _ (reached : Reached) (lawful : IsLawful reached) (cover : Cover) (ok : I
             below = goal_below reached.goal lawful.goal m member is;
           }
 
-  rule_after : (r : Rule) → Contains task.rules r → r.after ≡ 0
-  rule_after r in' =
-      elim (rule_from cover mutexes layers reached task encoding r in') [
-        | inl of-axiom ↦ ap (λ (q : Rule). q.after) (sym of-axiom.is)
-        | inr of-goal ↦ ap (λ (q : Rule). q.after) (sym of-goal.is)
-      ]
+  abbrev takes_to_0 : (r : Rule) → Contains task.rules r → r.after ≡ 0
+  takes_to_0 = rule_after cover mutexes layers reached task encoding
 
   goal_valid : AreConditions task task.goal
   goal_valid =
@@ -259,13 +249,9 @@ module _ (reached : Reached) (lawful : IsLawful reached) (cover : Cover) (ok : I
             (record { facts = All-cons (IsFact task) (pair n 0) [] (is_goal_value 0 (omega arith) is) (All-nil (IsFact task)); sorted = λ k none. absurd (omega arith) })
       ]
     where
-      append_none : (l : List Pair) → l ++ [] ≡ l
-      append_none [] = refl
-      append_none (p ∷ l) = ap (λ q. p ∷ q) (append_none l)
-
       in_whole : (ms : List (List Pair)) → goal_split cover reached.goal ≡ ms → one_goal ≡ true → AreConditions task (flat_map (λ m. m) ms)
       in_whole [] is one = record { facts = All-nil (IsFact task); sorted = λ k none. absurd (omega arith) }
-      in_whole (m ∷ []) is one = subst (AreConditions task) (sym (append_none m)) (goal_conditions reached.goal lawful.goal m (subst (λ l. Contains l m) (sym is) (member_first m [])))
+      in_whole (m ∷ []) is one = subst (AreConditions task) (sym (append-nil m)) (goal_conditions reached.goal lawful.goal m (subst (λ l. Contains l m) (sym is) (member_first m [])))
       in_whole (m ∷ k ∷ ms) is one = let two : suc (suc (length ms)) ≡ 1 = eqb-true (length (m ∷ k ∷ ms)) 1 (ap (λ l. eqb (length l) 1) (sym is) ∙ one) in absurd (omega arith)
 
   group_pairs : (group : List ℕ) (p : Pair) → Contains (group_of cover group).facts p → (p.var < n) × (p.val < last_value cover p.var)
@@ -287,7 +273,7 @@ module _ (reached : Reached) (lawful : IsLawful reached) (cover : Cover) (ok : I
   group_valid g g-in =
       let raw = map_member (group_of cover) (filter _ mutexes) g (Contains-permutation task.groups (groups_of cover mutexes) g (IsPermutation-sym (groups_of cover mutexes) task.groups encoding.groups) g-in) in
       let listed = filter_member _ mutexes raw.0 raw.1 in
-      let law = All-contains (IsGroup reached) mutexes raw.0 are-groups listed.0 in
+      let law = All-contains (IsBasicGroup reached) mutexes raw.0 are-groups listed.0 in
       let large : 2 ≤ length raw.0 = leb-true 2 (length raw.0) listed.1 in
       subst (IsValidGroup task) raw.2 (record {
         facts = all_from_members (IsFact task) (group_of cover raw.0).facts (λ p p-in. let s = group_pairs raw.0 p p-in in let small = s.1 in is_value p.var p.val s.0 (omega arith));
@@ -295,7 +281,7 @@ module _ (reached : Reached) (lawful : IsLawful reached) (cover : Cover) (ok : I
         two_facts = two_of raw.0 large law;
       })
     where
-      two_of : (group : List ℕ) → 2 ≤ length group → IsGroup reached group → 2 ≤ length (group_of cover group).facts
+      two_of : (group : List ℕ) → 2 ≤ length group → IsBasicGroup reached group → 2 ≤ length (group_of cover group).facts
       two_of group large law =
           let f = get_or group 0 0 in
           let g = get_or group 1 0 in
@@ -331,10 +317,10 @@ module _ (reached : Reached) (lawful : IsLawful reached) (cover : Cover) (ok : I
       let low = layer_below reached layers are-layers f within in
       omega arith
 
-  sets_valid : All IsValidVariable (map over cover)
+  sets_valid : All IsValidVariable (map (variable_over reached layers) cover)
   sets_valid k d inside =
-      let low : k < n = subst (λ m. k < m) (length-map cover over) inside in
-      subst IsValidVariable (sym (get_or-map over cover k [] d low)) (variable_valid reached lawful layers (set_of cover k) (λ is. small_layer (get_or (set_of cover k) 0 0) (derived_below reached.facts (get_or (set_of cover k) 0 0) is)) (ok.filled k low) (λ f in'. ok.facts k f low in'))
+      let low : k < n = subst (λ m. k < m) (length-map cover (variable_over reached layers)) inside in
+      subst IsValidVariable (sym (get_or-map (variable_over reached layers) cover k [] d low)) (variable_valid reached lawful layers (set_of cover k) (λ is. small_layer (get_or (set_of cover k) 0 0) (derived_below reached.facts (get_or (set_of cover k) 0 0) is)) (ok.has_all.filled k low) (λ f in'. ok.has_all.are_facts k f low in'))
 
   state_valid : (var : ℕ) → var < length task.variables → IsValue task var (get_or task.state var 0)
   state_valid var below =
@@ -350,7 +336,7 @@ module _ (reached : Reached) (lawful : IsLawful reached) (cover : Cover) (ok : I
   pub encoding_is_valid : IsValid task
   encoding_is_valid =
       record {
-        variables = subst (All IsValidVariable) (sym encoding.variables) (All-append IsValidVariable (map over cover) goal_variables sets_valid goal_variables_valid);
+        variables = subst (All IsValidVariable) (sym encoding.variables) (All-append IsValidVariable (map (variable_over reached layers) cover) goal_variables sets_valid goal_variables_valid);
         groups = all_from_members (IsValidGroup task) task.groups group_valid;
         one_value = same_size;
         state = state_valid;
@@ -359,5 +345,5 @@ module _ (reached : Reached) (lawful : IsLawful reached) (cover : Cover) (ok : I
         rules = all_from_members (IsValidRule task) task.rules rule_valid;
         one_after = λ i j d before inside same.
             let low : i < length task.rules = omega arith in
-            rule_after (get_or task.rules i d) (Contains-get_or task.rules i d low) ∙ sym (rule_after (get_or task.rules j d) (Contains-get_or task.rules j d inside));
+            takes_to_0 (get_or task.rules i d) (Contains-get_or task.rules i d low) ∙ sym (takes_to_0 (get_or task.rules j d) (Contains-get_or task.rules j d inside));
       }

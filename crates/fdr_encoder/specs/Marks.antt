@@ -1,12 +1,13 @@
 -- Words of the code: marks, which are places, gathered and looked at variable by variable.
-use Rattle.std.specs.Prelude.{ℕ, ◌+◌, Bool, ◌==◌, ◌&&◌, not, List, [], ◌∷◌, map, if◌then◌else◌}
+use Rattle.std.specs.Prelude.{ℕ, ◌+◌, Bool, ◌==◌, nat_eq, ◌&&◌, not, List, [], ◌∷◌, map, if◌then◌else◌}
 use Rattle.std.specs.List.{list_all, filter, range_with_len, position_or_len}
+use Rattle.lists.specs.Members.{is_among}
 use Rattle.sas_task.specs.declared.parts.Pair.{Pair}
-use Rattle.fdr_encoder.specs.Places.{Cover, pair, has, last_value}
+use Rattle.fdr_encoder.specs.Places.{Cover, pair, last_value}
 
 -- the place of a fact in the set of a variable, where it has one
 abbrev pub place_in : ℕ → List ℕ → ℕ → List Pair
-place_in var set fact = if has set fact then pair var (position_or_len (λ f. f == fact) set) ∷ [] else []
+place_in var set fact = if is_among nat_eq set fact then pair var (position_or_len (nat_eq fact) set) ∷ [] else []
 
 -- the marks on a variable
 abbrev pub on : ℕ → List Pair → List Pair

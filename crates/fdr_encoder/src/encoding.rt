@@ -7,21 +7,18 @@ ghost use Rattle.sas_task.specs.Valid.{IsValid};
 ghost use Rattle.static_matcher.specs.Literals.{initial};
 ghost use Rattle.relaxed_reach.specs.ReachedTask.{reached_task};
 ghost use Rattle.fdr_encoder.specs.Places.{values_in};
-ghost use Rattle.group_cover.specs.Cover.{IsCover as IsGroupsCover};
+ghost use Rattle.group_cover.specs.Cover.{IsCover};
 ghost use Rattle.fdr_encoder.specs.Effects.{operators_at};
 ghost use Rattle.fdr_encoder.specs.Encoding as parts;
 ghost use Rattle.relaxed_reach.specs.Lawful.{IsLawful};
 ghost use Rattle.relaxed_reach.specs.Layers.{AreLayers};
-ghost use Rattle.fdr_encoder.specs.Ordered.{AreByName, IsEncodingInOrder};
-ghost use Rattle.relaxed_reach.specs.Exclusive.{IsExclusive};
-ghost use Rattle.fdr_encoder.specs.Simulates.{IsCover, IsGroup, Simulates};
+ghost use Rattle.fdr_encoder.specs.Covers.{MakesVariables, IsBasicGroup};
 
 use crate::flags::flags;
 use crate::goal::{goal_pairs, goal_split, push_goal_rules, push_goal_value, push_goal_variable};
 use crate::groups::groups;
 use crate::index::Index;
 use crate::operators::{operators, rules};
-use crate::order::by_name;
 use crate::variables::{layer_above, start, variables};
 use group_cover::{Cover, Groups};
 use lists::List;
@@ -35,10 +32,9 @@ use std::alloc::{AllocError, Global};
 /// two facts is a mutex group of the task. `layers` has one number for each fact, the layer of its variable where the
 /// fact is derived.
 ///
-/// Groups stand as they are given, and operators in the byte order of their names, those of one name in the order of the
-/// task's actions, each with its effects by variable, then conditions, then new value; one without effects is written
-/// too. Rules stand in the order of the task's axioms, and the goal's behind them. The time is linear in the task and in
-/// what the splits give before anything is left out, but for look-ups and sorting. It fails only where memory is refused.
+/// No order of groups, operators, effects or rules is promised. An operator without effects is one too. The time is
+/// linear in the task and in what the splits give before anything is left out, but for look-ups and the sorting of places.
+/// It fails only where memory is refused.
 pub fn encode(
     alloc: Global,
     reached: &Reached,
@@ -47,12 +43,11 @@ pub fn encode(
     layers: &[u64],
 ) -> Result<SasTask, AllocError>
     requires lawful { IsLawful reached.now }
-    requires cover { IsGroupsCover (length reached.now.facts) groups.now.groups cover.now.sets }
-    requires groups { All (IsGroup reached.now) groups.now.groups }
+    requires cover { IsCover (length reached.now.facts) groups.now.groups cover.now.sets }
+    requires groups { All (IsBasicGroup reached.now) groups.now.groups }
     requires layers { AreLayers reached.now layers.now }
-    ensures encoding { IfOk result (IsEncodingInOrder cover.now.sets groups.now.groups layers.now reached.now) }
+    ensures encoding { IfOk result (parts.IsEncoding cover.now.sets groups.now.groups layers.now reached.now) }
     ensures valid { IfOk result IsValid }
-    ensures simulates { All (IsExclusive reached.now) groups.now.groups → IfOk result (Simulates cover.now.sets reached.now) }
 {
     let facts = reached.facts.as_slice().len() as u64;
     let index = Index::new(alloc, facts, cover.sets.as_slice())?;
@@ -78,14 +73,13 @@ fn encode_over(
 ) -> Result<SasTask, AllocError>
     requires lawful { IsLawful reached.now }
     requires layers { AreLayers reached.now layers.now }
-    requires cover { IsCover reached.now index.now }
+    requires cover { MakesVariables reached.now index.now }
     requires apart { All IsStrictlyIncreasing index.now }
-    requires groups { All (IsGroup reached.now) mutexes.now }
+    requires groups { All (IsBasicGroup reached.now) mutexes.now }
     requires few { length reached.now.facts < 2 ^ 64 }
     requires members { members.now ≡ parts.goal_split index.now reached.now.goal }
-    ensures encoding { IfOk result (IsEncodingInOrder index.now mutexes.now layers.now reached.now) }
+    ensures encoding { IfOk result (parts.IsEncoding index.now mutexes.now layers.now reached.now) }
     ensures valid { IfOk result IsValid }
-    ensures simulates { All (IsExclusive reached.now) index.now → All (IsExclusive reached.now) mutexes.now → IfOk result (Simulates index.now reached.now) }
 {
     let variables = all_variables(alloc, reached, layers, index, members)?;
     let groups = groups(alloc, index, mutexes)?;
@@ -140,16 +134,16 @@ fn state(
     Ok(List::from_vec(all))
 }
 
-/// The operators of the actions, in order.
+/// The operators of the actions.
 fn all_operators(
     alloc: Global,
     reached: &Reached,
     index: &Index,
 ) -> Result<List<Operator>, AllocError>
-    ensures { IfOk result (AreByName (flat_map (operators_at index.now) reached.now.actions)) }
+    ensures { IfOk result (λ all. all ≡ flat_map (operators_at index.now) reached.now.actions) }
 {
     let all = operators(alloc, index, reached.actions.as_slice())?;
-    Ok(List::from_vec(by_name(alloc, all)?))
+    Ok(List::from_vec(all))
 }
 
 /// The rules of the axioms, and the goal's.

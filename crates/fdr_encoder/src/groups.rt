@@ -5,8 +5,8 @@ ghost use Rattle.std.specs.List.Sorted.{IsStrictlyIncreasing};
 ghost use Rattle.fdr_encoder.specs.Encoding as parts;
 
 use crate::index::Index;
-use crate::order::sort_pairs;
 use lists::List;
+use sas_orders::arrange;
 use sas_task::Group;
 use std::alloc::{AllocError, Global};
 
@@ -15,11 +15,10 @@ fn group(alloc: Global, index: &Index, facts: &[u64]) -> Result<Group, AllocErro
     requires { All IsStrictlyIncreasing index.now }
     ensures { IfOk result (λ group. group ≡ parts.group_of index.now facts.now) }
 {
-    let mut places = index.first_places(alloc, facts)?;
-    sort_pairs(&mut places);
-    places.dedup();
+    let places = index.first_places(alloc, facts)?;
+    let in_order = arrange(true, places)?;
     Ok(Group {
-        facts: List::from_vec(places),
+        facts: List::from_vec(in_order),
     })
 }
 

@@ -1,12 +1,13 @@
 // The add effects of an action, found by variable.
 
-ghost use Rattle.std.specs.Prelude.{◌≡◌, ◌++◌, ◌==◌, map, IfOk, OnOk};
-ghost use Rattle.std.specs.List.{filter, flat_map};
+ghost use Rattle.std.specs.Prelude.{◌≡◌, ◌++◌, map, IfOk, OnOk};
+ghost use Rattle.std.specs.List.{flat_map};
 ghost use Rattle.std.specs.List.Sorted.{IsNonDecreasingBy, IsStableByKey};
 ghost use Rattle.std.specs.Ordering.{nat_cmp};
 ghost use Rattle.fdr_encoder.specs.Rivals as words;
 
 use crate::index::Index;
+use crate::on::OnVariable;
 use relaxed_reach::ReachedEffect;
 use sas_task::Pair;
 use static_matcher::Cond;
@@ -17,6 +18,14 @@ use std::alloc::{AllocError, Global};
 pub(crate) struct Rival<'a> {
     pub(crate) var: u64,
     pub(crate) condition: &'a Cond<u64>,
+}
+
+impl<'a> OnVariable for Rival<'a> {
+    ghost var_of = { λ r. r.var };
+
+    fn variable(&self) -> u64 {
+        self.var
+    }
 }
 
 fn push_places<'a>(
@@ -82,13 +91,4 @@ pub(crate) fn rivals<'a>(
     ensures rivals { IfOk result (λ all. words.AreRivals index.now effects.now all.items) }
 {
     by_variable(in_turn(alloc, index, effects)?)
-}
-
-/// The rivals on a variable.
-pub(crate) fn on<'b, 'a>(rivals: &'b [Rival<'a>], var: u64) -> &'b [Rival<'a>]
-    requires { IsNonDecreasingBy (λ r. r.var) rivals.now }
-    ensures { result.now ≡ filter (λ r. r.var == var) rivals.now }
-{
-    let rest = &rivals[rivals.partition_point(|rival| rival.var < var)..];
-    &rest[..rest.partition_point(|rival| rival.var <= var)]
 }

@@ -1,6 +1,8 @@
 -- One set more in each round, until no group has two uncovered facts.
 use Rattle.std.proofs.Common.{◌≡◌, ℕ, ◌+◌, ◌<◌, ◌≤◌, Bool, true, false, not, ◌||◌, ◌⊎◌, List, [], ◌∷◌, ◌++◌, append_assoc, append-nil, map, length, inl, inr, refl, sym, ap, ◌∙◌, subst, arith, nat_eq, nat_lt}
 use Rattle.std.specs.List.{list_any, filter, range_with_len}
+use Rattle.std.specs.Cmp.{nat_eq_equiv}
+use Rattle.std.proofs.Math.Bool.{or-false}
 use Rattle.std.proofs.lemmas.List.{map-append}
 use Rattle.std.proofs.lemmas.List.Elements.{filter-append}
 use Rattle.lists.proofs.LoopSteps.{range_next}
@@ -10,11 +12,7 @@ use Rattle.group_cover.specs.Cover.{is_covered, uncovered, count, single, is_bef
 
 -- the facts of one set more are covered too
 pub covered-more : (sets : List (List ℕ)) (set : List ℕ) (fact : ℕ) → is_covered (sets ++ set ∷ []) fact ≡ (is_covered sets fact || list_any (nat_eq fact) set)
-covered-more sets set fact = any_append (list_any (nat_eq fact)) sets (set ∷ []) ∙ ap (λ b. is_covered sets fact || b) (or_none (list_any (nat_eq fact) set))
-  where
-    or_none : (b : Bool) → (b || false) ≡ b
-    or_none true = refl
-    or_none false = refl
+covered-more sets set fact = any_append (list_any (nat_eq fact)) sets (set ∷ []) ∙ ap (λ b. is_covered sets fact || b) (or-false (list_any (nat_eq fact) set))
 
 -- a stronger test keeps at most as many
 keeps-fewer : (test other : ℕ → Bool) (xs : List ℕ) → ((x : ℕ) → test x ≡ true → other x ≡ true) → length (filter test xs) ≤ length (filter other xs)
@@ -60,11 +58,8 @@ part-closes sets group = ap (λ (l : List ℕ). length l) (keeps-none (λ fact. 
       | inl is ↦ not_from_true _ (covered-more sets (uncovered sets group) fact ∙ or_left (is_covered sets fact) (list_any (nat_eq fact) (uncovered sets group)) is)
       | inr isnt ↦
           let added = among_filter (λ fact. not (is_covered sets fact)) fact group there (ap not isnt) in
-          not_from_true _ (covered-more sets (uncovered sets group) fact ∙ or_right (is_covered sets fact) (list_any (nat_eq fact) (uncovered sets group)) (any_passes (nat_eq fact) fact (uncovered sets group) added (eq-itself fact)))
+          not_from_true _ (covered-more sets (uncovered sets group) fact ∙ or_right (is_covered sets fact) (list_any (nat_eq fact) (uncovered sets group)) (any_passes (nat_eq fact) fact (uncovered sets group) added (nat_eq_equiv.refl fact)))
     ]
-      where
-        eq-itself : (n : ℕ) → nat_eq n n ≡ true
-        eq-itself n = eq-eqb n n refl
 
 -- how many facts of groups are uncovered, in all
 abbrev pub all_open : List (List ℕ) → List (List ℕ) → ℕ

@@ -43,6 +43,16 @@ fn the_largest_uncovered_part_is_taken(rt: HostRuntime) -> Result<(), AllocError
     let overlapping: &[&[u64]] = &[&[0, 1, 2, 3], &[2, 3, 4, 5], &[1, 4, 5]];
     let taken: &[&[u64]] = &[&[0, 1, 2, 3], &[4, 5], &[6]];
     assert!(rt; are_sets(rt.alloc(), 7, overlapping, taken)?);
+
+    let many: Vec<u64> = (0..12_000).collect(rt.alloc())?;
+    assert!(rt;
+        are_sets(
+            rt.alloc(),
+            12_001,
+            &[many.as_slice()],
+            &[many.as_slice(), &[12_000]]
+        )?
+    );
     Ok(())
 }
 

@@ -2,7 +2,7 @@
 use Rattle.std.proofs.Common.{◌≡◌, ℕ, suc, zero, ◌+◌, ◌-◌, ◌<◌, Bool, true, false, not, ◌&&◌, cond, List, [], ◌∷◌, ◌++◌, map, length, get_or, inl, inr, refl, sym, ap, ◌∙◌, subst, arith}
 use Rattle.std.specs.Prelude.{nat_eq, nat_lt, if◌then◌else◌}
 use Rattle.std.specs.List.{list_any, list_all, filter}
-use Rattle.std.proofs.lemmas.Bool.{true≢false, and_parts, and_from, eqb-true, eq-eqb, ltb-true, ltb-false}
+use Rattle.std.proofs.lemmas.Bool.{true≢false, and_parts, and_from, eqb-true, eq-eqb, ltb-true, ltb-false, lt-ltb}
 use Rattle.std.proofs.lemmas.List.{get_or_append_left}
 use Rattle.std.proofs.Math.Seq.{get_or-append_right}
 use Rattle.lists.proofs.Items.{Among, all_passes, any_passes, passing, map_source, flat_map_piece}
@@ -17,8 +17,8 @@ use Rattle.normal_task.proofs.Chosen.{is_choice}
 use Rattle.normal_task.specs.Within.{place_within, literal_within}
 use Rattle.normal_task.proofs.Alls.{all-weaker}
 use Rattle.invariant_check.specs.Accepted.{is_same_literal, is_listed, fits, with_terms, literal_with, terms, each_choice}
-use Rattle.invariant_check.specs.Contradictory.{is_among, objects_of}
-use Rattle.invariant_check.proofs.Lists.{same_place, same_places}
+use Rattle.invariant_check.specs.Contradictory.{objects_of, is_among}
+use Rattle.invariant_check.proofs.SamePlaces.{same_place, same_places}
 
 -- ---- lawful literals
 
@@ -35,14 +35,7 @@ literal-within task bound (Equal positive left right) is =
 
 -- a greater bound
 pub place-more : (bound more : ℕ) (place : Place) → place_within bound place ≡ true → place_within (bound + more) place ≡ true
-place-more bound more (Variable number) is = let below = ltb-true number bound is in nat-below number (bound + more) (omega (arith, below))
-  where
-    nat-below : (a b : ℕ) → a < b → nat_lt a b ≡ true
-    nat-below a b h = by (nat_lt a b) refl
-      where
-        by : (t : Bool) → nat_lt a b ≡ t → t ≡ true
-        by true e = refl
-        by false e = let l = ltb-false a b e in absurd (omega (arith, h, l))
+place-more bound more (Variable number) is = let below = ltb-true number bound is in lt-ltb number (bound + more) (omega (arith, below))
 place-more bound more (Object object) is = refl
 
 pub literal-more : (bound more : ℕ) (literal : Literal) → literal_within bound literal ≡ true → literal_within (bound + more) literal ≡ true

@@ -15,9 +15,9 @@ use Rattle.invariant_check.specs.declared.terms.Pair.{Pair}
 use Rattle.invariant_check.specs.declared.types.Candidate.{Candidate}
 use Rattle.invariant_check.specs.declared.types.Part.{Part}
 use Rattle.invariant_check.specs.Accepted.{denied, ranges_with, instance_of, is_light_beside, part_passes, is_listed, apart_from, with_terms, literal_with}
-use Rattle.invariant_check.specs.Attempts.{are_one_or_apart, leaves_deleted, is_at_instance, are_fitting, balances_given}
+use Rattle.invariant_check.specs.Attempts.{is_at_instance, are_one_or_apart, leaves_deleted, are_fitting, balances_given}
 use Rattle.invariant_check.specs.Candidates.{at_positions}
-use Rattle.invariant_check.specs.Contradictory.{is_contradictory, are_same_terms, has_contradiction, in_one_class, all_pairs, standing}
+use Rattle.invariant_check.specs.Contradictory.{is_contradictory, are_same_terms, has_contradiction, in_one_class, all_pairs, standing, is_same_place}
 use Rattle.invariant_check.specs.Merges.{as_pair, pair_of}
 use Rattle.invariant_check.specs.Renamings.{denied_atom}
 

@@ -1,4 +1,5 @@
 -- Trying one item of each list, one list after the other.
+use Rattle.std.proofs.Math.Bool.{or-false}
 use Rattle.std.proofs.Common.{◌≡◌, ℕ, suc, ◌+◌, ◌<◌, ◌≤◌, Bool, true, false, ◌||◌, List, [], ◌∷◌, ◌++◌, map, length, get_or, drop, refl, sym, ap, ◌∙◌, append_assoc, append-nil, arith}
 use Rattle.std.specs.List.{list_any}
 use Rattle.std.proofs.Math.ListN.{drop_of_length-le}
@@ -25,11 +26,7 @@ module _ {A : Type 0} (test : List A → Bool) (given : List A) where
 
     pub all_given : length lists ≤ at → test given ≡ some_choice
     all_given past =
-        ap test (sym (append-nil given)) ∙ alone (test (given ++ [])) ∙ ap (λ ls. list_any (λ others. test (given ++ others)) (each_choice ls)) (sym (drop_of_length-le lists past))
-      where
-        alone : (b : Bool) → b ≡ (b || false)
-        alone true = refl
-        alone false = refl
+        ap test (sym (append-nil given)) ∙ sym (or-false (test (given ++ []))) ∙ ap (λ ls. list_any (λ others. test (given ++ others)) (each_choice ls)) (sym (drop_of_length-le lists past))
 
     module _ (items : List A) (some : at < length lists) (first : items ≡ get_or lists at items) where
       whole : some_choice ≡ list_any (tries (drop (at + 1) lists)) items

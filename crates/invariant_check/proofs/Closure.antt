@@ -4,8 +4,8 @@ use Rattle.std.proofs.lemmas.Bool.{and_parts, and_from, or_cases, or_left, or_ri
 use Rattle.lists.proofs.Items.{Among, among_contains, contains_among}
 use Rattle.normal_task.specs.declared.task.Place.{Place}
 use Rattle.invariant_check.specs.Contradictory.{is_same_place, in_one_class}
-use Rattle.invariant_check.specs.Law.{IsSameness, IsClosure}
-use Rattle.invariant_check.proofs.Lists.{same_place, place_itself}
+use Rattle.invariant_check.specs.Closure.{IsSameness, IsClosure}
+use Rattle.invariant_check.proofs.SamePlaces.{same_place, place_itself}
 
 -- the three ways to be in one class
 abbrev pub Ways : (Place × Place) → List (Place × Place) → Place → Place → Type 0

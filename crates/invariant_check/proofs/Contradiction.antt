@@ -4,7 +4,7 @@ use Rattle.std.specs.Prelude.{nat_eq}
 use Rattle.std.specs.List.{list_any, flat_map}
 use Rattle.std.specs.Cmp.Lexicographic.{pointwise}
 use Rattle.std.proofs.lemmas.Bool.{true≢false, eqb-true, eq-eqb, and_parts, and_from, or_cases, not-true}
-use Rattle.lists.proofs.Items.{Among, all_passes, any_passes, passing, flat_map_piece, among_which}
+use Rattle.lists.proofs.Items.{Among, all_passes, any_passes, passing, flat_map_piece, among_which, among_contains, told_contains}
 use Rattle.normal_task.specs.declared.task.GroundAtom.{GroundAtom}
 use Rattle.normal_task.specs.declared.task.Literal.{Literal}
 use Rattle.normal_task.specs.declared.task.Literal.TheVariants.{Holds, Equal}
@@ -15,8 +15,9 @@ use Rattle.invariant_check.specs.declared.types.Candidate.{Candidate}
 use Rattle.invariant_check.specs.declared.types.Part.{Part}
 use Rattle.invariant_check.specs.Candidates.{at_positions, part_covers, covers, IsAtMostOne}
 use Rattle.invariant_check.specs.Contradictory as spec
-use Rattle.invariant_check.specs.Contradictory.{in_one_class, equality_of, objects_of, is_among, are_two_objects, all_pairs, standing, has_contradiction, is_contradictory}
-use Rattle.invariant_check.proofs.Lists.{true-false, same_place, number_itself, at_positions-map}
+use Rattle.invariant_check.specs.Contradictory.{in_one_class, equality_of, objects_of, are_two_objects, all_pairs, standing, has_contradiction, is_contradictory, is_among}
+use Rattle.invariant_check.proofs.SamePlaces.{true-false, same_place, at_positions-map}
+use Rattle.std.proofs.lemmas.Cmp.{nat_list_eq_equiv}
 
 -- terms of one class have one value
 pub class_values : (val : Place → ℕ) (pairs : List (Place × Place)) → ((pair : Place × Place) → Among pair pairs → val pair.0 ≡ val pair.1) → (x y : Place) → in_one_class pairs x y ≡ true → val x ≡ val y
@@ -101,14 +102,9 @@ module _ (literals : List Literal) (full : State) (binding : Binding) (met : are
           true-false (nat_eq (object_at binding left) (object_at binding right)) (eq-eqb (object_at binding left) (object_at binding right) (same_values left right is))
           (not-true (nat_eq (object_at binding left) (object_at binding right)) (literal_met (Equal false left right) there))
 
-      among_number : (objects : List ℕ) (object : ℕ) → is_among objects object ≡ true → Among object objects
-      among_number objects object is =
-          let found = passing (nat_eq object) objects is in
-          subst (λ (n : ℕ). Among n objects) (sym (eqb-true object found.item found.passes)) found.among
-
       objectless : (term : Place) → spec.has_no_object same ranges terms term ≡ true → ⊥
       objectless term is =
-          let none = all_passes (λ object. list_any (λ other. same term other && not (is_among (objects_of ranges other) object)) terms) (object_at binding term) (objects_of ranges term) (among_number (objects_of ranges term) (object_at binding term) (typed term)) is in
+          let none = all_passes (λ object. list_any (λ other. same term other && not (is_among (objects_of ranges other) object)) terms) (object_at binding term) (objects_of ranges term) (among_contains (objects_of ranges term) (object_at binding term) (told_contains nat_eq (λ x y same. eqb-true x y same) (objects_of ranges term) (object_at binding term) (typed term))) is in
           let found = passing (λ other. same term other && not (is_among (objects_of ranges other) (object_at binding term))) terms none in
           let parts = and_parts (same term found.item) (not (is_among (objects_of ranges found.item) (object_at binding term))) found.passes in
           let there : is_among (objects_of ranges found.item) (object_at binding term) ≡ true =
@@ -123,7 +119,7 @@ module _ (literals : List Literal) (full : State) (binding : Binding) (met : are
           sym (at_positions-map (object_at binding) (Object 0) found.item.places places) ∙ same_objects (at_positions (Object 0) found.item.places places) instance parts.1 in
           any_passes (part_covers (objects_at binding instance) (atom_of predicate (objects_at binding places))) found.item candidate.parts found.among
           (and_from (nat_eq found.item.predicate predicate) (pointwise nat_eq (at_positions 0 found.item.places (objects_at binding places)) (objects_at binding instance)) parts.0
-          (subst (λ (os : List ℕ). pointwise nat_eq (at_positions 0 found.item.places (objects_at binding places)) os ≡ true) agree (number_itself (at_positions 0 found.item.places (objects_at binding places)))))
+          (subst (λ (os : List ℕ). pointwise nat_eq (at_positions 0 found.item.places (objects_at binding places)) os ≡ true) agree (nat_list_eq_equiv.refl (at_positions 0 found.item.places (objects_at binding places)))))
 
       two : (one other : Literal) → Among one literals → Among other literals → spec.are_two_of_instance same candidate instance one other ≡ true → ⊥
       two (Holds false p xs) (Holds b q ys) in-one in-other is = true≢false (sym is)

@@ -1,10 +1,17 @@
 -- laws, which other crates may cite
-pub mod Lists
+pub mod RisingLists
+pub mod FormedParts
 pub mod Covering
+pub mod OnePredicate
+pub mod Extended
+pub mod Listed
 pub mod Sound
 pub mod Weights
 pub mod Verdicts
 -- lemmas of this crate
+mod PartsOf
+mod NamedAnew
+mod SamePlaces
 mod Contradiction
 mod Closure
 mod Bindings

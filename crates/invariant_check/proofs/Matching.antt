@@ -5,9 +5,11 @@ use Rattle.std.specs.Cmp.{both_ways}
 use Rattle.std.specs.Cmp.Lexicographic.{pointwise}
 use Rattle.std.specs.List.{list_any, list_all, flat_map, filter, range_with_len, position}
 use Rattle.std.specs.Option.{option_map_or}
-use Rattle.std.proofs.lemmas.Bool.{true≢false, eqb-true, eq-eqb, ltb-true, ltb-false, and_parts, and_from, or_left, not-true}
+use Rattle.std.proofs.Math.Bool.{and-false}
+use Rattle.std.proofs.lemmas.Bool.{true≢false, eqb-true, eq-eqb, ltb-true, ltb-false, lt-ltb, and_parts, and_from, or_left, not-true}
 use Rattle.std.proofs.lemmas.List.Quantifiers.{position-Some}
 use Rattle.lists.proofs.Items.{Among, all_passes, any_passes, passing, map_source, among_map, among_left, among_right, among_which, among_flat_map, flat_map_piece, among_filter, filter_among, same_map, same_any}
+use Rattle.lists.proofs.NoRepeats.{among_range, range_among}
 use Rattle.normal_task.specs.declared.task.EffectRow.{EffectRow}
 use Rattle.normal_task.specs.declared.task.Literal.{Literal}
 use Rattle.normal_task.specs.declared.task.Literal.TheVariants.{Holds, Equal}
@@ -18,11 +20,11 @@ use Rattle.normal_task.specs.declared.task.Schema.{Schema}
 use Rattle.invariant_check.specs.declared.types.Candidate.{Candidate}
 use Rattle.invariant_check.specs.declared.types.Part.{Part}
 use Rattle.invariant_check.specs.Candidates.{at_positions}
-use Rattle.invariant_check.specs.Contradictory.{is_same_place, is_among, terms_of}
+use Rattle.invariant_check.specs.Contradictory.{is_same_place, terms_of, is_among}
 use Rattle.invariant_check.specs.Accepted.{required, instance_of, apart_from, is_same_literal, is_listed, terms, fits, each_choice, fittings, with_terms, literal_with, row_with, never_restores, balances, has_balance}
 use Rattle.invariant_check.specs.Attempts.{is_at_instance, stated_at, some_terms, tried_for, tried, is_fitting, are_fitting, balances_given, balances_somehow}
 use Rattle.invariant_check.proofs.Bindings.{same_literal}
-use Rattle.invariant_check.proofs.Lists.{get_or_map, true-false, same_place, place_itself}
+use Rattle.invariant_check.proofs.SamePlaces.{get_or_map, true-false, same_place, place_itself}
 
 -- ---- one item of each list
 
@@ -50,28 +52,6 @@ chosen_choice {A = A} (list ∷ lists) (x ∷ xs) chosen =
 
 -- ---- terms that fit
 
-among-range : (from count number : ℕ) → from ≤ number → number < from + count → Among number (range_with_len from count)
-among-range from zero number least most = absurd (omega (arith, least, most))
-among-range from (suc count) number least most = by (among-range (from + 1) count number) (nat_eq from number) refl
-  where
-    by : (from + 1 ≤ number → number < from + 1 + count → Among number (range_with_len (from + 1) count)) → (b : Bool) → nat_eq from number ≡ b → Among number (from ∷ range_with_len (from + 1) count)
-    by later true is = inl (eqb-true from number is)
-    by later false is =
-        let other : from ≡ number → ⊥ = λ same. true-false (nat_eq from number) (eq-eqb from number same) is in
-        inr (later (omega (arith, least, other)) (omega (arith, most)))
-
-range-among : (from count number : ℕ) → Among number (range_with_len from count) → number < from + count
-range-among from zero number none = absurd none
-range-among from (suc count) number (inl here) = omega (arith, here)
-range-among from (suc count) number (inr there) = let below = range-among (from + 1) count number there in omega (arith, below)
-
-below : (a b : ℕ) → a < b → nat_lt a b ≡ true
-below a b less = by (nat_lt a b) refl
-  where
-    by : (t : Bool) → nat_lt a b ≡ t → t ≡ true
-    by true e = refl
-    by false e = let most = ltb-false a b e in absurd (omega (arith, less, most))
-
 module _ (task : Normal) (ranges : List (List ℕ)) where
   -- a term that fits is one of those that the definition tries
   fitting-there : (term : Place) (range : List ℕ) → is_fitting task ranges term range ≡ true → Among term (filter (fits ranges range) (terms task ranges))
@@ -81,7 +61,7 @@ module _ (task : Normal) (ranges : List (List ℕ)) where
       let most : number < 0 + length ranges = omega (arith, ltb-true number (length ranges) parts.0) in
       among_filter (fits ranges range) (Variable number) (terms task ranges)
       (among_left (Variable number) (map Variable (range_with_len 0 (length ranges))) (map Object (range_with_len 0 (length task.objects)))
-      (among_map Variable number (range_with_len 0 (length ranges)) (among-range 0 (length ranges) number least most)))
+      (among_map Variable number (range_with_len 0 (length ranges)) (range_among 0 (length ranges) number least most)))
       parts.1
   fitting-there (Object object) range is =
       let parts = and_parts (nat_lt object (length task.objects)) (fits ranges range (Object object)) is in
@@ -89,7 +69,7 @@ module _ (task : Normal) (ranges : List (List ℕ)) where
       let most : object < 0 + length task.objects = omega (arith, ltb-true object (length task.objects) parts.0) in
       among_filter (fits ranges range) (Object object) (terms task ranges)
       (among_right (Object object) (map Variable (range_with_len 0 (length ranges))) (map Object (range_with_len 0 (length task.objects)))
-      (among_map Object object (range_with_len 0 (length task.objects)) (among-range 0 (length task.objects) object least most)))
+      (among_map Object object (range_with_len 0 (length task.objects)) (range_among 0 (length task.objects) object least most)))
       parts.1
 
   -- and each of them fits
@@ -99,15 +79,15 @@ module _ (task : Normal) (ranges : List (List ℕ)) where
       elim (among_which term (map Variable (range_with_len 0 (length ranges))) (map Object (range_with_len 0 (length task.objects))) parts.0) [
         | inl variable ↦
             let source = map_source Variable (range_with_len 0 (length ranges)) term variable in
-            let less : source.source < length ranges = omega (arith, range-among 0 (length ranges) source.source source.among) in
+            let less : source.source < length ranges = omega (arith, (among_range 0 (length ranges) source.source source.among).1) in
             subst (λ t. is_fitting task ranges t range ≡ true) source.gives
-            (and_from (nat_lt source.source (length ranges)) (fits ranges range (Variable source.source)) (below source.source (length ranges) less)
+            (and_from (nat_lt source.source (length ranges)) (fits ranges range (Variable source.source)) (lt-ltb source.source (length ranges) less)
             (subst (λ t. fits ranges range t ≡ true) (sym source.gives) parts.1))
         | inr object ↦
             let source = map_source Object (range_with_len 0 (length task.objects)) term object in
-            let less : source.source < length task.objects = omega (arith, range-among 0 (length task.objects) source.source source.among) in
+            let less : source.source < length task.objects = omega (arith, (among_range 0 (length task.objects) source.source source.among).1) in
             subst (λ t. is_fitting task ranges t range ≡ true) source.gives
-            (and_from (nat_lt source.source (length task.objects)) (fits ranges range (Object source.source)) (below source.source (length task.objects) less)
+            (and_from (nat_lt source.source (length task.objects)) (fits ranges range (Object source.source)) (lt-ltb source.source (length task.objects) less)
             (subst (λ t. fits ranges range t ≡ true) (sym source.gives) parts.1))
       ]
 
@@ -159,10 +139,6 @@ listed-there literals literal is =
     subst (λ l. Among l literals) (sym (same_literal literal found.item found.passes)) found.among
 
 -- ---- one delete effect
-
-and-false : (b : Bool) → (b && false) ≡ false
-and-false true = refl
-and-false false = refl
 
 -- the same conjunction in another order
 regroup : (a x y z f w : Bool) → a ≡ false → (x && y && z && f && w) ≡ (f && (not a && x && y && z && w))

@@ -10,7 +10,7 @@ use Rattle.invariant_check.specs.declared.terms.Pair.{Pair}
 use Rattle.invariant_check.specs.Contradictory.{is_same_place, in_one_class, all_pairs}
 use Rattle.invariant_check.specs.Merges.{as_pair, led, leader, have_one_leader, merge_of, TellClasses}
 use Rattle.invariant_check.proofs.Closure.{Ways, ways, from_ways, sameness, has_pairs, least}
-use Rattle.invariant_check.proofs.Lists.{same_place, place_itself}
+use Rattle.invariant_check.proofs.SamePlaces.{same_place, place_itself}
 
 -- the order of the pairs doesn't matter
 pub same_members : (xs ys : List (Place × Place)) → ((p : Place × Place) → Among p xs → Among p ys) → (x y : Place) → in_one_class xs x y ≡ true → in_one_class ys x y ≡ true

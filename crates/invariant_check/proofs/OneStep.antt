@@ -29,11 +29,13 @@ use Rattle.invariant_check.specs.declared.types.Part.{Part}
 use Rattle.invariant_check.specs.Accepted.{each_add, instance_of, denied, apart_from, ranges_with, both_added, are_light, is_light_in, is_light, required, is_listed, fittings, row_with, added_beside, never_restores, balances, has_balance, with_terms, literal_with, is_balanced_at, is_balanced, is_accepted}
 use Rattle.invariant_check.specs.Candidates.{at_positions, part_covers, covers, IsAtMostOne}
 use Rattle.invariant_check.specs.Contradictory.{is_same_place, in_one_class, all_pairs, are_same_terms, is_contradictory}
-use Rattle.invariant_check.specs.Law.{is_basic}
+use Rattle.invariant_check.specs.Soundness.{is_basic}
 use Rattle.invariant_check.proofs.Bindings.{place-within, literal-within, literal-more, places-kept, places-given, all-met-given, listed-passes, choice-append, choice-typed, fittings-choose}
 use Rattle.invariant_check.proofs.Contradiction.{equal_objects, never_contradictory}
 use Rattle.invariant_check.proofs.Covering.{Covering, covering, covered}
-use Rattle.invariant_check.proofs.Lists.{true-false, same_places, same_numbers, number_itself, same_atom, atom_itself, at_positions-map, zip_equal}
+use Rattle.invariant_check.proofs.SamePlaces.{true-false, same_places, same_atom, atom_itself, at_positions-map, zip_equal}
+use Rattle.names.proofs.SameNames.{same_name}
+use Rattle.std.proofs.lemmas.Cmp.{nat_list_eq_equiv}
 
 -- ---- an effect that writes an atom
 

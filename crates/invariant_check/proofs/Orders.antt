@@ -1,5 +1,5 @@
 -- The orders of positions are what the iterator over permutations gives, and a part is put in by its place.
-use Rattle.std.proofs.Common.{◌≡◌, ℕ, zero, suc, ◌+◌, ◌-◌, ◌<◌, ◌≤◌, Bool, true, false, not, cond, ltb, List, [], ◌∷◌, ◌++◌, map, length, get_or, take, drop, refl, sym, ap, ◌∙◌, subst, arith, append-nil, append_assoc, length-append, Global}
+use Rattle.std.proofs.Common.{◌≡◌, ℕ, zero, suc, ◌+◌, ◌-◌, ◌<◌, ◌≤◌, Bool, true, false, not, cond, ltb, List, [], ◌∷◌, ◌++◌, map, length, get_or, take, drop, refl, sym, ap, ◌∙◌, subst, arith, append-nil, append_assoc, length-append, inl, inr, Global}
 use Rattle.std.specs.Vec.{vec_len}
 use Rattle.std.specs.Prelude.{nat_eq, nat_lt, Option, Some, None, filter, if◌then◌else◌}
 use Rattle.std.specs.Option.{unwrap_or}
@@ -10,12 +10,15 @@ use Rattle.std.proofs.lemmas.List.Edits.{length-remove}
 use Rattle.std.proofs.lemmas.List.Sums.{prefix_len-le-length}
 use Rattle.std.proofs.lemmas.Simd.{map-map}
 use Rattle.std.proofs.lemmas.List.Concat.{flat_map-append}
+use Rattle.lists.proofs.Items.{Among, map_flat_map}
 use Rattle.lists.proofs.LoopSteps.{range_next}
+use Rattle.lists.proofs.NoRepeats.{Once}
 use Rattle.itertools.specs.Odometer.{ways, numbers}
 use Rattle.itertools.specs.declared.combinations.Permutations.{Permutations}
 use Rattle.itertools.specs.Pool.{unranked, permutation_left, ClonesAt}
 use Rattle.invariant_check.specs.declared.types.Part.{Part}
 use Rattle.invariant_check.specs.Extensions.{is_counted, left_by, countings, without, orders, part_at, put_in}
+use Rattle.invariant_check.proofs.PartsOf.{once_left}
 
 -- ---- the first place that passes
 
@@ -121,10 +124,6 @@ without-at (y ∷ before) x rest apart =
     ∙ ap (λ l. y ∷ l) (without-at before x rest apart.1)
 
 -- ---- orders by the places of a pool
-
-map_flat_map : {X Y Z : Type 0} (f : Y → Z) (g : X → List Y) (xs : List X) → map f (flat_map g xs) ≡ flat_map (λ x. map f (g x)) xs
-map_flat_map f g [] = refl
-map_flat_map f g (x ∷ xs) = map-append f (g x) (flat_map g xs) ∙ ap (λ l. map f (g x) ++ l) (map_flat_map f g xs)
 
 abbrev pub low : List ℕ → ℕ
 low chosen = 0
@@ -247,33 +246,16 @@ clones-are pool (place ∷ places) (item ∷ items) within clones =
 
 -- ---- the positions left to parameters are apart
 
-lacks-range : (x from count : ℕ) → x < from → Lacks x (range_with_len from count)
-lacks-range x from zero below = tt
-lacks-range x from (suc count) below =
-    (false_from_ne_true (nat_eq x from) (λ is. absurd (omega (arith, eqb-true x from is, below))), lacks-range x (from + 1) count (omega (arith, below)))
-
-apart-range : (from count : ℕ) → Apart (range_with_len from count)
-apart-range from zero = tt
-apart-range from (suc count) = (lacks-range from (from + 1) count (omega arith), apart-range (from + 1) count)
-
-apart-filter : (test : ℕ → Bool) (xs : List ℕ) → Apart xs → Apart (filter test xs)
-apart-filter test [] apart = tt
-apart-filter test (x ∷ xs) apart = by (test x) (lacks xs apart.0) (apart-filter test xs apart.1)
+apart-from_once : (xs : List ℕ) → Once xs → Apart xs
+apart-from_once [] once = tt
+apart-from_once (x ∷ xs) once = (lacks xs once.0, apart-from_once xs once.1)
   where
-    lacks : (ys : List ℕ) → Lacks x ys → Lacks x (filter test ys)
+    lacks : (ys : List ℕ) → (Among x ys → ⊥) → Lacks x ys
     lacks [] none = tt
-    lacks (y ∷ ys) none = kept (test y) (lacks ys none.1)
-      where
-        kept : (b : Bool) → Lacks x (filter test ys) → Lacks x (if b then y ∷ filter test ys else filter test ys)
-        kept true rest = (none.0, rest)
-        kept false rest = rest
-
-    by : (b : Bool) → Lacks x (filter test xs) → Apart (filter test xs) → Apart (if b then x ∷ filter test xs else filter test xs)
-    by true none rest = (none, rest)
-    by false none rest = rest
+    lacks (y ∷ ys) none = (false_from_ne_true (nat_eq x y) (λ is. none (inl (sym (eqb-true x y is)))), lacks ys (λ there. none (inr there)))
 
 pub left_by-distinct : (arity : ℕ) (counted : Option ℕ) → IsDistinct nat_eq (left_by arity counted)
-left_by-distinct arity counted = distinct-from_apart (left_by arity counted) (apart-filter (λ position. not (is_counted counted position)) (range_with_len 0 arity) (apart-range 0 arity))
+left_by-distinct arity counted = distinct-from_apart (left_by arity counted) (apart-from_once (left_by arity counted) (once_left arity counted))
 
 -- ---- one more order
 

@@ -10,11 +10,11 @@ use Rattle.std.proofs.lemmas.List.Sorted.{searched}
 use Rattle.lists.proofs.Items.{Among, among_at, contains_among, all_passes, each_passes, any_passes, passing, none_passes, any_append, among_map, map_source, among_filter, filter_among}
 use Rattle.lists.proofs.LoopSteps.{map_next, filter_next_kept, filter_next_left}
 use Rattle.normal_task.specs.declared.task.Place.{Place}
-use Rattle.invariant_check.specs.Contradictory.{is_among, objects_of, is_lacked, has_no_object}
+use Rattle.invariant_check.specs.Contradictory.{objects_of, is_lacked, has_no_object, is_among}
 use Rattle.invariant_check.specs.declared.common.Member.{Member}
 use Rattle.invariant_check.specs.Common.{objects_in, is_missed, is_shared, IsNextShared, TellsShared}
 use Rattle.invariant_check.specs.FirstFrom.{IsFirstFrom}
-use Rattle.invariant_check.proofs.Lists.{true-false}
+use Rattle.invariant_check.proofs.SamePlaces.{true-false}
 
 -- ---- one list that rises
 

@@ -8,7 +8,7 @@ use Rattle.planning.specs.Task.{Takes}
 use Rattle.invariant_check.specs.declared.types.Candidate.{Candidate}
 use Rattle.invariant_check.specs.Accepted.{is_accepted}
 use Rattle.invariant_check.specs.Candidates.{IsAtMostOne}
-use Rattle.invariant_check.specs.Law.{is_basic, InvariantsAreSound}
+use Rattle.invariant_check.specs.Soundness.{is_basic, InvariantsAreSound}
 use Rattle.invariant_check.proofs.OneStep.{keeps_at_most_one}
 
 module _ (task : Normal) (candidate : Candidate) (lawful : IsLawful task) (basic : is_basic task candidate ≡ true) (accepted : is_accepted task candidate ≡ true) (instance : List ℕ) where

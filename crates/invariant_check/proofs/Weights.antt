@@ -6,8 +6,8 @@ use Rattle.normal_task.specs.declared.task.GroundAtom.{GroundAtom}
 use Rattle.normal_task.specs.Meaning.{State, initial, is_same_atom}
 use Rattle.invariant_check.specs.declared.types.Candidate.{Candidate}
 use Rattle.invariant_check.specs.Candidates.{covers, IsAtMostOne, HasWeight}
-use Rattle.invariant_check.specs.Law.{WeightsStayAtMostOne}
-use Rattle.invariant_check.proofs.Lists.{true-false, atom_itself}
+use Rattle.invariant_check.specs.Soundness.{WeightsStayAtMostOne}
+use Rattle.invariant_check.proofs.SamePlaces.{true-false, atom_itself}
 use Rattle.invariant_check.proofs.Sound.{invariants_are_sound}
 
 pub only-one : {X : Type 0} (xs : List X) (x y : X) → length xs ≤ 1 → Among x xs → Among y xs → x ≡ y

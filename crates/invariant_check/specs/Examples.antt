@@ -13,6 +13,7 @@ use Rattle.normal_task.specs.declared.task.PredicateRow.{PredicateRow}
 use Rattle.normal_task.specs.declared.task.Schema.{Schema}
 use Rattle.invariant_check.specs.declared.types.Candidate.{Candidate}
 use Rattle.invariant_check.specs.declared.types.Part.{Part}
+use Rattle.invariant_check.specs.Names.{of_parts}
 
 -- ---- literals and effects
 
@@ -70,19 +71,14 @@ action parameters condition effects = record { action = []; shown = 0; parameter
 abbrev pub changing_row : ℕ → PredicateRow
 changing_row arity = record { name = []; arity = arity; derived = false; fixed = false }
 
--- a task of two objects with the predicates p, q and r of this arity
+-- a task with these objects, and with predicates of these arities
+abbrev pub task : List (List ℕ) → List ℕ → List Schema → Normal
+task objects arities schemas =
+    record { objects = objects; predicates = map changing_row arities; schemas = schemas; axioms = []; init = []; values = []; goal = []; metric = false }
+
+-- one of two objects with the predicates p, q and r of this arity
 abbrev pub with_schemas : ℕ → List Schema → Normal
-with_schemas arity schemas =
-    record {
-      objects = [] ∷ [] ∷ [];
-      predicates = map changing_row (arity ∷ arity ∷ arity ∷ []);
-      schemas = schemas;
-      axioms = [];
-      init = [];
-      values = [];
-      goal = [];
-      metric = false;
-    }
+with_schemas arity schemas = task ([] ∷ [] ∷ []) (arity ∷ arity ∷ arity ∷ []) schemas
 
 -- ---- candidates
 
@@ -93,9 +89,6 @@ whole arity predicate = record { predicate = predicate; places = range_with_len 
 -- the predicate of one argument, which is counted
 abbrev pub counting : ℕ → Part
 counting predicate = record { predicate = predicate; places = []; counted = Some 0 }
-
-abbrev pub of_parts : ℕ → List Part → Candidate
-of_parts parameters parts = record { parameters = parameters; parts = parts }
 
 -- {p} and {p, q} of predicates without arguments, and {p(x), q(x)}
 abbrev pub only_p : Candidate
@@ -130,11 +123,12 @@ action_of_two condition effects = with_schemas 1 (action (both_objects ∷ both_
 
 -- what is off is turned on
 abbrev pub switch : Normal
-switch = one_action (q [] ∷ []) (adds [] [] 0 [] ∷ deletes [] [] 1 [] ∷ [])
+switch = task [] (0 ∷ 0 ∷ []) (action [] (q [] ∷ []) (adds [] [] 0 [] ∷ deletes [] [] 1 [] ∷ []) ∷ [])
 
 -- where q(x) holds, it is deleted, and p(x) and q(y) are added
 abbrev pub back : Normal
-back = action_of_two (q (x ∷ []) ∷ []) (adds [] [] 0 (x ∷ []) ∷ deletes [] [] 1 (x ∷ []) ∷ adds [] [] 1 (y ∷ []) ∷ [])
+back =
+    task ([] ∷ [] ∷ []) (1 ∷ 1 ∷ []) (action (both_objects ∷ both_objects ∷ []) (q (x ∷ []) ∷ []) (adds [] [] 0 (x ∷ []) ∷ deletes [] [] 1 (x ∷ []) ∷ adds [] [] 1 (y ∷ []) ∷ []) ∷ [])
 
 -- q is deleted by two actions, and p is added by the second effect of the second and by the third
 abbrev pub late : Normal

@@ -3,8 +3,10 @@ pub mod Contradictory
 pub mod Accepted
 pub mod Extensions
 pub mod WellFormed
+pub mod Names
 pub mod Repairs
-pub mod Law
+pub mod Soundness
+pub mod Closure
 pub mod Merges
 pub mod Renamings
 pub mod FirstFrom

@@ -8,8 +8,10 @@ ghost use Rattle.invariant_check.specs.declared.types.Verdict.TheVariants.{Accep
 ghost use Rattle.invariant_check.specs.Accepted.{is_light, is_balanced, is_accepted};
 ghost use Rattle.invariant_check.specs.Candidates.{covers};
 ghost use Rattle.invariant_check.specs.Contradictory.{in_one_class, is_contradictory};
-ghost use Rattle.invariant_check.specs.Examples.{p, not_p, q, not_q, r, not_r, x, y, z, a, b, both_objects, adds, deletes, only_p, p_and_q, p_and_q_of_one, counted_p, one_action, action_of_one, action_of_two, switch, back, late, predicates_of, of_parts, of_object, counting, with_schemas, action};
-ghost use Rattle.invariant_check.specs.Law.{InvariantsAreSound, InvariantsAreSoundInFiles, WeightsStayAtMostOne, ClassesAreClosures};
+ghost use Rattle.invariant_check.specs.Examples.{p, not_p, q, not_q, r, not_r, x, y, z, a, b, both_objects, adds, deletes, only_p, p_and_q, p_and_q_of_one, counted_p, one_action, action_of_one, action_of_two, switch, back, late, predicates_of, of_object, counting, with_schemas, action};
+ghost use Rattle.invariant_check.specs.Closure.{ClassesAreClosures};
+ghost use Rattle.invariant_check.specs.Soundness.{InvariantsAreSound, InvariantsAreSoundInFiles, WeightsStayAtMostOne};
+ghost use Rattle.invariant_check.specs.Names.{of_parts, OnePredicateIsAll, ExtensionsAreAll, SameAreEqual};
 ghost use Rattle.invariant_check.specs.Repairs.{repairs_at, verdict, is_accepted_verdict};
 
 /// An instance of an accepted candidate with weight at most one at the start has weight at most one in every reachable
@@ -28,6 +30,15 @@ pub fn classes_are_closures()
 /// A candidate is accepted exactly where it is light and balanced.
 pub fn accepted_exactly()
     ensures { (task : Normal) (candidate : Candidate) → is_accepted_verdict (verdict task candidate) ≡ is_accepted task candidate }
+{}
+
+/// The candidates that are listed are all: those of one predicate are the well-formed candidates of one part, and the
+/// extensions of a well-formed candidate are the well-formed ones that have one part more, for another predicate. The names
+/// of parameters mean nothing: candidates that differ by them are the same, and of these one is well formed.
+pub fn candidates_are_all()
+    ensures one_predicate { OnePredicateIsAll }
+    ensures extensions { ExtensionsAreAll }
+    ensures one_form { SameAreEqual }
 {}
 
 /// What an instance covers: the atoms of a part that have its objects at the places of the parameters.

@@ -1,6 +1,5 @@
-pub mod Lists
-pub mod SameCandidates
-pub mod Parts
-pub mod Extensions
-pub mod Turns
-pub mod Trying
+mod Fronts
+mod SameCandidates
+mod Repairs
+mod Queue
+mod Trying

@@ -7,14 +7,10 @@ use Rattle.std.specs.Option.{option_eq}
 use Rattle.std.proofs.lemmas.Bool.{true≢false, eqb-true, and_parts, and_from}
 use Rattle.invariant_check.specs.declared.types.Candidate.{Candidate}
 use Rattle.invariant_check.specs.declared.types.Part.{Part}
+use Rattle.invariant_check.specs.Names.{of_parts}
+use Rattle.invariant_check.specs.Extensions.{part_at}
 use Rattle.invariant_check.specs.contracts.types.PartPartialEq.TheImpl.{eq-value as equality}
 use Rattle.invariant_guess.specs.Trial.{is_same}
-
-abbrev pub part : ℕ → List ℕ → Option ℕ → Part
-part predicate places counted = record { predicate = predicate; places = places; counted = counted }
-
-abbrev pub candidate : ℕ → List Part → Candidate
-candidate parameters parts = record { parameters = parameters; parts = parts }
 
 abbrev is_same_part : Part → Part → Bool
 is_same_part = equality.it
@@ -33,9 +29,9 @@ same_part : (a b : Part) → is_same_part a b ≡ true → a ≡ b
 same_part a b is =
     let halves = and_parts (nat_eq a.predicate b.predicate) (pointwise nat_eq a.places b.places && option_eq nat_eq a.counted b.counted) is in
     let back = and_parts (pointwise nat_eq a.places b.places) (option_eq nat_eq a.counted b.counted) halves.1 in
-    ap (λ p. part p a.places a.counted) (eqb-true a.predicate b.predicate halves.0)
-    ∙ ap (λ l. part b.predicate l a.counted) ((bytes_decides a.places b.places).0 back.0)
-    ∙ ap (part b.predicate b.places) (same_counted a.counted b.counted back.1)
+    ap (λ p. part_at p a.counted a.places) (eqb-true a.predicate b.predicate halves.0)
+    ∙ ap (part_at b.predicate a.counted) ((bytes_decides a.places b.places).0 back.0)
+    ∙ ap (λ c. part_at b.predicate c b.places) (same_counted a.counted b.counted back.1)
 
 part-itself : (a : Part) → is_same_part a a ≡ true
 part-itself a =
@@ -48,7 +44,7 @@ parts_decided = pointwise_decides (λ a b. (same_part a b, λ same. ap (is_same_
 pub same_candidate : (a b : Candidate) → is_same a b ≡ true → a ≡ b
 same_candidate a b is =
     let halves = and_parts (nat_eq a.parameters b.parameters) (pointwise is_same_part a.parts b.parts) is in
-    ap (λ n. candidate n a.parts) (eqb-true a.parameters b.parameters halves.0) ∙ ap (candidate b.parameters) ((parts_decided a.parts b.parts).0 halves.1)
+    ap (λ n. of_parts n a.parts) (eqb-true a.parameters b.parameters halves.0) ∙ ap (of_parts b.parameters) ((parts_decided a.parts b.parts).0 halves.1)
 
 pub candidate-itself : (a : Candidate) → is_same a a ≡ true
 candidate-itself a = and_from (nat_eq a.parameters a.parameters) (pointwise is_same_part a.parts a.parts) (nat_eq_equiv.refl a.parameters) ((parts_decided a.parts a.parts).1 refl)

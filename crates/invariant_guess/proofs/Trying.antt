@@ -2,8 +2,11 @@
 use Rattle.std.proofs.Common.{◌≡◌, ◌≢◌, ℕ, suc, ◌+◌, ◌<◌, ◌≤◌, Bool, true, false, not, ◌||◌, cond, List, [], ◌∷◌, ◌++◌, length, take, filter, refl, sym, ap, ◌∙◌, subst, arith, append-nil, append_assoc, ◌⊎◌, inl, inr}
 use Rattle.std.specs.Prelude.{Option, Some, None, Result, Ok, Err, OnOk, slice_get, nat_eq, if◌then◌else◌}
 use Rattle.std.proofs.lemmas.Bool.{eqb-true, cases_eq, cases_Bool, not_from_true, not_from_false, false_from_ne_true}
+use Rattle.std.proofs.lemmas.List.{take-append-le}
 use Rattle.std.proofs.lemmas.List.Elements.{filter-append}
 use Rattle.std.proofs.lemmas.List.Folds.{list_any-append}
+use Rattle.lists.specs.Members.{is_among}
+use Rattle.lists.proofs.NoRepeats.{Once}
 use Rattle.lists.proofs.Items.{Among, filter_yes, filter_no}
 use Rattle.lists.proofs.LoopSteps.{take_got}
 use Rattle.normal_task.specs.declared.task.Normal.{Normal}
@@ -15,13 +18,13 @@ use Rattle.invariant_check.specs.declared.types.Verdict.TheVariants.{Accepted, D
 use Rattle.invariant_check.specs.Accepted.{is_light, is_accepted}
 use Rattle.invariant_check.specs.Repairs.{first_unbalanced, repairs_at, verdict_by, verdict, is_accepted_verdict}
 use Rattle.invariant_check.specs.Extensions.{one_predicate}
+use Rattle.invariant_check.proofs.OnePredicate.{once_one_predicate}
 use Rattle.invariant_check.proofs.Verdicts.{accepted_exactly}
-use Rattle.invariant_guess.specs.Trial.{repairs_of, repairs, is_same, is_among, after_trial, turn, IsFound}
-use Rattle.invariant_guess.proofs.Lists.{take_longer, slice_among, Once, same_filter}
+use Rattle.invariant_guess.specs.Trial.{repairs_of, repairs, is_same, after_trial, turn, IsFound}
+use Rattle.invariant_guess.proofs.Fronts.{slice_among, same_filter}
 use Rattle.invariant_guess.proofs.SameCandidates.{same_candidate}
-use Rattle.invariant_guess.proofs.Parts.{once_one_predicate}
-use Rattle.invariant_guess.proofs.Extensions.{once_repairs}
-use Rattle.invariant_guess.proofs.Turns.{new_to, turn_queue, there}
+use Rattle.invariant_guess.proofs.Repairs.{once_repairs}
+use Rattle.invariant_guess.proofs.Queue.{new_to, turn_queue, there}
 
 -- ---- what the verdict says
 
@@ -76,25 +79,25 @@ take_one xs i x at = let one : suc i ≡ i + 1 = omega arith in ap (λ n. take n
 -- candidates that are added one after the other, where each stands once among them
 pub added_once : (queue candidates : List Candidate) → Once candidates → insert_all is_same queue candidates ≡ queue ++ new_to queue candidates
 added_once queue [] once = sym (append-nil queue)
-added_once queue (first ∷ more) once = by (cases_Bool (is_among queue first)) (λ (q : List Candidate). added_once q more once.1)
+added_once queue (first ∷ more) once = by (cases_Bool (is_among is_same queue first)) (λ (q : List Candidate). added_once q more once.1)
   where
-    by : (is_among queue first ≡ true) ⊎ (is_among queue first ≡ false) → ((q : List Candidate) → insert_all is_same q more ≡ q ++ new_to q more) → insert_all is_same queue (first ∷ more) ≡ queue ++ new_to queue (first ∷ more)
+    by : (is_among is_same queue first ≡ true) ⊎ (is_among is_same queue first ≡ false) → ((q : List Candidate) → insert_all is_same q more ≡ q ++ new_to q more) → insert_all is_same queue (first ∷ more) ≡ queue ++ new_to queue (first ∷ more)
     by (inl old) added =
         ap (λ b. insert_all is_same (if b then queue else queue ++ first ∷ []) more) old
         ∙ added queue
-        ∙ ap (λ l. queue ++ l) (sym (filter_no (λ (c : Candidate). not (is_among queue c)) first more (not_from_true (is_among queue first) old)))
+        ∙ ap (λ l. queue ++ l) (sym (filter_no (λ (c : Candidate). not (is_among is_same queue c)) first more (not_from_true (is_among is_same queue first) old)))
     by (inr new) added =
         ap (λ b. insert_all is_same (if b then queue else queue ++ first ∷ []) more) new
         ∙ added (queue ++ first ∷ [])
         ∙ ap (λ l. (queue ++ first ∷ []) ++ l) rest
         ∙ append_assoc queue (first ∷ []) (new_to queue more)
-        ∙ ap (λ l. queue ++ l) (sym (filter_yes (λ (c : Candidate). not (is_among queue c)) first more (not_from_false (is_among queue first) new)))
+        ∙ ap (λ l. queue ++ l) (sym (filter_yes (λ (c : Candidate). not (is_among is_same queue c)) first more (not_from_false (is_among is_same queue first) new)))
       where
         rest : new_to (queue ++ first ∷ []) more ≡ new_to queue more
-        rest = same_filter (λ (c : Candidate). not (is_among (queue ++ first ∷ []) c)) (λ (c : Candidate). not (is_among queue c)) more (λ c there. ap not (known c there))
+        rest = same_filter (λ (c : Candidate). not (is_among is_same (queue ++ first ∷ []) c)) (λ (c : Candidate). not (is_among is_same queue c)) more (λ c there. ap not (known c there))
           where
-            known : (c : Candidate) → Among c more → is_among (queue ++ first ∷ []) c ≡ is_among queue c
-            known c there = list_any-append (is_same c) queue (first ∷ []) ∙ ap (λ b. is_among queue c || (b || false)) (other c there) ∙ no_more (is_among queue c)
+            known : (c : Candidate) → Among c more → is_among is_same (queue ++ first ∷ []) c ≡ is_among is_same queue c
+            known c there = list_any-append (is_same c) queue (first ∷ []) ∙ ap (λ b. is_among is_same queue c || (b || false)) (other c there) ∙ no_more (is_among is_same queue c)
               where
                 other : (c : Candidate) → Among c more → is_same c first ≡ false
                 other c there = false_from_ne_true (is_same c first) (λ is. once.0 (subst (λ x. Among x more) (same_candidate c first is) there))
@@ -141,7 +144,7 @@ module _ (task : Normal) (max : ℕ) (queue : List Candidate) (number : ℕ) (ac
   tried-next : take (suc number) (turn task (suc number)) ≡ take number (turn task number) ++ tried ∷ []
   tried-next =
       ap (take (suc number)) now
-      ∙ take_longer queue (new_to queue (repairs task tried)) (suc number) (omega (arith, within))
+      ∙ take-append-le (suc number) queue (new_to queue (repairs task tried)) (omega (arith, within))
       ∙ take_one queue number tried at
       ∙ ap (λ q. take number q ++ tried ∷ []) trying.queue_is
 

@@ -1,6 +1,6 @@
 -- The order in which candidates are tried (Helmert 2009, section 5): a queue that begins with those of one predicate, and to which each candidate's repairs are added at its trial.
 use Rattle.std.specs.Prelude.{◌≡◌, ◌≢◌, ℕ, zero, suc, ◌<◌, ◌⊎◌, Bool, not, List, ◌++◌, length, filter, take, [], Option, Some, None, slice_get, if◌then◌else◌}
-use Rattle.std.specs.List.{list_any}
+use Rattle.lists.specs.Members.{is_among}
 use Rattle.normal_task.specs.declared.task.Normal.{Normal}
 use Rattle.invariant_check.specs.declared.types.AddPlace.{AddPlace}
 use Rattle.invariant_check.specs.declared.types.Candidate.{Candidate}
@@ -22,13 +22,10 @@ repairs task candidate = if is_light task candidate then repairs_of task candida
 abbrev pub is_same : Candidate → Candidate → Bool
 is_same = equality.it
 
-abbrev pub is_among : List Candidate → Candidate → Bool
-is_among queue candidate = list_any (is_same candidate) queue
-
 -- the queue after a candidate's trial: those of its repairs that aren't in it come behind
 abbrev pub after_trial : Normal → List Candidate → Option Candidate → List Candidate
 after_trial task queue None = queue
-after_trial task queue (Some candidate) = queue ++ filter (λ repair. not (is_among queue repair)) (repairs task candidate)
+after_trial task queue (Some candidate) = queue ++ filter (λ repair. not (is_among is_same queue repair)) (repairs task candidate)
 
 -- the queue after so many trials
 abbrev pub turn : Normal → ℕ → List Candidate

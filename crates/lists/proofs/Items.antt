@@ -2,9 +2,13 @@
 use Rattle.std.proofs.Common.{◌≡◌, ℕ, zero, suc, ◌<◌, Bool, true, false, ◌&&◌, ◌||◌, cond, ◌⊎◌, inl, inr, List, [], ◌∷◌, ◌++◌, map, length, get_or, refl, sym, ap, ◌∙◌, subst, arith}
 use Rattle.std.specs.Cmp.{both_ways}
 use Rattle.std.specs.List.{list_any, list_all, flat_map, filter, Contains}
-use Rattle.std.proofs.lemmas.Bool.{or_cases, or_left, or_right, and_parts, cases_Bool, true≢false, false_from_ne_true}
+use Rattle.std.proofs.lemmas.Bool.{or_cases, or_left, or_right, and_parts, and_from, cases_Bool, true≢false, false_from_ne_true}
+use Rattle.std.proofs.lemmas.List.{map-append}
+use Rattle.std.proofs.lemmas.List.Folds.{list_all-append, list_any-append}
+use Rattle.std.proofs.lemmas.Map.Views.{Contains-from_any}
+use Rattle.lists.specs.Members.{is_among}
 
--- the item stands in the list
+-- The item stands in the list: std's `Contains` in its form for induction, which stands in proofs alone.
 abbrev pub Among : {X : Type 0} → X → List X → Type 0
 Among item [] = ⊥
 Among item (x ∷ xs) = (x ≡ item) ⊎ Among item xs
@@ -228,12 +232,7 @@ flat_map_piece f (x ∷ xs) item there = by_half (flat_map_piece f xs item) (amo
     by_half more (inr later) = let rest = more later in record { source = rest.source; among = inr rest.among; inside = rest.inside }
 
 pub any_append : {X : Type 0} (test : X → Bool) (xs ys : List X) → list_any test (xs ++ ys) ≡ (list_any test xs || list_any test ys)
-any_append test [] ys = refl
-any_append test (x ∷ xs) ys = ap (λ b. test x || b) (any_append test xs ys) ∙ joined (test x) (list_any test xs) (list_any test ys)
-  where
-    joined : (a b c : Bool) → (a || (b || c)) ≡ ((a || b) || c)
-    joined true b c = refl
-    joined false b c = refl
+any_append = list_any-append
 
 -- a test of the joined pieces is a test of each
 pub any_flat_map : {X Y : Type 0} (f : X → List Y) (test : Y → Bool) (xs : List X) → list_any test (flat_map f xs) ≡ list_any (λ x. list_any test (f x)) xs
@@ -279,3 +278,66 @@ put_back item [] none other there = absurd none
 put_back item (x ∷ xs) (inl here) other there = inr there
 put_back item (x ∷ xs) (inr behind) other (inl same) = inl same
 put_back item (x ∷ xs) (inr behind) other (inr there) = inr (put_back item xs behind other there)
+
+-- ---- membership as a test
+
+module _ {X : Type 0} (same : X → X → Bool) where
+  pub told_contains : ((x y : X) → same x y ≡ true → x ≡ y) → (xs : List X) (item : X) → is_among same xs item ≡ true → Contains xs item
+  told_contains exact xs item told = Contains-from_any exact item xs told
+
+  pub contains_told : ((x : X) → same x x ≡ true) → (xs : List X) (item : X) → Contains xs item → is_among same xs item ≡ true
+  contains_told itself xs item in' = any_passes (same item) item xs (among_contains xs item in') (itself item)
+
+-- ---- a fact of each item, in its form for induction
+
+abbrev pub Each : {X : Type 0} → (X → Type 0) → List X → Type 0
+Each P [] = Unit
+Each P (x ∷ xs) = P x × Each P xs
+
+pub each_both : {X : Type 0} (P : X → Type 0) (xs ys : List X) → Each P xs → Each P ys → Each P (xs ++ ys)
+each_both P [] ys one other = other
+each_both P (x ∷ xs) ys one other = (one.0, each_both P xs ys one.1 other)
+
+-- ---- what all items of joined lists pass
+
+module _ {X : Type 0} (test : X → Bool) (xs ys : List X) where
+  pub all_both : list_all test xs ≡ true → list_all test ys ≡ true → list_all test (xs ++ ys) ≡ true
+  all_both left right = list_all-append test xs ys ∙ and_from (list_all test xs) (list_all test ys) left right
+
+  pub all_left : list_all test (xs ++ ys) ≡ true → list_all test xs ≡ true
+  all_left all = (and_parts (list_all test xs) (list_all test ys) (sym (list_all-append test xs ys) ∙ all)).0
+
+  pub all_right : list_all test (xs ++ ys) ≡ true → list_all test ys ≡ true
+  all_right all = (and_parts (list_all test xs) (list_all test ys) (sym (list_all-append test xs ys) ∙ all)).1
+
+-- ---- empty lists
+
+pub map_empty : {X Y : Type 0} (f : X → Y) (xs : List X) → map f xs ≡ [] → xs ≡ []
+map_empty f [] none = refl
+map_empty f (x ∷ xs) none = absurd cc
+
+pub left_empty : {X : Type 0} (xs ys : List X) → xs ++ ys ≡ [] → xs ≡ []
+left_empty [] ys none = refl
+left_empty (x ∷ xs) ys none = absurd cc
+
+pub right_empty : {X : Type 0} (xs ys : List X) → xs ++ ys ≡ [] → ys ≡ []
+right_empty [] ys none = none
+right_empty (x ∷ xs) ys none = absurd cc
+
+pub piece_empty : {X Y : Type 0} (f : X → List Y) (xs : List X) → flat_map f xs ≡ [] → (x : X) → Among x xs → f x ≡ []
+piece_empty f [] none x there = absurd there
+piece_empty f (y ∷ xs) none x (inl here) = subst (λ z. f z ≡ []) here (left_empty (f y) (flat_map f xs) none)
+piece_empty f (y ∷ xs) none x (inr there) = piece_empty f xs (right_empty (f y) (flat_map f xs) none) x there
+
+-- ---- joined pieces
+
+pub map_flat_map : {X Y Z : Type 0} (f : Y → Z) (g : X → List Y) (xs : List X) → map f (flat_map g xs) ≡ flat_map (λ x. map f (g x)) xs
+map_flat_map f g [] = refl
+map_flat_map f g (x ∷ xs) = map-append f (g x) (flat_map g xs) ∙ ap (λ l. map f (g x) ++ l) (map_flat_map f g xs)
+
+pub same_flat_map : {X Y : Type 0} (f g : X → List Y) (xs : List X) → ((x : X) → Among x xs → f x ≡ g x) → flat_map f xs ≡ flat_map g xs
+same_flat_map f g [] same = refl
+same_flat_map f g (x ∷ xs) same =
+    let here = same x (inl refl) in
+    let rest = same_flat_map f g xs (λ y there. same y (inr there)) in
+    cc (here, rest)

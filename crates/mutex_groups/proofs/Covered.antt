@@ -1,6 +1,8 @@
 -- The instance that covers an atom, weights and members as they are counted.
 use Rattle.std.proofs.Common.{◌≡◌, ℕ, zero, suc, ◌+◌, ◌<◌, Bool, true, false, not, ◌&&◌, ◌||◌, ◌++◌, List, [], ◌∷◌, Option, Some, None, take, length, nat_eq, get_or, refl, sym, ap, ◌∙◌, subst, arith, if◌then◌else◌, append-nil}
 use Rattle.std.specs.List.{list_any, filter, find, range_with_len, slice_get}
+use Rattle.std.specs.Cmp.{nat_eq_equiv}
+use Rattle.std.proofs.Math.Bool.{or-false}
 use Rattle.std.specs.Option.{option_map, option_map_or}
 use Rattle.std.specs.Cmp.Lexicographic.{pointwise}
 use Rattle.std.proofs.lemmas.Bool.{true≢false, and_parts, not-true, eqb-true, eq-eqb}
@@ -41,21 +43,14 @@ covers-by instance atom (part ∷ parts) apart = by (nat_eq part.predicate atom.
     alone same = none_passes (part_covers instance atom) parts (λ other there covers'.
         let other_same = (and_parts (nat_eq other.predicate atom.predicate) (pointwise nat_eq (at_positions 0 other.places atom.objects) instance) covers').0 in
         let both : part.predicate ≡ other.predicate = eqb-true part.predicate atom.predicate same ∙ sym (eqb-true other.predicate atom.predicate other_same) in
-        true≢false (sym (any_passes (λ (other : Part). nat_eq part.predicate other.predicate) other parts there (subst (λ (p : ℕ). nat_eq part.predicate p ≡ true) both (eq-itself part.predicate)))
+        true≢false (sym (any_passes (λ (other : Part). nat_eq part.predicate other.predicate) other parts there (subst (λ (p : ℕ). nat_eq part.predicate p ≡ true) both (nat_eq_equiv.refl part.predicate)))
         ∙ not-true (list_any (λ (other : Part). nat_eq part.predicate other.predicate) parts) sides.0))
-      where
-        eq-itself : (n : ℕ) → nat_eq n n ≡ true
-        eq-itself n = eq-eqb n n refl
-
-    or_none : (b : Bool) → (b || false) ≡ b
-    or_none true = refl
-    or_none false = refl
 
     by : (b : Bool) → nat_eq part.predicate atom.predicate ≡ b →
         list_any (part_covers instance atom) parts ≡ given instance (option_map (λ (part : Part). at_positions 0 part.places atom.objects) (find (λ (part : Part). nat_eq part.predicate atom.predicate) parts)) →
         ((b && pointwise nat_eq own instance) || list_any (part_covers instance atom) parts)
         ≡ given instance (option_map (λ (part : Part). at_positions 0 part.places atom.objects) (if b then Some part else find (λ (part : Part). nat_eq part.predicate atom.predicate) parts))
-    by true same rest = ap (λ b. pointwise nat_eq own instance || b) (alone same) ∙ or_none (pointwise nat_eq own instance)
+    by true same rest = ap (λ b. pointwise nat_eq own instance || b) (alone same) ∙ or-false (pointwise nat_eq own instance)
     by false differs rest = rest
 
 pub covers-is : (candidate : Candidate) (instance : List ℕ) (atom : GroundAtom) → parts_differ candidate ≡ true → covers candidate instance atom ≡ given instance (instance_of candidate atom)

@@ -7,44 +7,39 @@ use Rattle.std.specs.List.Sorted.{IsStrictlyIncreasing}
 use Rattle.std.proofs.lemmas.List.FromFn.{length-range_with_len, get_or-range_with_len}
 use Rattle.std.proofs.lemmas.List.Kept.{IsStrictlyIncreasing-filter}
 use Rattle.std.proofs.lemmas.Option.{slice_get-map}
-use Rattle.runs.proofs.Systems.{state_follows}
+use Rattle.lists.proofs.NoRepeats.{among_range}
 use Rattle.lists.proofs.Items.{Among, among_contains, filter_among, all_passes, each_passes, passing}
 use Rattle.normal_task.specs.declared.task.GroundAtom.{GroundAtom}
 use Rattle.normal_task.specs.declared.task.Normal.{Normal}
 use Rattle.normal_task.specs.declared.task.PredicateRow.{PredicateRow}
 use Rattle.normal_task.specs.Lawful.{IsLawful}
 use Rattle.normal_task.specs.Meaning as normal
-use Rattle.normal_task.specs.Meaning.{is_same_atom, is_derived, normal_task}
-use Rattle.planning.specs.Plan.{system}
+use Rattle.normal_task.specs.Meaning.{is_same_atom, is_derived}
 use Rattle.static_matcher.specs.GroundTask.{ground_task, is_fixed}
-use Rattle.static_matcher.specs.Instances.{static_settling}
-use Rattle.static_matcher.specs.Literals.{meaning}
 use Rattle.static_matcher.specs.Ranked.{IsRanked}
-use Rattle.static_matcher.specs.Settled.{Shows}
-use Rattle.static_matcher.proofs.Law as ground_law
+use Rattle.static_matcher.proofs.GroundMeaning as ground_law
 use Rattle.static_matcher.proofs.LawfulNormal.{keeps_statics, instances_ranked}
 use Rattle.static_matcher.proofs.Atoms.{same_atom, atom_same}
 use Rattle.relaxed_reach.specs.declared.types.Fact.{Fact}
 use Rattle.relaxed_reach.specs.declared.types.Reached.{Reached}
-use Rattle.relaxed_reach.specs.ReachedTask.{reached_task}
+use Rattle.relaxed_reach.specs.ReachedTask.{atoms_of}
 use Rattle.relaxed_reach.specs.Reachable.{is_among, number_of, numbering, fact_of}
-use Rattle.relaxed_reach.specs.Law.{atoms_of}
-use Rattle.relaxed_reach.proofs.Law as reached_law
+use Rattle.relaxed_reach.proofs.ReachedMeaning as reached_law
 use Rattle.relaxed_reach.proofs.OrderedFacts.{facts_apart}
 use Rattle.relaxed_reach.proofs.Numbers.{place_among, place_is}
 use Rattle.invariant_check.specs.declared.types.Candidate.{Candidate}
 use Rattle.invariant_check.specs.declared.types.Part.{Part}
 use Rattle.invariant_check.specs.Accepted.{is_accepted}
 use Rattle.invariant_check.specs.Candidates.{part_covers, covers}
-use Rattle.invariant_check.specs.Law.{is_basic}
+use Rattle.invariant_check.specs.Soundness.{is_basic}
 use Rattle.invariant_check.specs.Extensions.{is_changing}
 use Rattle.invariant_check.specs.WellFormed.{is_well_formed}
+use Rattle.invariant_check.proofs.FormedParts.{formed_facts}
 use Rattle.invariant_check.proofs.Sound.{invariants_are_sound}
 use Rattle.invariant_check.proofs.Weights.{most_of_weight}
-use Rattle.mutex_groups.specs.Groups.{covers_fact, IsGroup}
+use Rattle.mutex_groups.specs.Groups.{covers_fact, IsMutexGroup}
 use Rattle.relaxed_reach.specs.Exclusive.{IsExclusive}
 use Rattle.mutex_groups.specs.Laws.{IsReachedOf, GroupsAreExclusive, GroupsAreSorted, GroupsAreFacts, GroupsAreBasic}
-use Rattle.mutex_groups.proofs.Formed.{formed-part}
 
 -- ---- predicates that effects change
 
@@ -55,7 +50,7 @@ changing-row (Some row) is = let parts = and_parts (not row.derived) (not row.fi
 
 module _ (task : Normal) (candidate : Candidate) (formed : is_well_formed task candidate ≡ true) where
   changing : (part : Part) → Among part candidate.parts → is_changing task part.predicate ≡ true
-  changing part there = (formed-part task candidate formed part there).changes
+  changing part there = ((formed_facts task candidate formed).each part there).changes
 
   basic : is_basic task candidate ≡ true
   basic = each_passes (λ (part : Part). not (is_derived task part.predicate)) candidate.parts (λ part there.
@@ -99,7 +94,7 @@ module _ (task : Normal) (reached : Reached) (of : IsReachedOf task reached) whe
       by (Some atom) e is = record { atom = atom; stands = e; covered = is }
 
   -- each fact of a group is one that the instance covers
-  seen-in : (candidates : List Candidate) (group : List ℕ) (is : IsGroup task candidates reached group) (number : ℕ) → Contains group number → Seen is.candidate is.instance number
+  seen-in : (candidates : List Candidate) (group : List ℕ) (is : IsMutexGroup task candidates reached group) (number : ℕ) → Contains group number → Seen is.candidate is.instance number
   seen-in candidates group is number in' =
       seen is.candidate is.instance number
       (filter_among (covers_fact is.candidate is.instance reached.facts) number (range_with_len 0 (length reached.facts)) (subst (λ (g : List ℕ). Among number g) is.facts (among_contains group number in'))).1
@@ -118,16 +113,14 @@ module _ (task : Normal) (reached : Reached) (lawful : IsLawful task) (of : IsRe
   number-is number atom at = place_is is_same_atom atom_same same_atom own_atoms (facts_apart own_atoms of.is_reached.reachable.in_order) number atom at
 
   module _ (candidates : List Candidate) (formed : list_all (is_well_formed task) candidates ≡ true) (accepted : list_all (is_accepted task) candidates ≡ true) where
-    pub exclusive : (group : List ℕ) → IsGroup task candidates reached group → IsExclusive reached group
+    pub exclusive : (group : List ℕ) → IsMutexGroup task candidates reached group → IsExclusive reached group
     exclusive group is state reachable fact other in-fact in-other yes-fact yes-other =
         let candidate = is.candidate in
         let instance = is.instance in
         let there = among_contains candidates candidate is.of_candidates in
         let well = all_passes (is_well_formed task) candidate candidates there formed in
-        let one = reached_law.law of.ground_of reached ranked of.is_reached in
-        let two = ground_law.law task of.ground_of (keeps_statics task lawful) of.is_ground in
-        let between = state_follows (system (meaning (reached_task reached))) (system (meaning (ground_task of.ground_of))) (λ t s. Shows (numbering (atoms_of reached)) s t) one.runs.back state reachable in
-        let below = state_follows (system (meaning (ground_task of.ground_of))) (system (normal_task task)) (λ t s. Shows (static_settling task) s t) two.runs.back between.0 between.1 in
+        let between = (reached_law.same_meaning of.ground_of reached ranked of.is_reached).reaching state reachable in
+        let below = (ground_law.same_meaning task of.ground_of (keeps_statics task lawful) of.is_ground).reaching between.0 between.1 in
         let true-below : (number : ℕ) (s : Seen task reached of candidate instance number) → state number ≡ true → below.0 s.atom ≡ true =
         λ number s yes.
         let among = place_among is_same_atom atom_same same_atom own_atoms number s.atom s.stands in
@@ -157,15 +150,10 @@ pub are_sorted : GroupsAreSorted
 are_sorted task candidates reached group is =
     subst IsStrictlyIncreasing (sym is.facts) (IsStrictlyIncreasing-filter (covers_fact is.candidate is.instance reached.facts) (range_with_len 0 (length reached.facts)) (rising 0 (length reached.facts)))
 
-range-below : (a n fact : ℕ) → Among fact (range_with_len a n) → fact < a + n
-range-below a zero fact none = absurd none
-range-below a (suc n) fact (inl here) = omega (arith, here)
-range-below a (suc n) fact (inr there) = let rest = range-below (a + 1) n fact there in omega (arith, rest)
-
 pub are_facts : GroupsAreFacts
 are_facts task candidates reached group is fact in' =
     let there = subst (λ (g : List ℕ). Among fact g) is.facts (among_contains group fact in') in
-    let below = range-below 0 (length reached.facts) fact (filter_among (covers_fact is.candidate is.instance reached.facts) fact (range_with_len 0 (length reached.facts)) there).0 in
+    let below = (among_range 0 (length reached.facts) fact (filter_among (covers_fact is.candidate is.instance reached.facts) fact (range_with_len 0 (length reached.facts)) there).0).1 in
     omega (arith, below)
 
 pub are_basic : GroupsAreBasic

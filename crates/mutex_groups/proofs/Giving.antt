@@ -2,12 +2,12 @@
 use Rattle.std.proofs.Common.{◌≡◌, ℕ, zero, suc, ◌<◌, Bool, true, false, not, ◌&&◌, ◌||◌, List, [], ◌∷◌, Option, Some, None, map, length, nat_eq, get_or, refl, sym, ap, ◌∙◌, subst, arith, if◌then◌else◌, inl, inr}
 use Rattle.std.specs.Prelude.{replicate}
 use Rattle.std.specs.List.{list_any, list_all, filter, find, range_with_len, slice_get, Contains, IsDistinct}
-use Rattle.std.specs.Option.{option_map, option_map_or}
+use Rattle.std.specs.Option.{option_map, option_map_or, option_to_list}
 use Rattle.std.proofs.lemmas.Bool.{true≢false, and_parts, and_from, eqb-true, eq-eqb, ne_eqb, ltb-true}
 use Rattle.std.proofs.lemmas.List.{length-map}
-use Rattle.std.proofs.lemmas.List.FromFn.{length-range_with_len, get_or-range_with_len}
 use Rattle.std.proofs.lemmas.Cmp.{nat_list_eq_equiv}
-use Rattle.lists.proofs.Items.{Among, among_at, among_contains, contains_among, among_map, among_flat_map, map_source, filter_among, any_passes, passing, Passing, all_passes, each_passes}
+use Rattle.lists.proofs.NoRepeats.{range_among}
+use Rattle.lists.proofs.Items.{Among, among_at, among_left, among_contains, contains_among, among_map, among_flat_map, map_source, filter_among, any_passes, passing, Passing, all_passes, each_passes}
 use Rattle.names.specs.Names.{is_same}
 use Rattle.names.proofs.SameNames.{same_name}
 use Rattle.normal_task.specs.declared.task.GroundAtom.{GroundAtom}
@@ -18,15 +18,16 @@ use Rattle.normal_task.specs.Meaning.{choices}
 use Rattle.relaxed_reach.specs.declared.types.Fact.{Fact}
 use Rattle.relaxed_reach.specs.declared.types.Reached.{Reached}
 use Rattle.invariant_check.specs.declared.types.Candidate.{Candidate}
-use Rattle.invariant_check.specs.declared.types.Part.{Part}
-use Rattle.invariant_check.specs.Candidates.{at_positions, covers}
+use Rattle.invariant_check.specs.Candidates.{covers}
 use Rattle.invariant_check.specs.Extensions.{arity_of}
 use Rattle.mutex_groups.specs.declared.tables.Weight.{Weight}
 use Rattle.invariant_check.specs.WellFormed.{is_well_formed}
-use Rattle.mutex_groups.specs.Groups.{covered_facts, IsInstance, IsGroup, AreGroups}
+use Rattle.mutex_groups.specs.Groups.{covered_facts, IsInstance, IsMutexGroup, AreGroups}
 use Rattle.mutex_groups.specs.Found.{weight_among, parts_differ, instance_of, told, is_one, numbers_in, gives, covers_just, has_group, HoldsWeights, HoldsNumbers, AddsGroup}
-use Rattle.mutex_groups.proofs.Covered.{covers-is}
-use Rattle.mutex_groups.proofs.Formed.{PartFacts, formed-part, formed-differ}
+use Rattle.mutex_groups.proofs.Covered.{covers-is, covers-some}
+use Rattle.invariant_check.proofs.Covering.{Covering, covering}
+use Rattle.invariant_check.proofs.FormedParts.{IsPartFor, formed_facts}
+use Rattle.mutex_groups.proofs.Formed.{formed-differ}
 use Rattle.mutex_groups.proofs.Weighed.{has-weight, weight-is}
 
 -- ---- what an atom gives
@@ -65,32 +66,6 @@ all-choices (suc n) objects (x ∷ list) size all =
     among_flat_map (λ object. map (λ others. object ∷ others) (choices (replicate n objects))) x (x ∷ list) objects (all x (inl refl))
     (among_map (λ others. x ∷ others) list (choices (replicate n objects)) (all-choices n objects list (omega (arith, size)) (λ object there. all object (inr there))))
 
-among-range : (n fact : ℕ) → fact < n → Among fact (range_with_len 0 n)
-among-range n fact below =
-    let size = length-range_with_len 0 n in
-    let at = get_or-range_with_len 0 n fact fact below in
-    among_contains (range_with_len 0 n) fact (fact, omega (arith, size, below), omega (arith, at))
-
--- the part that gives the atom's instance
-record Given (candidate : Candidate) (atom : GroundAtom) (instance : List ℕ) : Type 0 where
-  part : Part
-  among : Among part candidate.parts
-  predicate : part.predicate ≡ atom.predicate
-  is : at_positions 0 part.places atom.objects ≡ instance
-
-given-by : (candidate : Candidate) (atom : GroundAtom) (instance : List ℕ) → instance_of candidate atom ≡ Some instance → Given candidate atom instance
-given-by candidate atom instance found = by candidate.parts (λ part there. there) found
-  where
-    by : (parts : List Part) → ((part : Part) → Among part parts → Among part candidate.parts) →
-        option_map (λ (part : Part). at_positions 0 part.places atom.objects) (find (λ (part : Part). nat_eq part.predicate atom.predicate) parts) ≡ Some instance → Given candidate atom instance
-    by [] within is = absurd cc
-    by (part ∷ parts) within is = step (nat_eq part.predicate atom.predicate) refl is (by parts (λ other there. within other (inr there)))
-      where
-        step : (b : Bool) → nat_eq part.predicate atom.predicate ≡ b → option_map (λ (part : Part). at_positions 0 part.places atom.objects) (if b then Some part else find (λ (part : Part). nat_eq part.predicate atom.predicate) parts) ≡ Some instance →
-            (option_map (λ (part : Part). at_positions 0 part.places atom.objects) (find (λ (part : Part). nat_eq part.predicate atom.predicate) parts) ≡ Some instance → Given candidate atom instance) → Given candidate atom instance
-        step true same is rest = record { part = part; among = within part (inl refl); predicate = eqb-true part.predicate atom.predicate same; is = cc }
-        step false differs is rest = rest is
-
 -- the arity of an initial atom's predicate is that of the atom
 row-arity : (task : Normal) (count : ℕ) (o : Option PredicateRow) → has_row task (λ (row : PredicateRow). nat_eq row.arity count && not row.derived) o ≡ true → option_map_or (λ (row : PredicateRow). row.arity) o 0 ≡ count
 row-arity task count None is = absurd (true≢false (sym is))
@@ -102,30 +77,30 @@ module _ (task : Normal) (lawful : IsLawful task) (candidate : Candidate) (forme
       contains_among (choices (replicate candidate.parameters (range_with_len 0 (length task.objects)))) instance
       (all-choices candidate.parameters (range_with_len 0 (length task.objects)) instance size objects)
     where
-      by : Given candidate atom instance
-      by = given-by candidate atom instance found
+      by : Covering candidate instance atom
+      by = covering candidate instance atom (covers-some candidate atom instance (formed-differ task candidate formed) found instance ∙ nat_list_eq_equiv.refl instance)
 
-      facts : PartFacts task candidate.parameters by.part
-      facts = formed-part task candidate formed by.part by.among
+      facts : IsPartFor task candidate.parameters by.part
+      facts = (formed_facts task candidate formed).each by.part by.among
 
       size : length instance ≡ candidate.parameters
-      size = ap (λ (l : List ℕ). length l) (sym by.is) ∙ length-map by.part.places (λ position. get_or atom.objects position 0) ∙ facts.as_many
+      size = ap (λ (l : List ℕ). length l) (sym by.agrees) ∙ length-map by.part.places (λ position. get_or atom.objects position 0) ∙ facts.as_many
 
       known : is_init task atom ≡ true
       known = all_passes (is_init task) atom task.init there lawful.init
 
       arity : arity_of task by.part.predicate ≡ length atom.objects
       arity =
-          ap (arity_of task) by.predicate
+          ap (arity_of task) by.same_predicate
           ∙ row-arity task (length atom.objects) (slice_get task.predicates atom.predicate) (and_parts (list_all (is_object task) atom.objects) _ known).1
 
       objects : (object : ℕ) → Among object instance → Among object (range_with_len 0 (length task.objects))
       objects object in' =
-          let from = map_source (λ position. get_or atom.objects position 0) by.part.places object (subst (λ (l : List ℕ). Among object l) (sym by.is) in') in
-          let low = facts.within from.source from.among in
+          let from = map_source (λ position. get_or atom.objects position 0) by.part.places object (subst (λ (l : List ℕ). Among object l) (sym by.agrees) in') in
+          let low = facts.within from.source (among_left from.source by.part.places (option_to_list by.part.counted) from.among) in
           let own = among_at atom.objects from.source 0 (let a = arity in omega (arith, a, low)) in
           let below = ltb-true (get_or atom.objects from.source 0) (length task.objects) (all_passes (is_object task) (get_or atom.objects from.source 0) atom.objects own (and_parts (list_all (is_object task) atom.objects) _ known).0) in
-          among-range (length task.objects) object (subst (λ (o : ℕ). o < length task.objects) from.gives below)
+          range_among 0 (length task.objects) object (omega arith) (let high = subst (λ (o : ℕ). o < length task.objects) from.gives below in omega (arith, high))
 
 -- ---- all groups
 
@@ -134,14 +109,14 @@ module _ (task : Normal) (candidates : List Candidate) (reached : Reached) (lawf
   formed-at candidate there = all_passes (is_well_formed task) candidate candidates there formed
 
   -- a group that an atom gives is one
-  given-group : (group : List ℕ) → list_any (has_group task.init reached.facts group) candidates ≡ true → IsGroup task candidates reached group
+  given-group : (group : List ℕ) → list_any (has_group task.init reached.facts group) candidates ≡ true → IsMutexGroup task candidates reached group
   given-group group some =
       let one = passing (has_group task.init reached.facts group) candidates some in
       let atom = passing (gives one.item task.init reached.facts group) task.init one.passes in
       by one.item one.among atom.item atom.among (instance_of one.item atom.item) refl atom.passes
     where
       by : (candidate : Candidate) → Among candidate candidates → (atom : GroundAtom) → Among atom task.init → (found : Option (List ℕ)) → instance_of candidate atom ≡ found →
-          option_map_or (λ instance. nat_eq (weight_among candidate task.init instance) 1 && is_same group (covered_facts candidate instance reached.facts)) found false ≡ true → IsGroup task candidates reached group
+          option_map_or (λ instance. nat_eq (weight_among candidate task.init instance) 1 && is_same group (covered_facts candidate instance reached.facts)) found false ≡ true → IsMutexGroup task candidates reached group
       by candidate there atom in' None found is = absurd (true≢false (sym is))
       by candidate there atom in' (Some instance) found is =
           let parts = and_parts (nat_eq (weight_among candidate task.init instance) 1) (is_same group (covered_facts candidate instance reached.facts)) is in
@@ -155,7 +130,7 @@ module _ (task : Normal) (candidates : List Candidate) (reached : Reached) (lawf
           }
 
   -- an instance that weighs one covers an initial atom
-  group-given : (group : List ℕ) → IsGroup task candidates reached group → list_any (has_group task.init reached.facts group) candidates ≡ true
+  group-given : (group : List ℕ) → IsMutexGroup task candidates reached group → list_any (has_group task.init reached.facts group) candidates ≡ true
   group-given group is =
       let there = among_contains candidates is.candidate is.of_candidates in
       let atom = first (filter (covers is.candidate is.instance) task.init) one in

@@ -23,7 +23,7 @@ abbrev pub IsInstance : Normal → Candidate → List ℕ → Type 0
 IsInstance task candidate instance = Contains (choices (replicate candidate.parameters (range_with_len 0 (length task.objects)))) instance
 
 -- some instance of one of the candidates, with weight one in the initial state, covers just these reachable facts
-pub record IsGroup (task : Normal) (candidates : List Candidate) (reached : Reached) (group : List ℕ) : Type 0 where
+pub record IsMutexGroup (task : Normal) (candidates : List Candidate) (reached : Reached) (group : List ℕ) : Type 0 where
   pub candidate : Candidate
   pub of_candidates : Contains candidates candidate
   pub instance : List ℕ
@@ -33,5 +33,5 @@ pub record IsGroup (task : Normal) (candidates : List Candidate) (reached : Reac
 
 -- the groups, each once, in whatever order
 pub record AreGroups (task : Normal) (candidates : List Candidate) (reached : Reached) (groups : List (List ℕ)) : Type 0 where
-  pub all : (group : List ℕ) → Contains groups group ↔ IsGroup task candidates reached group
+  pub all : (group : List ℕ) → Contains groups group ↔ IsMutexGroup task candidates reached group
   pub once : IsDistinct (pointwise nat_eq) groups

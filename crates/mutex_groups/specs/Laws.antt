@@ -13,7 +13,7 @@ use Rattle.relaxed_reach.specs.Exclusive.{IsExclusive}
 use Rattle.invariant_check.specs.declared.types.Candidate.{Candidate}
 use Rattle.invariant_check.specs.Accepted.{is_accepted}
 use Rattle.invariant_check.specs.WellFormed.{is_well_formed}
-use Rattle.mutex_groups.specs.Groups.{IsGroup, AreGroups}
+use Rattle.mutex_groups.specs.Groups.{IsMutexGroup, AreGroups}
 
 -- the reached task is that of the normal task's ground task
 pub record IsReachedOf (task : Normal) (reached : Reached) : Type 0 where
@@ -33,16 +33,16 @@ GroupsAreExclusive =
 
 -- a group is sorted without repeats
 abbrev pub GroupsAreSorted : Type 0
-GroupsAreSorted = (task : Normal) (candidates : List Candidate) (reached : Reached) (group : List ℕ) → IsGroup task candidates reached group → IsStrictlyIncreasing group
+GroupsAreSorted = (task : Normal) (candidates : List Candidate) (reached : Reached) (group : List ℕ) → IsMutexGroup task candidates reached group → IsStrictlyIncreasing group
 
 -- a group has facts only
 abbrev pub GroupsAreFacts : Type 0
 GroupsAreFacts =
-    (task : Normal) (candidates : List Candidate) (reached : Reached) (group : List ℕ) → IsGroup task candidates reached group →
+    (task : Normal) (candidates : List Candidate) (reached : Reached) (group : List ℕ) → IsMutexGroup task candidates reached group →
     (fact : ℕ) → Contains group fact → fact < length reached.facts
 
 -- a group of well formed candidates has basic facts only
 abbrev pub GroupsAreBasic : Type 0
 GroupsAreBasic =
     (task : Normal) (candidates : List Candidate) (reached : Reached) (group : List ℕ) → IsReachedOf task reached → list_all (is_well_formed task) candidates ≡ true →
-    IsGroup task candidates reached group → (fact : ℕ) → Contains group fact → is_derived reached.facts fact ≡ false
+    IsMutexGroup task candidates reached group → (fact : ℕ) → Contains group fact → is_derived reached.facts fact ≡ false

@@ -5,9 +5,9 @@ use Rattle.std.proofs.lemmas.Cmp.{nat_list_eq_equiv}
 use Rattle.std.proofs.lemmas.List.{get_or-map, length-map, take_all}
 use Rattle.names.specs.Names.{Name, is_same}
 use Rattle.names.proofs.SameNames.{same_name}
-use Rattle.names.specs.declared.links.Pair.{Pair}
+use Rattle.names.specs.declared.links.Ends.{Ends}
 use Rattle.names.specs.Links.{Link, link, leads, is_on_cycle}
-use Rattle.names.specs.Cycles.{closes, pair_links}
+use Rattle.names.specs.Cycles.{closes, links_of}
 use Rattle.lists.proofs.Items.{same_any}
 use Rattle.lists.proofs.LoopSteps.{any_next}
 
@@ -39,11 +39,11 @@ without_turn here true closing is = refl
 without_turn true false closing is = sym is
 without_turn false false closing is = refl
 
-module _ (pairs : List Pair) (i : ℕ) (other : Pair) (within : i < length pairs) where
+module _ (pairs : List Ends) (i : ℕ) (other : Ends) (within : i < length pairs) where
   abbrev links : List Link
-  links = pair_links pairs
+  links = links_of pairs
 
-  abbrev link_of : Pair → Link
+  abbrev link_of : Ends → Link
   link_of pair = link pair.from.now pair.to.now
 
   abbrev this : Link
@@ -79,9 +79,9 @@ module _ (pairs : List Pair) (i : ℕ) (other : Pair) (within : i < length pairs
       was name ∙ without_turn (is_same name this.from) (list_any (turns links name) (take i links)) (closes links this) open_ended ∙ sym (turns_more name)
 
 -- all links passed
-pub all_passed : (pairs : List Pair) (i : ℕ) (names : List Name) → length pairs ≤ i →
-    ((name : Name) → list_any (is_same name) names ≡ list_any (turns (pair_links pairs) name) (take i (pair_links pairs))) → (name : Name) → list_any (is_same name) names ≡ is_on_cycle (pair_links pairs) name
+pub all_passed : (pairs : List Ends) (i : ℕ) (names : List Name) → length pairs ≤ i →
+    ((name : Name) → list_any (is_same name) names ≡ list_any (turns (links_of pairs) name) (take i (links_of pairs))) → (name : Name) → list_any (is_same name) names ≡ is_on_cycle (links_of pairs) name
 all_passed pairs i names past was name =
     was name
-    ∙ ap (list_any (turns (pair_links pairs) name)) (take_all i (pair_links pairs) (omega (arith, past, length-map pairs (λ (pair : Pair). link pair.from.now pair.to.now))))
-    ∙ on_cycle (pair_links pairs) name
+    ∙ ap (list_any (turns (links_of pairs) name)) (take_all i (links_of pairs) (omega (arith, past, length-map pairs (λ (pair : Ends). link pair.from.now pair.to.now))))
+    ∙ on_cycle (links_of pairs) name

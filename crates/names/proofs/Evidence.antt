@@ -8,9 +8,10 @@ use Rattle.std.proofs.lemmas.List.Folds.{list_all-map}
 use Rattle.std.proofs.lemmas.Simd.{map-map}
 use Rattle.names.specs.Names.{Name, is_same}
 use Rattle.names.proofs.SameNames.{same_name}
-use Rattle.names.specs.declared.components.Arc.{Arc}
+use Rattle.names.specs.declared.arcs.Arc.{Arc}
 use Rattle.names.specs.declared.components.Place.{Place}
-use Rattle.names.specs.Components.{place_at, arc_at, has_one_root, rank, leads_on, leads_to_root, is_led_to, IsShown}
+use Rattle.names.specs.Arcs.{arc_at}
+use Rattle.names.specs.Components.{place_at, has_one_root, rank, leads_on, leads_to_root, is_led_to, IsShown}
 use Rattle.names.specs.Cycles.{closes, arc_of}
 use Rattle.names.specs.Links.{Link, link, leads}
 use Rattle.names.proofs.Chains.{First, first_link, Chain, standing, stepping, joining, any_chain}

@@ -6,3 +6,4 @@ pub mod Chains
 mod Tables
 mod Evidence
 mod CycleNames
+mod ArcRows

@@ -1,7 +1,8 @@
 -- Numbers that lead to each other by arcs, as two searches found them: one along the arcs, and one against them.
 use Rattle.std.specs.Prelude.{◌≡◌, ℕ, ◌<◌, Bool, true, ◌&&◌, ◌||◌, nat_eq, nat_lt, List, length, Option, Some, None, slice_index_or}
 use Rattle.std.specs.List.{list_all}
-use Rattle.names.specs.declared.components.Arc.{Arc}
+use Rattle.names.specs.Arcs.{arc_at}
+use Rattle.names.specs.declared.arcs.Arc.{Arc}
 use Rattle.names.specs.declared.components.Place.{Place}
 
 -- what stands for a place that isn't there
@@ -15,9 +16,6 @@ place_or (Some place) = place
 -- the place of a number in a search
 abbrev pub place_at : List (Option Place) → ℕ → Place
 place_at places number = place_or (slice_index_or places number None)
-
-abbrev pub arc_at : List Arc → ℕ → Arc
-arc_at arcs number = slice_index_or arcs number (record { from = 0; to = 0 })
 
 -- the two numbers have one root
 abbrev pub has_one_root : List (Option Place) → ℕ → ℕ → Bool

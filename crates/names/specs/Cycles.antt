@@ -2,13 +2,13 @@
 use Rattle.std.specs.Prelude.{Bool, List, map, length}
 use Rattle.std.specs.List.{position_or_len}
 use Rattle.names.specs.Names.{Name, is_same}
-use Rattle.names.specs.declared.components.Arc.{Arc}
-use Rattle.names.specs.declared.links.Pair.{Pair}
+use Rattle.names.specs.declared.arcs.Arc.{Arc}
+use Rattle.names.specs.declared.links.Ends.{Ends}
 use Rattle.names.specs.Links.{Link, link, leads}
 
 -- what the code's list of links says
-abbrev pub pair_links : List Pair → List Link
-pair_links pairs = map (λ pair. link pair.from.now pair.to.now) pairs
+abbrev pub links_of : List Ends → List Link
+links_of pairs = map (λ pair. link pair.from.now pair.to.now) pairs
 
 -- a chain leads from the link's end back to its beginning
 abbrev pub closes : List Link → Link → Bool

@@ -2,6 +2,7 @@
 pub mod Names
 pub mod Reachability
 pub mod Links
+pub mod Arcs
 -- words of private contracts
 pub mod Components
 pub mod Cycles

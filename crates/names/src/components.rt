@@ -4,16 +4,11 @@
 // checked, so that nothing rests on the searches.
 ghost use Rattle.std.specs.Prelude.{◌≡◌, ℕ, ◌<◌, true, map, IfOk};
 ghost use Rattle.std.specs.List.{list_all};
+ghost use Rattle.names.specs.Arcs as graph;
 ghost use Rattle.names.specs.Components as spec;
 
+use crate::arcs::{Arc, ArcsBySource};
 use std::alloc::{AllocError, Global};
-
-/// An edge of the graph, from a number to a number.
-#[derive(Clone, Copy)]
-pub(crate) struct Arc {
-    pub(crate) from: usize,
-    pub(crate) to: usize,
-}
 
 /// How a search came to a number.
 #[derive(Clone, Copy)]
@@ -67,10 +62,8 @@ fn turned(alloc: Global, arcs: &[Arc]) -> Result<Vec<Arc>, AllocError> {
 #[derive(Drop)]
 struct Search<'a> {
     arcs: &'a [Arc],
-    /// For each number the first of its arcs that wasn't taken.
-    first: Vec<Option<usize>>,
-    /// For each arc the next one from the same number.
-    next: Vec<Option<usize>>,
+    /// The arcs that weren't taken.
+    rest: ArcsBySource,
     places: Vec<Option<Place>>,
     found: usize,
     /// The numbers that were found and not left, the last one on top.
@@ -81,19 +74,9 @@ struct Search<'a> {
 
 impl<'a> Search<'a> {
     fn new(alloc: Global, count: usize, arcs: &'a [Arc]) -> Result<Search<'a>, AllocError> {
-        let mut first = vec![in alloc; None; count]?;
-        let mut next = Vec::new(alloc);
-        for (position, arc) in arcs.iter().enumerate() {
-            let rest = match first.as_mut_slice().get_mut(arc.from) {
-                Some(slot) => slot.replace(position),
-                None => None,
-            };
-            next.push(rest)?;
-        }
         Ok(Search {
             arcs,
-            first,
-            next,
+            rest: ArcsBySource::new(alloc, count, arcs)?,
             places: vec![in alloc; None; count]?,
             found: 0,
             open: Vec::new(alloc),
@@ -109,7 +92,7 @@ impl<'a> Search<'a> {
             let Some(number) = self.open.pop() else {
                 break;
             };
-            match self.take_arc(number) {
+            match self.rest.take(number) {
                 Some(position) => {
                     self.open.push(number)?;
                     self.follow(position, start)?;
@@ -118,14 +101,6 @@ impl<'a> Search<'a> {
             }
         }
         Ok(())
-    }
-
-    /// The next arc from the number.
-    fn take_arc(&mut self, number: usize) -> Option<usize> {
-        let slot = self.first.as_mut_slice().get_mut(number)?;
-        let position = (*slot)?;
-        *slot = *self.next.get(position)?;
-        Some(position)
     }
 
     fn follow(&mut self, position: usize, root: usize) -> Result<(), AllocError> {
@@ -169,7 +144,7 @@ fn place_at(places: &[Option<Place>], number: usize) -> Place
 }
 
 fn arc_at(arcs: &[Arc], number: usize) -> Arc
-    ensures { result ≡ spec.arc_at arcs.now number }
+    ensures { result ≡ graph.arc_at arcs.now number }
 {
     if number < arcs.len() {
         arcs[number]

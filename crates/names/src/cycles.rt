@@ -2,17 +2,18 @@
 ghost use Rattle.std.specs.Prelude.{◌≡◌, map, IfOk};
 ghost use Rattle.std.specs.List.{list_any};
 ghost use Rattle.names.specs.Names.{Name, is_same};
-ghost use Rattle.names.specs.Cycles.{closes, arc_of, pair_links};
+ghost use Rattle.names.specs.Cycles.{closes, arc_of, links_of};
 ghost use Rattle.names.specs.Links as spec;
 ghost use Rattle.names.specs.Links.{link};
 
-use crate::components::{Arc, Searches};
-use crate::links::Pair;
+use crate::arcs::Arc;
+use crate::components::Searches;
+use crate::links::Ends;
 use crate::table::Names;
 use std::alloc::{AllocError, Global};
 
-pub(crate) fn on_cycles<'a>(alloc: Global, pairs: &[Pair<'a>]) -> Result<Names<'a>, AllocError>
-    ensures { IfOk result (λ names. (name : Name) → list_any (is_same name) names ≡ spec.is_on_cycle (pair_links pairs.now) name) }
+pub(crate) fn on_cycles<'a>(alloc: Global, pairs: &[Ends<'a>]) -> Result<Names<'a>, AllocError>
+    ensures { IfOk result (λ names. (name : Name) → list_any (is_same name) names ≡ spec.is_on_cycle (links_of pairs.now) name) }
 {
     let answers = closing(alloc, pairs)?;
     let mut names = Names::new(alloc);
@@ -25,8 +26,8 @@ pub(crate) fn on_cycles<'a>(alloc: Global, pairs: &[Pair<'a>]) -> Result<Names<'
 }
 
 /// Of each link, whether a chain leads from its end back to its beginning.
-fn closing(alloc: Global, pairs: &[Pair]) -> Result<Vec<bool>, AllocError>
-    ensures { IfOk result (λ answers. answers.items ≡ map (closes (pair_links pairs.now)) (pair_links pairs.now)) }
+fn closing(alloc: Global, pairs: &[Ends]) -> Result<Vec<bool>, AllocError>
+    ensures { IfOk result (λ answers. answers.items ≡ map (closes (links_of pairs.now)) (links_of pairs.now)) }
 {
     let names = names_of(alloc, pairs)?;
     let arcs = arcs_of(alloc, &names, pairs)?;
@@ -39,8 +40,8 @@ fn closing(alloc: Global, pairs: &[Pair]) -> Result<Vec<bool>, AllocError>
 }
 
 /// The same by the definition. It is slow, and is there for searches that aren't right, which there should be none of.
-fn closing_by_definition(alloc: Global, pairs: &[Pair]) -> Result<Vec<bool>, AllocError>
-    ensures { IfOk result (λ answers. answers.items ≡ map (closes (pair_links pairs.now)) (pair_links pairs.now)) }
+fn closing_by_definition(alloc: Global, pairs: &[Ends]) -> Result<Vec<bool>, AllocError>
+    ensures { IfOk result (λ answers. answers.items ≡ map (closes (links_of pairs.now)) (links_of pairs.now)) }
 {
     pairs
         .iter()
@@ -49,8 +50,8 @@ fn closing_by_definition(alloc: Global, pairs: &[Pair]) -> Result<Vec<bool>, All
 }
 
 /// Whether a chain of at most so many links leads from one name to another.
-fn leads(pairs: &[Pair], steps: usize, from: &[u8], to: &[u8]) -> bool
-    ensures { result ≡ spec.leads (pair_links pairs.now) steps from.now to.now }
+fn leads(pairs: &[Ends], steps: usize, from: &[u8], to: &[u8]) -> bool
+    ensures { result ≡ spec.leads (links_of pairs.now) steps from.now to.now }
 {
     if from == to {
         return true;
@@ -66,7 +67,7 @@ fn leads(pairs: &[Pair], steps: usize, from: &[u8], to: &[u8]) -> bool
     false
 }
 
-fn names_of<'a>(alloc: Global, pairs: &[Pair<'a>]) -> Result<Names<'a>, AllocError> {
+fn names_of<'a>(alloc: Global, pairs: &[Ends<'a>]) -> Result<Names<'a>, AllocError> {
     let mut names = Names::new(alloc);
     for pair in pairs {
         names.add(pair.from)?;
@@ -76,8 +77,8 @@ fn names_of<'a>(alloc: Global, pairs: &[Pair<'a>]) -> Result<Names<'a>, AllocErr
 }
 
 /// The links as arcs between the positions of the names.
-fn arcs_of(alloc: Global, names: &Names, pairs: &[Pair]) -> Result<Vec<Arc>, AllocError>
-    ensures { IfOk result (λ arcs. arcs.items ≡ map (arc_of names.now) (pair_links pairs.now)) }
+fn arcs_of(alloc: Global, names: &Names, pairs: &[Ends]) -> Result<Vec<Arc>, AllocError>
+    ensures { IfOk result (λ arcs. arcs.items ≡ map (arc_of names.now) (links_of pairs.now)) }
 {
     pairs
         .iter()
@@ -85,7 +86,7 @@ fn arcs_of(alloc: Global, names: &Names, pairs: &[Pair]) -> Result<Vec<Arc>, All
         .collect(alloc)
 }
 
-fn arc_between(names: &Names, pair: &Pair) -> Arc
+fn arc_between(names: &Names, pair: &Ends) -> Arc
     ensures { result ≡ arc_of names.now (link pair.now.from.now pair.now.to.now) }
 {
     Arc {

@@ -11,7 +11,7 @@ use std::marker::Model;
 
 /// A link from a name to a name.
 #[derive(Clone, Copy)]
-pub(crate) struct Pair<'a> {
+pub(crate) struct Ends<'a> {
     pub(crate) from: &'a [u8],
     pub(crate) to: &'a [u8],
 }
@@ -19,7 +19,7 @@ pub(crate) struct Pair<'a> {
 /// Links between names that stand in the files. Contracts see them in the order in which they were added.
 #[derive(Drop)]
 pub struct Links<'a> {
-    pairs: Vec<Pair<'a>>,
+    pairs: Vec<Ends<'a>>,
 }
 
 impl<'a> Model for Links<'a> {
@@ -46,7 +46,7 @@ impl<'a> Links<'a> {
         ensures added { OnOk result (self.new ≡ self.old ++ link from.now to.now ∷ []) }
         ensures unchanged { OnErr result (self.new ≡ self.old) }
     {
-        self.pairs.push(Pair { from, to })?;
+        self.pairs.push(Ends { from, to })?;
         Ok(())
     }
 

@@ -11,7 +11,8 @@ use Rattle.pddl_parser.specs.declared.types.Problem.{Problem}
 use Rattle.pddl_parser.specs.declared.types.Typed.{Typed}
 use Rattle.pddl_parser.specs.Words.{Name, is_same}
 use Rattle.normal_rows.specs.Asked.{is_asked}
-use Rattle.normal_task.specs.Parts.{Slot, Scope, known, with_slot, slots_for, renumbered, is_listed}
+use Rattle.normal_rows.specs.Free.{is_wanted}
+use Rattle.normal_task.specs.Parts.{Slot, Scope, with_slot, slots_for, renumbered}
 use Rattle.normal_task.proofs.Scopes.{append-assoc, renumbered-more}
 
 pub one-less : (left : ℕ) → 0 < left → left - 1 + 1 ≡ left
@@ -54,15 +55,12 @@ module _ (domain : Domain) (problem : Problem) (variables : List Typed) (inside 
   abbrev asked : ℕ → Name → Bool
   asked left = is_asked domain problem variables inside (take left scope)
 
-  abbrev is_wanted : Name → Bool
-  is_wanted name = not (is_listed variables name) && (known domain problem inside).is_free name
-
   asked-behind : (left : ℕ) (slot : Slot) → left < length scope → slot ≡ get_or scope left slot → (name : Name) →
       (asked left name && not (is_same slot.variable name)) ≡ asked (left + 1) name
   asked-behind left slot within is name =
       let hides = λ (s : Slot). is_same s.variable name in
-      two-tests (is_wanted name) (list_any hides (take left scope)) (hides slot)
-      ∙ ap (λ (b : Bool). is_wanted name && not b)
+      two-tests (is_wanted domain problem variables inside name) (list_any hides (take left scope)) (hides slot)
+      ∙ ap (λ (b : Bool). is_wanted domain problem variables inside name && not b)
       (sym (list_any-append hides (take left scope) (slot ∷ []))
       ∙ ap (list_any hides) (ap (λ (s : Slot). take left scope ++ s ∷ []) is ∙ sym (take_more scope left slot within)))
 

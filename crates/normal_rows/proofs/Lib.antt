@@ -4,3 +4,4 @@ pub mod TurnSteps
 pub mod MadeSame
 mod FreeVariables
 mod FirstItems
+mod FreeNames

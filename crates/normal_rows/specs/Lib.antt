@@ -1,4 +1,5 @@
 pub mod Asked
 pub mod Changes
 pub mod Costs
+pub mod Free
 pub mod MadeThings

@@ -1,66 +1,148 @@
 // The free variables of conditions.
-ghost use Rattle.std.specs.Prelude.{◌≡◌, map};
+ghost use Rattle.std.specs.Prelude.{◌≡◌, ◌||◌, ◌&&◌, length, map, not, take, IfOk, OnOk};
 ghost use Rattle.std.specs.List.{list_any};
+ghost use Rattle.pddl_parser.specs.Words.{Name, is_same};
+ghost use Rattle.normal_rows.specs.Free.{AddsUnbound, is_wanted};
 ghost use Rattle.normal_task.specs.Parts as spec;
 
+use names::Names;
 use numbering::Numbering;
 use pddl_parser::{Condition, Term, Typed};
+use std::alloc::{AllocError, Global};
 
-/// Whether the variable is free in the condition.
-#[cycle(is_free)]
-pub(crate) fn is_free(numbering: &Numbering<'_>, condition: &Condition, name: &[u8]) -> bool
-    ensures { result ≡ (spec.known numbering.now.domain numbering.now.problem condition.now).is_free name.now }
+/// The variables that are free inside the list of variables, found in one walk.
+pub(crate) fn free_inside<'a>(
+    alloc: Global,
+    numbering: &Numbering<'_>,
+    variables: &'a [Typed],
+    inside: &'a Condition,
+) -> Result<Names<'a>, AllocError>
+    ensures { IfOk result (λ free. (name : Name) → list_any (is_same name) free ≡ is_wanted numbering.now.domain numbering.now.problem variables.now inside.now name) }
+{
+    let mut free = Names::new(alloc);
+    let mut bound = Names::new(alloc);
+    add_inside(&mut free, &mut bound, numbering, variables, inside)?;
+    Ok(free)
+}
+
+/// Adds the variables that are free in the condition, but for the bound ones.
+#[cycle(add_free)]
+fn add_free<'a>(
+    free: &mut Names<'a>,
+    bound: &mut Names<'a>,
+    numbering: &Numbering<'_>,
+    condition: &'a Condition,
+) -> Result<(), AllocError>
+    ensures bound { OnOk result (bound.new ≡ bound.old) }
+    ensures free { OnOk result (AddsUnbound (spec.known numbering.now.domain numbering.now.problem condition.now).is_free bound.old free.old free.new) }
 {
     match condition {
-        Condition::True(_) => false,
-        Condition::Atom(atom) => some_term_of(atom.terms.as_slice(), name),
-        Condition::Equal(left, right, _) => is_term_of(left, name) || is_term_of(right, name),
-        Condition::Not(inside, _) => is_free(numbering, inside.get(), name),
+        Condition::True(_) => Ok(()),
+        Condition::Atom(atom) => add_terms(free, bound, atom.terms.as_slice()),
+        Condition::Equal(left, right, _) => add_two(free, bound, left, right),
+        Condition::Not(inside, _) => add_free(free, bound, numbering, inside.get()),
         Condition::And(members, _) | Condition::Or(members, _) => {
-            is_free_in_some(numbering, members.as_slice(), name)
+            add_free_of_all(free, bound, numbering, members.as_slice())
         }
         Condition::Imply(premise, conclusion, _) => {
-            is_free(numbering, premise.get(), name) || is_free(numbering, conclusion.get(), name)
+            add_free(free, bound, numbering, premise.get())?;
+            add_free(free, bound, numbering, conclusion.get())
         }
         Condition::Forall(variables, inside, _) | Condition::Exists(variables, inside, _) => {
-            !is_listed(variables.as_slice(), name) && is_free(numbering, inside.get(), name)
+            add_inside(free, bound, numbering, variables.as_slice(), inside.get())
         }
     }
 }
 
-#[cycle(is_free)]
-fn is_free_in_some(numbering: &Numbering<'_>, members: &[Condition], name: &[u8]) -> bool
-    ensures { result ≡ list_any (λ member. member.is_free name.now) (map (spec.known numbering.now.domain numbering.now.problem) members.now) }
+#[cycle(add_free)]
+fn add_free_of_all<'a>(
+    free: &mut Names<'a>,
+    bound: &mut Names<'a>,
+    numbering: &Numbering<'_>,
+    members: &'a [Condition],
+) -> Result<(), AllocError>
+    ensures bound { OnOk result (bound.new ≡ bound.old) }
+    ensures free { OnOk result (AddsUnbound (λ name. list_any (λ member. member.is_free name) (map (spec.known numbering.now.domain numbering.now.problem) members.now)) bound.old free.old free.new) }
 {
     for member in members {
-        if is_free(numbering, member, name) {
-            return true;
-        }
+        add_free(free, bound, numbering, member)?;
     }
-    false
+    Ok(())
 }
 
-/// Whether the term is the variable of this name.
-fn is_term_of(term: &Term, name: &[u8]) -> bool
-    ensures { result ≡ spec.is_term_of name.now term.now }
+/// Adds the variables that are free inside the list of variables, which are bound meanwhile.
+#[cycle(add_free)]
+fn add_inside<'a>(
+    free: &mut Names<'a>,
+    bound: &mut Names<'a>,
+    numbering: &Numbering<'_>,
+    variables: &'a [Typed],
+    inside: &'a Condition,
+) -> Result<(), AllocError>
+    ensures bound { OnOk result (bound.new ≡ bound.old) }
+    ensures free { OnOk result (AddsUnbound (is_wanted numbering.now.domain numbering.now.problem variables.now inside.now) bound.old free.old free.new) }
+{
+    let len = bound.len();
+    bind(bound, variables)?;
+    add_free(free, bound, numbering, inside)?;
+    bound.truncate(len);
+    Ok(())
+}
+
+/// Adds the variables of the list.
+fn bind<'a>(bound: &mut Names<'a>, variables: &'a [Typed]) -> Result<(), AllocError>
+    ensures before { OnOk result (take (length bound.old) bound.new ≡ bound.old) }
+    ensures names { OnOk result ((name : Name) → list_any (is_same name) bound.new ≡ (spec.is_listed variables.now name || list_any (is_same name) bound.old)) }
+{
+    for variable in variables {
+        bound.add(variable.name.name.as_slice())?;
+    }
+    Ok(())
+}
+
+fn add_terms<'a>(
+    free: &mut Names<'a>,
+    bound: &Names<'a>,
+    terms: &'a [Term],
+) -> Result<(), AllocError>
+    ensures { OnOk result (AddsUnbound (λ name. list_any (spec.is_term_of name) terms.now) bound.now free.old free.new) }
+{
+    for term in terms {
+        add_term(free, bound, term)?;
+    }
+    Ok(())
+}
+
+fn add_two<'a>(
+    free: &mut Names<'a>,
+    bound: &Names<'a>,
+    left: &'a Term,
+    right: &'a Term,
+) -> Result<(), AllocError>
+    ensures { OnOk result (AddsUnbound (λ name. spec.is_term_of name left.now || spec.is_term_of name right.now) bound.now free.old free.new) }
+{
+    add_term(free, bound, left)?;
+    add_term(free, bound, right)
+}
+
+fn add_term<'a>(free: &mut Names<'a>, bound: &Names<'a>, term: &'a Term) -> Result<(), AllocError>
+    ensures { OnOk result (AddsUnbound (λ name. spec.is_term_of name term.now) bound.now free.old free.new) }
 {
     match term {
-        Term::Variable(variable) => variable.name.as_slice() == name,
-        Term::Object(_) => false,
+        Term::Variable(variable) => add_unbound(free, bound, variable.name.as_slice()),
+        Term::Object(_) => Ok(()),
     }
 }
 
-fn some_term_of(terms: &[Term], name: &[u8]) -> bool
-    ensures { result ≡ list_any (spec.is_term_of name.now) terms.now }
+fn add_unbound<'a>(
+    free: &mut Names<'a>,
+    bound: &Names<'a>,
+    name: &'a [u8],
+) -> Result<(), AllocError>
+    ensures { OnOk result (AddsUnbound (is_same name.now) bound.now free.old free.new) }
 {
-    terms.iter().any(|term| is_term_of(term, name))
-}
-
-/// Whether the list has a variable of this name.
-pub(crate) fn is_listed(variables: &[Typed], name: &[u8]) -> bool
-    ensures { result ≡ spec.is_listed variables.now name.now }
-{
-    variables
-        .iter()
-        .any(|variable| variable.name.name.as_slice() == name)
+    if !bound.has(name) {
+        free.add(name)?;
+    }
+    Ok(())
 }

@@ -1,13 +1,13 @@
 // The variables in scope that a quantified condition asks for.
-ghost use Rattle.std.specs.Prelude.{◌≡◌, ◌++◌, ◌∷◌, [], map, IfOk, OnOk, if◌then◌else◌};
+ghost use Rattle.std.specs.Prelude.{◌≡◌, ◌++◌, ◌∷◌, ◌&&◌, [], map, not, IfOk, OnOk, if◌then◌else◌};
 ghost use Rattle.std.specs.List.{list_any};
 ghost use Rattle.pddl_parser.specs.Words.{is_same};
 ghost use Rattle.normal_task.specs.declared.task.Place.TheVariants as place;
-ghost use Rattle.normal_rows.specs.Asked.{is_asked};
 ghost use Rattle.normal_task.specs.Parts as spec;
 
-use crate::free::{is_free, is_listed};
+use crate::free::free_inside;
 use lists::List;
+use names::Names;
 use normal_task::Place;
 use numbering::{Numbering, Variable};
 use pddl_parser::{Condition, Typed};
@@ -25,19 +25,17 @@ fn is_hidden(inner: &[Variable<'_, '_>], name: &[u8]) -> bool
     false
 }
 
-/// Adds the variable, if it is free in what is inside the list and no inner one hides it.
+/// Adds the variable, if it is free and no inner one hides it.
 fn push_if_free<'n, 'a>(
     slots: &mut Vec<Variable<'n, 'a>>,
-    numbering: &Numbering<'_>,
-    variables: &[Typed],
-    inside: &Condition,
+    free: &Names<'_>,
     inner: &[Variable<'n, 'a>],
     slot: &Variable<'n, 'a>,
 ) -> Result<(), AllocError>
-    ensures { OnOk result (slots.new.items ≡ slots.old.items ++ (if is_asked numbering.now.domain numbering.now.problem variables.now inside.now inner.now slot.now.variable then slot.now ∷ [] else [])) }
+    ensures { OnOk result (slots.new.items ≡ slots.old.items ++ (if list_any (is_same slot.now.variable) free.now && not (list_any (λ other. is_same other.variable slot.now.variable) inner.now) then slot.now ∷ [] else [])) }
 {
     let name = slot.name();
-    if !is_listed(variables, name) && is_free(numbering, inside, name) && !is_hidden(inner, name) {
+    if free.has(name) && !is_hidden(inner, name) {
         slots.push(slot.copy())?;
     }
     Ok(())
@@ -47,24 +45,18 @@ fn push_if_free<'n, 'a>(
 pub fn free_slots<'n, 'a>(
     alloc: Global,
     numbering: &Numbering<'_>,
-    variables: &[Typed],
-    inside: &Condition,
+    variables: &'a [Typed],
+    inside: &'a Condition,
     scope: &[Variable<'n, 'a>],
 ) -> Result<Vec<Variable<'n, 'a>>, AllocError>
     ensures { IfOk result (λ slots. slots.items ≡ spec.free_slots numbering.now.domain numbering.now.problem variables.now (spec.known numbering.now.domain numbering.now.problem inside.now) scope.now) }
 {
+    let names = free_inside(alloc, numbering, variables, inside)?;
     let mut free = Vec::new(alloc);
     let mut left = scope.len();
     while left > 0 {
         left -= 1;
-        push_if_free(
-            &mut free,
-            numbering,
-            variables,
-            inside,
-            &scope[..left],
-            &scope[left],
-        )?;
+        push_if_free(&mut free, &names, &scope[..left], &scope[left])?;
     }
     Ok(free)
 }

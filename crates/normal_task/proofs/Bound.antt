@@ -1,7 +1,7 @@
 -- Where no variable is unbound, each free variable of a condition is bound by a list around it.
 use Rattle.std.proofs.Common.{◌≡◌, ℕ, Bool, true, false, not, ◌&&◌, ◌||◌, List, [], ◌∷◌, ◌++◌, map, refl, sym, ap, ◌∙◌, subst, inl, inr, ◌⊎◌}
 use Rattle.std.specs.List.{list_any, flat_map}
-use Rattle.std.proofs.lemmas.Bool.{and_parts, or_cases}
+use Rattle.std.proofs.lemmas.Bool.{and_parts, or_cases, not-true}
 use Rattle.std.proofs.lemmas.Cmp.{nat_list_eq_equiv}
 use Rattle.std.proofs.lemmas.List.Folds.{list_any-append}
 use Rattle.pddl_parser.specs.declared.types.Condition.{Condition}
@@ -25,13 +25,13 @@ is_in names name = list_any (is_same name) names
 
 -- a name bound inside a list of variables is one of them, or bound outside
 pub in-inside : (variables : List Typed) (names : List Name) (name : Name) → is_in (scopes.inside_of variables names) name ≡ true → is_listed variables name ≡ false → is_in names name ≡ true
-in-inside variables names name inside unlisted = sym whole ∙ inside
+in-inside variables names name inside not-true = sym whole ∙ inside
   where
     listed : list_any (is_same name) (map (λ (variable : Typed). variable.name.name) variables) ≡ false
     listed =
         any-map (is_same name) (λ (variable : Typed). variable.name.name) variables
         ∙ any-same (λ (variable : Typed). is_same name variable.name.name) (λ (variable : Typed). is_same variable.name.name name) (λ variable. nat_list_eq_equiv.symm name variable.name.name) variables
-        ∙ unlisted
+        ∙ not-true
 
     whole : is_in (scopes.inside_of variables names) name ≡ is_in names name
     whole =
@@ -74,15 +74,11 @@ module _ (domain : Domain) (problem : Problem) where
       by (inl here) rest = each.0 names (left_empty (scopes.in_condition member names) (flat_map (λ member. member names) (map scopes.in_condition members)) none) name here
       by (inr there) rest = rest there
 
-  unlisted : (b : Bool) → not b ≡ true → b ≡ false
-  unlisted true e = absurd cc
-  unlisted false e = refl
-
   inside-bound : (variables : List Typed) (k : Known) (unbound : scopes.Scope → List ℕ) → FreeBound k unbound tt → (names : List Name) → unbound (scopes.inside_of variables names) ≡ [] →
       (name : Name) → (not (is_listed variables name) && k.is_free name) ≡ true → is_in names name ≡ true
   inside-bound variables k unbound held names none name free =
       let parts = and_parts (not (is_listed variables name)) (k.is_free name) free in
-      in-inside variables names name (held (scopes.inside_of variables names) none name parts.1) (unlisted (is_listed variables name) parts.0)
+      in-inside variables names name (held (scopes.inside_of variables names) none name parts.1) (not-true (is_listed variables name) parts.0)
 
   either-bound : (names : List Name) (name : Name) (p q : Bool) → (p ≡ true → is_in names name ≡ true) → (q ≡ true → is_in names name ≡ true) → (p || q) ≡ true → is_in names name ≡ true
   either-bound names name p q left right is = by (or_cases p q is)

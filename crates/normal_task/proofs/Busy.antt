@@ -2,11 +2,9 @@
 use Rattle.std.proofs.Common.{◌≡◌, ℕ, ◌+◌, Bool, true, false, not, ◌&&◌, ◌||◌, List, [], ◌++◌, map, length, refl, sym, ap, ◌∙◌, subst}
 use Rattle.std.specs.List.{list_all}
 use Rattle.std.proofs.lemmas.Bool.{and_parts}
-use Rattle.runs.proofs.Systems.{state_follows}
 use Rattle.planning.specs.Task.{IsIdle, changed, successor}
-use Rattle.planning.specs.Plan.{system}
-use Rattle.planning.specs.Same.{SameRuns, IdleWhereFollowed}
-use Rattle.planning.proofs.SameRuns.{same_plans}
+use Rattle.planning.specs.Same.{SameRuns, IdleWhereFollowed, MeansTheSame}
+use Rattle.planning.proofs.SameRuns.{means_the_same}
 use Rattle.lists.proofs.Items.{among_contains}
 use Rattle.pddl_parser.specs.declared.types.Action.{Action}
 use Rattle.pddl_parser.specs.declared.types.Domain.{Domain}
@@ -30,16 +28,16 @@ use Rattle.normal_task.specs.Meaning.{normal_task, State, Binding}
 use Rattle.normal_task.proofs.Chosen.{is_choice}
 use Rattle.normal_task.specs.Parts.{Part, Made}
 use Rattle.normal_task.specs.Normalised.{numbered_atom, parameter_scope, rows_of, moved_row, schema, precondition_parts, effect_rows, schemas}
-use Rattle.normal_task.specs.Same.{Shows, SameTask}
+use Rattle.normal_task.specs.Same.{Shows}
 use Rattle.normal_task.proofs.Alls.{all-right}
 use Rattle.normal_task.proofs.Mentioned.{is_known_mention}
 use Rattle.normal_task.proofs.ConditionsMean.{ShowsFull}
-use Rattle.normal_task.proofs.Full.{declared, planning, num, chosen, files-full}
+use Rattle.normal_task.proofs.FullStatesMatch.{declared, planning, num, chosen, files-full}
 use Rattle.normal_task.proofs.Filled.{task-full}
-use Rattle.normal_task.proofs.Turns.{origin}
+use Rattle.normal_task.proofs.MadeInTurn.{origin}
 use Rattle.normal_task.proofs.Steps.{is_normal_step, Sound, ActionSound, taken, followed, stand, long, rest-mentioned, given-actions, all-given-in, split-choice, choice-length, names-choice, rows-moved}
 use Rattle.normal_task.proofs.Written.{AreBasic, is_basic_mention, Basic, Image, effect-basic}
-use Rattle.normal_task.proofs.Law.{is_known_entry, goal-of_task, goal-of_files, begins}
+use Rattle.normal_task.proofs.StartsAndGoals.{is_known_entry, goal-of_task, goal-of_files, begins}
 
 -- what is neither added nor deleted stays
 stays : (added deleted before : Bool) → added ≡ false → deleted ≡ false → (added || (before && not deleted)) ≡ before
@@ -157,13 +155,5 @@ module _ (domain : Domain) (problem : Problem) (sound : Sound domain problem) (b
       back = record { starts = begins domain problem sound known_init; steps = followed domain problem sound; goals = goal-of_files domain problem sound known_init };
     }
 
-    pub same-task : SameTask domain problem
-    same-task =
-        let files = system (pddl_task domain problem) in
-        let made = system (normal_task (planning domain problem)) in
-        record {
-          runs = same-runs;
-          plans = same_plans (pddl_task domain problem) (normal_task (planning domain problem)) (Shows domain problem) same-runs idle-in_files idle-in_task;
-          reached_too = state_follows files made (Shows domain problem) same-runs.forth;
-          reached_in_files = state_follows made files (λ numbered state. Shows domain problem state numbered) same-runs.back;
-        }
+    pub same-task : MeansTheSame (pddl_task domain problem) (normal_task (planning domain problem)) (Shows domain problem)
+    same-task = means_the_same (pddl_task domain problem) (normal_task (planning domain problem)) (Shows domain problem) same-runs idle-in_files idle-in_task

@@ -6,6 +6,7 @@ use Rattle.std.specs.Option.{option_map}
 use Rattle.std.proofs.lemmas.Bool.{and_parts, and_from, or_left, or_right}
 use Rattle.std.proofs.lemmas.Bool.Decides.{nat_tests}
 use Rattle.std.proofs.lemmas.Cmp.{nat_list_eq_equiv}
+use Rattle.lists.specs.Members.{is_among}
 use Rattle.pddl_parser.specs.declared.types.Atom.{Atom}
 use Rattle.pddl_parser.specs.declared.types.Condition.{Condition, Condition-F}
 use Rattle.pddl_parser.specs.declared.types.Domain.{Domain}
@@ -18,14 +19,14 @@ use Rattle.pddl_parser.specs.Objects as pddl
 use Rattle.pddl_parser.specs.Holds as holds
 use Rattle.pddl_parser.proofs.ConditionCases.{Each}
 use Rattle.type_checker.specs.Mentions.{Mention, Asked, Compared, in_condition, condition_step}
-use Rattle.lists.proofs.Items.{Among, same_any, map_source, flat_map_piece}
+use Rattle.lists.proofs.Items.{Among, same_any, map_source, flat_map_piece, map_flat_map}
 use Rattle.normal_task.specs.declared.task.Literal.TheVariants.{Holds, Equal}
 use Rattle.normal_task.specs.declared.task.Place.TheVariants.{Variable}
 use Rattle.normal_task.specs.Numbers.{number_in, object_names, predicate_number, ranges_of}
 use Rattle.normal_task.specs.Meaning.{atom_of, State, Binding, object_at, objects_at, choices, answers, is_met}
 use Rattle.normal_task.specs.Parts.{Slot, Scope, renumbered, scope_inside, is_listed, Part, Known, is_term_of, place_of, fresh_number, free_slots, exists_inside, none_inside, cut_step, known_step, known}
 use Rattle.normal_task.specs.Normalised.{numbered_atom}
-use Rattle.normal_task.specs.Same.{is_among, is_known_atom}
+use Rattle.normal_task.specs.Same.{is_known_atom}
 use Rattle.normal_task.proofs.Anys.{any-map, all-map, any-not, all-not}
 use Rattle.normal_task.proofs.Alls.{all-left, all-right}
 use Rattle.normal_task.proofs.Mentioned.{is_known_mention, is_known_term, is_declared, AreKnown}
@@ -47,12 +48,12 @@ one_later : (m n : ℕ) → nat_eq (1 + m) (1 + n) ≡ nat_eq m n
 one_later m n = grind (arith, nat_tests)
 
 -- names have one number exactly where they are the same
-pub same-number : (names : List Name) (a b : Name) → is_among names a ≡ true → is_among names b ≡ true → nat_eq (number_in names a) (number_in names b) ≡ is_same a b
+pub same-number : (names : List Name) (a b : Name) → is_among is_same names a ≡ true → is_among is_same names b ≡ true → nat_eq (number_in names a) (number_in names b) ≡ is_same a b
 same-number [] a b known_a known_b = absurd cc
 same-number (first ∷ names) a b known_a known_b = by (is_same a first) (is_same b first) refl refl known_a known_b (same-number names a b)
   where
-    by : (x y : Bool) → is_same a first ≡ x → is_same b first ≡ y → (x || is_among names a) ≡ true → (y || is_among names b) ≡ true →
-        (is_among names a ≡ true → is_among names b ≡ true → nat_eq (number_in names a) (number_in names b) ≡ is_same a b) →
+    by : (x y : Bool) → is_same a first ≡ x → is_same b first ≡ y → (x || is_among is_same names a) ≡ true → (y || is_among is_same names b) ≡ true →
+        (is_among is_same names a ≡ true → is_among is_same names b ≡ true → nat_eq (number_in names a) (number_in names b) ≡ is_same a b) →
         nat_eq (if not x then 1 + number_in names a else 0) (if not y then 1 + number_in names b else 0) ≡ is_same a b
     by true y here_a here_b known_a known_b later = let same = nat_list_eq_equiv.congr a first b here_a in let swap = nat_list_eq_equiv.symm first b in first_only y (number_in names b) ∙ cc
     by false true here_a here_b known_a known_b later = let same = nat_list_eq_equiv.congr b first a here_b in let swap = nat_list_eq_equiv.symm first a in let swap2 = nat_list_eq_equiv.symm a b in second_only (number_in names a) ∙ cc
@@ -61,14 +62,6 @@ same-number (first ∷ names) a b known_a known_b = by (is_same a first) (is_sam
 map-map : {X Y Z : Type 0} (f : Y → Z) (g : X → Y) (xs : List X) → map f (map g xs) ≡ map (λ x. f (g x)) xs
 map-map f g [] = refl
 map-map f g (x ∷ xs) = ap (λ l. f (g x) ∷ l) (map-map f g xs)
-
-map-flat_map : {X Y Z : Type 0} (f : Y → Z) (g : X → List Y) (xs : List X) → map f (flat_map g xs) ≡ flat_map (λ x. map f (g x)) xs
-map-flat_map f g [] = refl
-map-flat_map f g (x ∷ xs) = joined (g x) ∙ ap (λ l. map f (g x) ++ l) (map-flat_map f g xs)
-  where
-    joined : (ys : List _) → map f (ys ++ flat_map g xs) ≡ map f ys ++ map f (flat_map g xs)
-    joined [] = refl
-    joined (y ∷ ys) = ap (λ l. f y ∷ l) (joined ys)
 
 flat_map-map : {X Y Z : Type 0} (f : Y → List Z) (g : X → Y) (xs : List X) → flat_map f (map g xs) ≡ flat_map (λ x. f (g x)) xs
 flat_map-map f g [] = refl
@@ -92,7 +85,7 @@ module _ (domain : Domain) (problem : Problem) where
       ap (map (λ (others : List ℕ). num object ∷ others)) rest
       ∙ map-map (λ (others : List ℕ). num object ∷ others) (map num) (pddl.choices domain problem more)
       ∙ sym (map-map (map num) (λ (others : List Name). object ∷ others) (pddl.choices domain problem more))) names
-      ∙ sym (map-flat_map (map num) (λ object. map (λ others. object ∷ others) (pddl.choices domain problem more)) names)
+      ∙ sym (map_flat_map (map num) (λ object. map (λ others. object ∷ others) (pddl.choices domain problem more)) names)
 
   -- ---- terms
 

@@ -3,7 +3,8 @@ use Rattle.std.proofs.Common.{◌≡◌, ℕ, Bool, true, false, not, ◌&&◌, 
 use Rattle.std.specs.Prelude.{nat_eq, if◌then◌else◌}
 use Rattle.std.specs.List.{list_all, list_any, flat_map}
 use Rattle.std.specs.Cmp.Lexicographic.{pointwise}
-use Rattle.std.proofs.lemmas.Bool.{and_parts, and_from, or_cases, eqb-true}
+use Rattle.std.proofs.lemmas.Bool.{and_parts, and_from, or_cases, eqb-true, false≢true, not-true}
+use Rattle.lists.specs.Members.{is_among}
 use Rattle.pddl_lexer.specs.declared.fault.Kind.TheVariants as kinds
 use Rattle.pddl_parser.specs.declared.types.Action.{Action}
 use Rattle.pddl_parser.specs.declared.types.Atom.{Atom}
@@ -27,27 +28,23 @@ use Rattle.type_checker.specs.Mentions.{Mention, Function, in_condition, in_effe
 use Rattle.type_checker.specs.Names as names
 use Rattle.type_checker.specs.Scopes as scopes
 use Rattle.type_checker.proofs.NoFaults.{left_empty, right_empty, row_empty}
-use Rattle.lists.proofs.Items.{Among, any_passes, passing}
+use Rattle.lists.proofs.Items.{Among, any_passes, passing, piece_empty}
 use Rattle.normal_task.specs.declared.task.CostRow.TheVariants as costs
 use Rattle.normal_task.specs.declared.task.ValueRow.{ValueRow}
 use Rattle.normal_task.specs.Numbers.{head_names, function_number}
 use Rattle.normal_task.specs.Meaning as task
-use Rattle.normal_task.specs.Meaning.{Binding, objects_at}
+use Rattle.normal_task.specs.Meaning.{Binding, objects_at, is_same_value}
 use Rattle.normal_task.specs.Parts.{Scope}
-use Rattle.normal_task.specs.Normalised.{parameter_scope, cost_row, increase_row, action_cost, once_after, value_row, is_same_value}
-use Rattle.normal_task.specs.Same.{is_among}
-use Rattle.normal_task.proofs.Alls.{all-left, all-right}
+use Rattle.normal_task.specs.Normalised.{parameter_scope, cost_row, increase_row, action_cost, once_after, value_row}
+use Rattle.normal_task.proofs.Alls.{all-left, all-right, all-both_tests}
 use Rattle.normal_task.proofs.Mentioned.{is_known_term, is_known_mention, AreKnown}
 use Rattle.normal_task.proofs.Scopes.{longer, number, is_known, inside-stands}
 use Rattle.normal_task.proofs.Bound.{in-inside, terms-bound}
 use Rattle.normal_task.proofs.ConditionsMean.{same-number, terms-objects}
 use Rattle.normal_task.proofs.EffectsMean.{StandAll, same-objects}
-use Rattle.normal_task.proofs.Full.{planning, num}
-use Rattle.normal_task.proofs.Faultless.{declared_among, is_function_mention, functions_known, in_each_action, action_mentioned, action_bound, known_in_problem, unbound_rows, piece_empty}
+use Rattle.normal_task.proofs.FullStatesMatch.{planning, num}
+use Rattle.normal_task.proofs.Faultless.{declared_among, is_function_mention, functions_known, in_each_action, action_mentioned, action_bound, known_in_problem, unbound_rows}
 use Rattle.type_checker.proofs.EffectFolds.{by_folds}
-
-nowhere : false ≡ true → ⊥
-nowhere e = cc
 
 -- ---- values, each once
 
@@ -59,36 +56,36 @@ module _ (domain : Domain) (problem : Problem) (function : ℕ) (objects : List 
   abbrev asked : ValueRow → Bool
   asked = gives function objects
 
-  same-asked : (a b : ValueRow) → is_same_value domain problem a b ≡ true → asked a ≡ asked b
+  same-asked : (a b : ValueRow) → is_same_value a b ≡ true → asked a ≡ asked b
   same-asked a b e =
       let parts = and_parts (nat_eq a.function b.function) (pointwise nat_eq a.objects b.objects) e in
       ap (λ (n : ℕ). nat_eq n function && pointwise nat_eq a.objects objects) (eqb-true a.function b.function parts.0)
       ∙ ap (λ (os : List ℕ). nat_eq b.function function && pointwise nat_eq os objects) (same_name a.objects b.objects parts.1)
 
   -- values that are left out were given before
-  once-value : (rows before : List ValueRow) → list_any asked before ≡ false → task.value_in (once_after domain problem (is_same_value domain problem) before rows) function objects ≡ task.value_in rows function objects
+  once-value : (rows before : List ValueRow) → list_any asked before ≡ false → task.value_in (once_after domain problem is_same_value before rows) function objects ≡ task.value_in rows function objects
   once-value [] before none = refl
-  once-value (row ∷ rows) before none = by (list_any (is_same_value domain problem row) before) refl (asked row) refl (once-value rows before none) (once-value rows (row ∷ before))
+  once-value (row ∷ rows) before none = by (list_any (is_same_value row) before) refl (asked row) refl (once-value rows before none) (once-value rows (row ∷ before))
     where
-      by : (b : Bool) → list_any (is_same_value domain problem row) before ≡ b → (a : Bool) → asked row ≡ a → task.value_in (once_after domain problem (is_same_value domain problem) before rows) function objects ≡ task.value_in rows function objects →
-          (list_any asked (row ∷ before) ≡ false → task.value_in (once_after domain problem (is_same_value domain problem) (row ∷ before) rows) function objects ≡ task.value_in rows function objects) →
-          task.value_in (if b then once_after domain problem (is_same_value domain problem) before rows else row ∷ once_after domain problem (is_same_value domain problem) (row ∷ before) rows) function objects ≡ task.value_in (row ∷ rows) function objects
+      by : (b : Bool) → list_any (is_same_value row) before ≡ b → (a : Bool) → asked row ≡ a → task.value_in (once_after domain problem is_same_value before rows) function objects ≡ task.value_in rows function objects →
+          (list_any asked (row ∷ before) ≡ false → task.value_in (once_after domain problem is_same_value (row ∷ before) rows) function objects ≡ task.value_in rows function objects) →
+          task.value_in (if b then once_after domain problem is_same_value before rows else row ∷ once_after domain problem is_same_value (row ∷ before) rows) function objects ≡ task.value_in (row ∷ rows) function objects
       by true e true is rest more =
-          let found = passing (is_same_value domain problem row) before e in
+          let found = passing (is_same_value row) before e in
           let some = any_passes asked found.item before found.among (sym (same-asked row found.item found.passes) ∙ is) in
-          absurd (nowhere (sym none ∙ some))
+          absurd (false≢true (sym none ∙ some))
       by true e false is rest more = rest ∙ sym (ap (λ b. if b then Some row.value else task.value_in rows function objects) is)
       by false e true is rest more =
-          ap (λ b. if b then Some row.value else task.value_in (once_after domain problem (is_same_value domain problem) (row ∷ before) rows) function objects) is
+          ap (λ b. if b then Some row.value else task.value_in (once_after domain problem is_same_value (row ∷ before) rows) function objects) is
           ∙ sym (ap (λ b. if b then Some row.value else task.value_in rows function objects) is)
       by false e false is rest more =
-          ap (λ b. if b then Some row.value else task.value_in (once_after domain problem (is_same_value domain problem) (row ∷ before) rows) function objects) is
+          ap (λ b. if b then Some row.value else task.value_in (once_after domain problem is_same_value (row ∷ before) rows) function objects) is
           ∙ more (ap (λ b. b || list_any asked before) is ∙ none)
           ∙ sym (ap (λ b. if b then Some row.value else task.value_in rows function objects) is)
 
 module _ (domain : Domain) (problem : Problem) where
   abbrev is_function : Name → Bool
-  is_function = is_among (head_names domain.functions)
+  is_function = is_among is_same (head_names domain.functions)
 
   -- a value is given to a declared function of known objects, or to the total cost
   abbrev is_known_value : Init → Bool
@@ -101,7 +98,7 @@ module _ (domain : Domain) (problem : Problem) where
     where
       by : (names.is_declared domain.functions name ≡ true) ⊎ (is_same name total_cost ≡ true) → names.is_declared domain.functions name ≡ true
       by (inl here) = here
-      by (inr total) = absurd (nowhere (sym other ∙ total))
+      by (inr total) = absurd (false≢true (sym other ∙ total))
 
   -- the rows give the values that the entries give
   same-values : (entries : List Init) → list_all is_known_value entries ≡ true → (atom : holds.GroundAtom) → is_function atom.predicate ≡ true → is_same atom.predicate total_cost ≡ false → list_all (is_known domain problem) atom.objects ≡ true →
@@ -125,7 +122,7 @@ module _ (domain : Domain) (problem : Problem) where
       by true total known_name known_objects rest = rest ∙ sym (ap (λ b. if b && pointwise is_same (holds.ground [] term).objects atom.objects then Some value else step.value_in entries atom) (apart (is_same term.predicate.name atom.predicate) refl))
         where
           apart : (b : Bool) → is_same term.predicate.name atom.predicate ≡ b → is_same term.predicate.name atom.predicate ≡ false
-          apart true e = absurd (nowhere (sym other ∙ subst (λ (n : Name). is_same n total_cost ≡ true) (same_name term.predicate.name atom.predicate e) total))
+          apart true e = absurd (false≢true (sym other ∙ subst (λ (n : Name). is_same n total_cost ≡ true) (same_name term.predicate.name atom.predicate e) total))
           apart false e = e
       by false not_total known_name known_objects rest =
           let one = same-number (head_names domain.functions) term.predicate.name atom.predicate (declared-function term.predicate.name known_name not_total) is_it in
@@ -179,7 +176,7 @@ module _ (domain : Domain) (problem : Problem) where
       (all-right is_sound_mention (in_effect member) (flat_map (λ mentions. mentions) (map in_effect members)) mentioned))
 
   increase-sound : (term : Atom) (cost : Cost) (line : ℕ) → IncreasesSound (step.increases_step (Effect-F.Increase term cost line)) (increases.increases_step (Effect-F.Increase term cost line)) (scopes.effect_step (Effect-F.Increase term cost line)) (effect_step (Effect-F.Increase term cost line))
-  increase-sound term cost line = ((λ formed. absurd (nowhere formed)), λ depth formed in_scope unbound mentioned. (by cost depth formed in_scope unbound mentioned, tt))
+  increase-sound term cost line = ((λ formed. absurd (false≢true formed)), λ depth formed in_scope unbound mentioned. (by cost depth formed in_scope unbound mentioned, tt))
     where
       formed-proper : (cost : Cost) (depth : Depth) → list_all is_formed (increases.increases_step (Effect-F.Increase term cost line) depth) ≡ true → not (increases.is_total_cost_term cost) ≡ true
       formed-proper cost depth formed =
@@ -187,15 +184,11 @@ module _ (domain : Domain) (problem : Problem) where
           let proper = (and_parts (increases.may_stand depth) (increases.is_proper term cost) one).1 in
           (and_parts (is_same term.predicate.name total_cost) (not (increases.is_total_cost_term cost)) proper).1
 
-      unsame : (b : Bool) → not b ≡ true → b ≡ false
-      unsame true e = absurd (nowhere e)
-      unsame false e = refl
-
       by : (cost : Cost) (depth : Depth) → list_all is_formed (increases.increases_step (Effect-F.Increase term cost line) depth) ≡ true → (in_scope : List Name) → scopes.effect_step (Effect-F.Increase term cost line) in_scope ≡ [] →
           list_all is_sound_mention (effect_step (Effect-F.Increase term cost line)) ≡ true → CostSound in_scope cost
       by (pddl_costs.Number number) depth formed in_scope unbound mentioned = tt
       by (pddl_costs.Term function) depth formed in_scope unbound mentioned =
-          let not_total = unsame (is_same function.predicate.name total_cost) (formed-proper (pddl_costs.Term function) depth formed) in
+          let not_total = not-true (is_same function.predicate.name total_cost) (formed-proper (pddl_costs.Term function) depth formed) in
           let second = (and_parts (is_sound_mention (Function function)) true (and_parts (is_sound_mention (Function term)) (is_sound_mention (Function function) && true) mentioned).1).0 in
           let sides = and_parts (is_known_mention domain problem (Function function)) (is_function_mention domain problem (Function function)) second in (
             right_empty (scopes.unbound_terms in_scope term.terms) (scopes.unbound_terms in_scope function.terms) unbound,
@@ -230,13 +223,6 @@ module _ (domain : Domain) (problem : Problem) where
       some [] none = cc
       some (x ∷ xs) none = cc
 
-  both-tests : {X : Type 0} (one other : X → Bool) (xs : List X) → list_all one xs ≡ true → list_all other xs ≡ true → list_all (λ x. one x && other x) xs ≡ true
-  both-tests one other [] p q = refl
-  both-tests one other (x ∷ xs) p q =
-      let first = and_parts (one x) (list_all one xs) p in
-      let second = and_parts (other x) (list_all other xs) q in
-      and_from (one x && other x) (list_all (λ x. one x && other x) xs) (and_from (one x) (other x) first.0 second.0) (both-tests one other xs first.1 second.1)
-
   module _ (none : check_faults domain problem ≡ []) where
     abbrev function_row : Row
     function_row = row kinds.UnknownFunction (names.unknown_functions domain (in_domain domain)) (names.unknown_functions domain (in_problem problem))
@@ -256,7 +242,7 @@ module _ (domain : Domain) (problem : Problem) where
         let use_it = (and_parts (is_function_mention domain problem (Function term)) true function).0 in
         and_from (names.is_function domain term.predicate.name) (list_all (is_known domain problem) (holds.ground [] term).objects)
         (and_parts (names.is_function domain term.predicate.name) true use_it).0
-        (terms-objects domain problem [] [] [] term.terms mention (λ name is. absurd (nowhere (terms-bound [] term.terms bound name is)))).1
+        (terms-objects domain problem [] [] [] term.terms mention (λ name is. absurd (false≢true (terms-bound [] term.terms bound name is)))).1
 
     values-known : (entries : List Init) → AreKnown domain problem (flat_map in_init entries) → list_all (is_function_mention domain problem) (flat_map in_init entries) ≡ true → flat_map scopes.in_init entries ≡ [] → list_all is_known_value entries ≡ true
     values-known [] mentioned function bound = refl
@@ -294,7 +280,7 @@ module _ (domain : Domain) (problem : Problem) where
         in_scope = scopes.inside_of action.parameters []
 
         stand : StandAll domain problem (scopes.inside_of action.parameters []) (parameter_scope domain problem action.parameters) (pddl.bound action.parameters objects []) (map (num domain problem) objects)
-        stand name inside = inside-stands domain problem action.parameters objects 0 [] [] [] name refl chosen (λ unlisted. absurd (nowhere (in-inside action.parameters [] name inside unlisted)))
+        stand name inside = inside-stands domain problem action.parameters objects 0 [] [] [] name refl chosen (λ unlisted. absurd (false≢true (in-inside action.parameters [] name inside unlisted)))
 
         formed : list_all is_formed (increases.increases action.effect Outermost) ≡ true
         formed =
@@ -304,7 +290,7 @@ module _ (domain : Domain) (problem : Problem) where
 
         sound_mentions : list_all is_sound_mention (in_effect action.effect) ≡ true
         sound_mentions =
-            both-tests (is_known_mention domain problem) (is_function_mention domain problem) (in_effect action.effect)
+            all-both_tests (is_known_mention domain problem) (is_function_mention domain problem) (in_effect action.effect)
             (all-right (is_known_mention domain problem) (in_condition action.precondition) (in_effect action.effect) (and_parts (true && true) _ (action_mentioned domain problem none action among)).1)
             (all-right (is_function_mention domain problem) (in_condition action.precondition) (in_effect action.effect)
             (and_parts true _ (in_each_action domain problem none (is_function_mention domain problem) functions.0 action among)).1)

@@ -5,6 +5,7 @@ use Rattle.std.specs.List.{list_all, list_any, flat_map}
 use Rattle.std.specs.Cmp.Lexicographic.{pointwise}
 use Rattle.std.proofs.lemmas.Bool.{and_parts, and_from}
 use Rattle.std.proofs.lemmas.List.Folds.{list_any-append, list_all-append}
+use Rattle.std.proofs.Math.Bool.{and-false, and-true}
 use Rattle.pddl_parser.specs.declared.types.Atom.{Atom}
 use Rattle.pddl_parser.specs.declared.types.Condition.{Condition}
 use Rattle.pddl_parser.specs.declared.types.Domain.{Domain}
@@ -28,7 +29,7 @@ use Rattle.normal_task.specs.Meaning.{atom_of, State, Binding, objects_at, choic
 use Rattle.normal_task.specs.Parts.{Scope, scope_inside, Part, Made, in_turn, all_of, place_of, known, parts}
 use Rattle.normal_task.specs.Normalised.{Rows, effect_row, written, row_with_variables, row_step, rows_of, numbered_atom}
 use Rattle.normal_task.specs.Same.{is_known_atom}
-use Rattle.normal_task.proofs.Anys.{any-map, any-same, any-swap, any-and_left}
+use Rattle.normal_task.proofs.Anys.{any-map, any-same, any-swap, any-and_left, and_assoc}
 use Rattle.normal_task.proofs.Alls.{all-left, all-right}
 use Rattle.normal_task.proofs.Chosen.{any-choices_append}
 use Rattle.normal_task.proofs.Mentioned.{is_known_mention, is_known_term, is_declared, AreKnown}
@@ -38,18 +39,6 @@ use Rattle.normal_task.proofs.PartsMean.{part_met, GivenIn, given-left, given-ri
 use Rattle.normal_task.proofs.ConditionsMean.{choices-numbers, terms-objects, ShowsFull, same-number, condition-means, named-choice-length}
 use Rattle.normal_task.proofs.Bound.{is_in, in-inside, terms-bound, free-bound}
 use Rattle.type_checker.proofs.EffectFolds.{by_folds}
-
-and_assoc : (a b c : Bool) → (a && (b && c)) ≡ ((a && b) && c)
-and_assoc true b c = refl
-and_assoc false b c = refl
-
-and_true : (b : Bool) → (b && true) ≡ b
-and_true true = refl
-and_true false = refl
-
-and_false : (b : Bool) → (b && false) ≡ false
-and_false true = refl
-and_false false = refl
 
 and_or : (a b c : Bool) → ((a && b) || (a && c)) ≡ (a && (b || c))
 and_or true b c = refl
@@ -215,7 +204,7 @@ module _ (domain : Domain) (problem : Problem) where
           flat_map (λ member. member names) (map scopes.in_effect members) ≡ [] → StandAll names scope named binding → RequiredFits (length binding) required → Required binding required truths →
           (next : ℕ) → GivenIn declared numbered next (in_turn (turns required scope (length binding) members) next).fresh → (atom : holds.GroundAtom) → is_known_atom domain problem atom ≡ true →
           some_row binding (numbered_atom domain problem atom) (in_turn (turns required scope (length binding) members) next).items ≡ (all_true truths && list_any (λ member. member named atom) (map change members))
-      members-mean [] each mentioned required truths names scope named binding unbound stand fit is next given atom known_atom = sym (and_false (all_true truths))
+      members-mean [] each mentioned required truths names scope named binding unbound stand fit is next given atom known_atom = sym (and-false (all_true truths))
       members-mean (member ∷ members) each mentioned required truths names scope named binding unbound stand fit is next given atom known_atom =
           let first = rows_of domain problem member required scope (length binding) next in
           let later = next + length first.fresh in
@@ -248,7 +237,7 @@ module _ (domain : Domain) (problem : Problem) where
           (λ more. condition-means domain problem full numbered shows condition (all-left (is_known_mention domain problem) (in_condition condition) (in_effect inside) mentioned) true scope named (binding ++ more)
           (λ name free. longer domain problem scope named binding more name (stand name (free-bound domain problem condition names here_bound name free)))))
           next given atom known_atom
-          ∙ ap (λ b. b && change inside named atom) (list_all-append (λ truth. truth) truths (holds.holds domain problem full condition named ∷ []) ∙ ap (λ b. all_true truths && b) (and_true (holds.holds domain problem full condition named)))
+          ∙ ap (λ b. b && change inside named atom) (list_all-append (λ truth. truth) truths (holds.holds domain problem full condition named ∷ []) ∙ ap (λ b. all_true truths && b) (and-true (holds.holds domain problem full condition named)))
           ∙ sym (and_assoc (all_true truths) (holds.holds domain problem full condition named) (change inside named atom))
         where
           here_bound : scopes.in_condition condition names ≡ []
@@ -313,7 +302,7 @@ module _ (domain : Domain) (problem : Problem) where
           by false = refl
 
       nothing-means : (truths : List Bool) → false ≡ (all_true truths && false)
-      nothing-means truths = sym (and_false (all_true truths))
+      nothing-means truths = sym (and-false (all_true truths))
 
       -- the rows of an effect write what it writes
       pub effect-means : (effect : Effect) → Meant effect

@@ -2,9 +2,10 @@
 use Rattle.std.proofs.Common.{◌≡◌, ℕ, ◌+◌, Bool, true, false, not, ◌&&◌, ◌||◌, List, [], ◌∷◌, ◌++◌, map, length, inl, inr, refl, sym, ap, ◌∙◌, subst, arith}
 use Rattle.std.specs.Prelude.{if◌then◌else◌}
 use Rattle.std.specs.List.{list_all, list_any, filter, flat_map}
-use Rattle.std.proofs.lemmas.Bool.{and_parts, and_from}
+use Rattle.std.proofs.lemmas.Bool.{and_parts, and_from, false≢true}
 use Rattle.std.proofs.lemmas.Cmp.{nat_list_eq_equiv}
 use Rattle.std.proofs.lemmas.List.Folds.{list_all-append, list_all-map}
+use Rattle.lists.specs.Members.{is_among}
 use Rattle.pddl_lexer.specs.declared.fault.Kind.TheVariants as kinds
 use Rattle.pddl_parser.specs.declared.types.Action.{Action}
 use Rattle.pddl_parser.specs.declared.types.Derived.{Derived}
@@ -26,22 +27,21 @@ use Rattle.type_checker.specs.Mentions.{Mention, Use, Written, written_predicate
 use Rattle.type_checker.specs.Names as names
 use Rattle.type_checker.specs.Scopes as scopes
 use Rattle.type_checker.proofs.NoFaults.{map_empty, left_empty, right_empty, row_empty}
-use Rattle.lists.proofs.Items.{Among, all_passes}
+use Rattle.lists.proofs.Items.{Among, all_passes, piece_empty}
 use Rattle.normal_task.specs.Numbers.{head_names}
 use Rattle.normal_task.specs.Parts.{is_listed, known}
 use Rattle.normal_task.specs.Normalised.{parameter_scope, axiom_rows, schemas, precondition_parts, effect_rows, goal_parts, made_schemas, made_axioms, after_schemas, after_axioms}
 use Rattle.normal_task.specs.Parts.{Made, in_turn}
-use Rattle.normal_task.specs.Same.{is_among}
-use Rattle.normal_task.proofs.Alls.{all-left, all-right}
+use Rattle.normal_task.proofs.Alls.{all-left, all-right, all-both_tests}
 use Rattle.normal_task.proofs.Mentioned.{is_known_term, is_declared, is_known_mention, AreKnown}
 use Rattle.normal_task.proofs.Scopes.{is_known, inside-in_scope, InScope}
 use Rattle.normal_task.proofs.Fits.{fresh_fit, fresh-both, condition-fits}
 use Rattle.normal_task.proofs.Bound.{in-inside, free-bound, terms-bound}
 use Rattle.normal_task.proofs.ConditionsMean.{terms-objects}
 use Rattle.normal_task.proofs.EffectsFit.{AllInScope, effect-fits}
-use Rattle.normal_task.proofs.Full.{declared, RuleSound}
+use Rattle.normal_task.proofs.FullStatesMatch.{declared, RuleSound}
 use Rattle.normal_task.proofs.Filled.{GoalSound, first_fresh}
-use Rattle.normal_task.proofs.Law.{is_known_entry}
+use Rattle.normal_task.proofs.StartsAndGoals.{is_known_entry}
 use Rattle.normal_task.proofs.Written.{AreBasic, is_basic_mention}
 
 -- where nothing fails, everything passes
@@ -57,25 +57,13 @@ pub all_flat_map : {X Y : Type 0} (test : Y → Bool) (piece : X → List Y) (xs
 all_flat_map test piece [] = refl
 all_flat_map test piece (x ∷ xs) = list_all-append test (piece x) (flat_map piece xs) ∙ ap (λ b. list_all test (piece x) && b) (all_flat_map test piece xs)
 
-all_both_tests : {X : Type 0} (one other : X → Bool) (xs : List X) → list_all one xs ≡ true → list_all other xs ≡ true → list_all (λ x. one x && other x) xs ≡ true
-all_both_tests one other [] p q = refl
-all_both_tests one other (x ∷ xs) p q =
-    let first = and_parts (one x) (list_all one xs) p in
-    let second = and_parts (other x) (list_all other xs) q in
-    and_from (one x && other x) (list_all (λ x. one x && other x) xs) (and_from (one x) (other x) first.0 second.0) (all_both_tests one other xs first.1 second.1)
-
-pub piece_empty : {X Y : Type 0} (f : X → List Y) (xs : List X) → flat_map f xs ≡ [] → (x : X) → Among x xs → f x ≡ []
-piece_empty f [] none x there = absurd there
-piece_empty f (y ∷ xs) none x (inl here) = subst (λ z. f z ≡ []) here (left_empty (f y) (flat_map f xs) none)
-piece_empty f (y ∷ xs) none x (inr there) = piece_empty f xs (right_empty (f y) (flat_map f xs) none) x there
-
 -- one of the heads has the name
-pub declared_among : (heads : List Head) (name : Name) → names.is_declared heads name ≡ is_among (head_names heads) name
+pub declared_among : (heads : List Head) (name : Name) → names.is_declared heads name ≡ is_among is_same (head_names heads) name
 declared_among [] name = refl
 declared_among (head ∷ heads) name =
     ap (λ b. b || names.is_declared heads name) (nat_list_eq_equiv.symm head.name.name name) ∙ ap (λ b. is_same name head.name.name || b) (declared_among heads name)
 
-objects_among : (list : List Typed) (name : Name) → list_any (λ (known : Typed). is_same known.name.name name) list ≡ is_among (map (λ (object : Typed). object.name.name) list) name
+objects_among : (list : List Typed) (name : Name) → list_any (λ (known : Typed). is_same known.name.name name) list ≡ is_among is_same (map (λ (object : Typed). object.name.name) list) name
 objects_among [] name = refl
 objects_among (object ∷ list) name =
     ap (λ b. b || list_any (λ (known : Typed). is_same known.name.name name) list) (nat_list_eq_equiv.symm object.name.name name) ∙ ap (λ b. is_same name object.name.name || b) (objects_among list name)
@@ -105,7 +93,7 @@ module _ (domain : Domain) (problem : Problem) where
 
   mentions_known : (mentions : List Mention) → names.unknown_predicates domain mentions ≡ [] → names.unknown_objects domain problem mentions ≡ [] → AreKnown domain problem mentions
   mentions_known mentions no_predicate no_object =
-      all_both_tests (λ mention. list_all (λ (usage : Use). is_declared domain problem usage.name.name) (predicate_uses mention)) (λ mention. list_all (is_known_term domain problem) (arguments mention)) mentions
+      all-both_tests (λ mention. list_all (λ (usage : Use). is_declared domain problem usage.name.name) (predicate_uses mention)) (λ mention. list_all (is_known_term domain problem) (arguments mention)) mentions
       (predicates_known mentions no_predicate)
       (sym (all_flat_map (is_known_term domain problem) arguments mentions) ∙ terms_known (flat_map arguments mentions) no_object)
 
@@ -122,9 +110,6 @@ module _ (domain : Domain) (problem : Problem) where
       sym (all_flat_map (λ (usage : Use). names.is_function domain usage.name.name) function_uses mentions)
       ∙ sym (list_all-map passes (λ (usage : Use). usage.name) uses)
       ∙ none_fails fails passes (λ named. refl) all_names (map_empty (λ (named : Named). named.line) (filter fails all_names) none)
-
-  nowhere : false ≡ true → ⊥
-  nowhere e = cc
 
   -- ---- what is declared
 
@@ -175,7 +160,7 @@ module _ (domain : Domain) (problem : Problem) where
         by : (name : Name) → (known domain problem rule.body).is_free name ≡ true → (b : Bool) → is_listed rule.head.variables name ≡ b → is_listed rule.head.variables name ≡ true
         by name free true e = e
         by name free false e =
-            absurd (nowhere (in-inside rule.head.variables [] name (free-bound domain problem rule.body (scopes.inside_of rule.head.variables []) (bound_axiom rule among) name free) e))
+            absurd (false≢true (in-inside rule.head.variables [] name (free-bound domain problem rule.body (scopes.inside_of rule.head.variables []) (bound_axiom rule among) name free) e))
 
     pub rules_sound : Each (RuleSound domain problem) domain.axioms
     rules_sound = each domain.axioms (λ rule among. rule_sound rule among)
@@ -229,7 +214,7 @@ module _ (domain : Domain) (problem : Problem) where
         let mention = (and_parts (is_known_mention domain problem (Written atom)) true mentioned).0 in
         let sides = and_parts (is_declared domain problem atom.predicate.name && true) (list_all (is_known_term domain problem) atom.terms) mention in
         and_from (is_declared domain problem atom.predicate.name) (list_all (is_known domain problem) (map (holds.object_of []) atom.terms)) (and_parts (is_declared domain problem atom.predicate.name) true sides.0).0
-        (terms-objects domain problem [] [] [] atom.terms sides.1 (λ name is. absurd (nowhere (terms-bound [] atom.terms bound name is)))).1
+        (terms-objects domain problem [] [] [] atom.terms sides.1 (λ name is. absurd (false≢true (terms-bound [] atom.terms bound name is)))).1
     entry_known (inits.HoldsNot atom line) mentioned bound = refl
     entry_known (inits.Value term value line) mentioned bound = refl
 
@@ -258,7 +243,7 @@ module _ (domain : Domain) (problem : Problem) where
     parameters_in_scope : (variables : List Typed) → AllInScope domain problem (scopes.inside_of variables []) (parameter_scope domain problem variables) (length variables)
     parameters_in_scope variables name inside =
         subst (λ (n : ℕ). InScope (parameter_scope domain problem variables) n name) (let same : 0 + length variables ≡ length variables = omega arith in same)
-        (inside-in_scope domain problem variables 0 [] name (λ unlisted. absurd (nowhere (in-inside variables [] name inside unlisted))))
+        (inside-in_scope domain problem variables 0 [] name (λ unlisted. absurd (false≢true (in-inside variables [] name inside unlisted))))
 
     action_fits : (action : Action) → Among action domain.actions → (next : ℕ) → fresh_fit base next (schemas domain problem action next).fresh ≡ true
     action_fits action among next =
@@ -287,4 +272,4 @@ module _ (domain : Domain) (problem : Problem) where
         fresh-both base 0 schemas_made (axioms_made ++ (goal_parts domain problem).fresh) (fits_in_turn (schemas domain problem) domain.actions action_fits 0)
         (subst (λ (n : ℕ). fresh_fit base n (axioms_made ++ (goal_parts domain problem).fresh) ≡ true) (let same : after_schemas domain problem ≡ 0 + length schemas_made = omega arith in same)
         (fresh-both base (after_schemas domain problem) axioms_made (goal_parts domain problem).fresh (fits_in_turn (axiom_rows domain problem) domain.axioms axiom_fits (after_schemas domain problem))
-        (condition-fits domain problem problem.goal goal_sound.mentioned true [] 0 (λ name free. absurd (nowhere (free-bound domain problem problem.goal [] goal_sound.bound name free))) (after_axioms domain problem)).fresh))
+        (condition-fits domain problem problem.goal goal_sound.mentioned true [] 0 (λ name free. absurd (false≢true (free-bound domain problem problem.goal [] goal_sound.bound name free))) (after_axioms domain problem)).fresh))

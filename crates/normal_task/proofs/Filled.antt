@@ -2,7 +2,7 @@
 use Rattle.std.proofs.Common.{append-nil, ◌≡◌, ℕ, suc, ◌+◌, ◌-◌, ◌<◌, ◌≤◌, Bool, true, false, ◌&&◌, ◌||◌, List, [], ◌∷◌, ◌++◌, length, refl, sym, ap, ◌∙◌, subst, arith, inl, inr, ◌⊎◌}
 use Rattle.std.specs.Prelude.{nat_eq, nat_lt, nat_le, ◌==◌, if◌then◌else◌}
 use Rattle.std.specs.List.{list_all, list_any}
-use Rattle.std.proofs.lemmas.Bool.{and_parts, or_cases, ltb-true, ltb-false, leb-true}
+use Rattle.std.proofs.lemmas.Bool.{and_parts, or_cases, ltb-true, ltb-false, leb-true, false≢true}
 use Rattle.pddl_parser.specs.declared.types.Domain.{Domain}
 use Rattle.pddl_parser.specs.declared.types.Problem.{Problem}
 use Rattle.planning.specs.Task.{IsFull}
@@ -30,7 +30,7 @@ use Rattle.normal_task.proofs.Fits.{literal_from, literal_within, fits, part_fit
 use Rattle.normal_task.proofs.PartsMean.{some_part, part_met, GivenIn, given-right}
 use Rattle.normal_task.proofs.ConditionsMean.{ShowsFull, condition-means}
 use Rattle.normal_task.proofs.Bound.{free-bound}
-use Rattle.normal_task.proofs.Full.{declared, planning, fresh_all, other-number, rows-behind, AllGiven, from-rows, given-of_all, derived-declared, derived-fresh, derived-below, RuleSound, numbered_derives, rules-mean, rules-elsewhere, known-rules, task-axioms, axiom_items, given-axioms, number-below}
+use Rattle.normal_task.proofs.FullStatesMatch.{declared, planning, fresh_all, other-number, rows-behind, AllGiven, from-rows, given-of_all, derived-declared, derived-fresh, derived-below, RuleSound, numbered_derives, rules-mean, rules-elsewhere, known-rules, task-axioms, axiom_items, given-axioms, number-below}
 
 module _ (domain : Domain) (problem : Problem) where
   abbrev base : ℕ
@@ -175,9 +175,6 @@ module _ (domain : Domain) (problem : Problem) where
         shows = full-shows;
       }
     where
-      nowhere : false ≡ true → ⊥
-      nowhere e = cc
-
       old : (atom : GroundAtom) → atom.predicate < base → filled 0 first_fresh (by_number full numbered) atom ≡ by_number full numbered atom
       old atom below = untouched 0 first_fresh (by_number full numbered) atom (inl (omega (arith, below)))
 
@@ -214,7 +211,7 @@ module _ (domain : Domain) (problem : Problem) where
       goal-means : some_part (filled 0 first_fresh (by_number full numbered)) [] goal_items ≡ holds.holds domain problem full problem.goal []
       goal-means =
           condition-means domain problem full (filled 0 first_fresh (by_number full numbered)) full-shows problem.goal goal.mentioned true [] [] []
-          (λ name free. absurd (nowhere (free-bound domain problem problem.goal [] goal.bound name free))) (after_axioms domain problem) given-goal
+          (λ name free. absurd (false≢true (free-bound domain problem problem.goal [] goal.bound name free))) (after_axioms domain problem) given-goal
 
       lengths : length (fresh_all domain problem) ≡ length first_fresh + length (last_fresh goal_items)
       lengths = ap (λ (l : List Fresh). length l) all-fresh ∙ length-append first_fresh (last_fresh goal_items)

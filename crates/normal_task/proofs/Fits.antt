@@ -3,7 +3,8 @@ use Rattle.std.proofs.Common.{append-nil, ◌≡◌, ℕ, suc, ◌+◌, ◌<◌,
 use Rattle.std.specs.Prelude.{nat_lt, nat_le, if◌then◌else◌, Option, unwrap_or}
 use Rattle.std.specs.List.{list_all, list_any, flat_map}
 use Rattle.std.specs.Option.{option_map}
-use Rattle.std.proofs.lemmas.Bool.{and_parts, and_from, or_cases, or_left, or_right, ltb-true, leb-true, lt-ltb, le-leb}
+use Rattle.std.proofs.lemmas.Bool.{and_parts, and_from, or_cases, or_left, or_right, ltb-true, leb-true, lt-ltb, le-leb, not-true}
+use Rattle.lists.specs.Members.{is_among}
 use Rattle.pddl_parser.specs.declared.types.Condition.{Condition}
 use Rattle.pddl_parser.specs.declared.types.Domain.{Domain}
 use Rattle.pddl_parser.specs.declared.types.Head.{Head}
@@ -20,7 +21,6 @@ use Rattle.normal_task.specs.declared.task.Place.{Place}
 use Rattle.normal_task.specs.declared.task.Place.TheVariants.{Variable, Object}
 use Rattle.normal_task.specs.Numbers.{number_in, head_names, predicate_number, ranges_of}
 use Rattle.normal_task.specs.Parts.{Slot, Scope, slots_for, renumbered, scope_inside, is_listed, Part, Fresh, Made, in_turn, all_of, moved_place, moved, joined, paired, with_variables, Known, is_term_of, variable_at, place_of, fresh_number, free_slots, exists_inside, none_inside, known_step, known}
-use Rattle.normal_task.specs.Same.{is_among}
 use Rattle.normal_task.proofs.Alls.{all-both, all-left, all-right, all-images, all-weaker, all-pieces}
 use Rattle.normal_task.proofs.Mentioned.{is_known_mention, is_known_term, is_declared, AreKnown}
 use Rattle.normal_task.proofs.Scopes.{InScope, slot-here, slot-behind, same-slot, map-append, length-append, length-map, slots-in_scope, inside-in_scope, hides, slots_behind, same-itself}
@@ -181,11 +181,11 @@ all_of-fits declared around (first ∷ more) each next =
 -- ---- conditions
 
 -- the number of a name that stands in the list
-pub number-within : (names : List Name) (name : Name) → is_among names name ≡ true → number_in names name < length names
+pub number-within : (names : List Name) (name : Name) → is_among is_same names name ≡ true → number_in names name < length names
 number-within [] name known = absurd cc
 number-within (first ∷ names) name known = by (is_same name first) (number-within names name) known
   where
-    by : (here : Bool) → (is_among names name ≡ true → number_in names name < length names) → (here || is_among names name) ≡ true →
+    by : (here : Bool) → (is_among is_same names name ≡ true → number_in names name < length names) → (here || is_among is_same names name) ≡ true →
         (if not here then 1 + number_in names name else 0) < length (first ∷ names)
     by true later e = omega arith
     by false later e = omega (arith, later e)
@@ -256,12 +256,8 @@ module _ (domain : Domain) (problem : Problem) where
       (slots-within (hides slot asks) outer around
       (λ name asked.
       let parts = and_parts (asks name) (not (is_same slot.variable name)) asked in
-      behind name (unsame (is_same slot.variable name) parts.1) (in_scope name parts.0)))
+      behind name (not-true (is_same slot.variable name) parts.1) (in_scope name parts.0)))
     where
-      unsame : (b : Bool) → not b ≡ true → b ≡ false
-      unsame true e = absurd cc
-      unsame false e = refl
-
       behind : (name : Name) → is_same slot.variable name ≡ false → InScope (slot ∷ outer) around name → InScope outer around name
       behind name other is = record { slot = is.slot; found = sym (slot-behind slot outer name other) ∙ is.found; within = is.within }
 

@@ -29,8 +29,8 @@ use Rattle.normal_task.specs.declared.task.Normal.{Normal}
 use Rattle.normal_task.specs.declared.task.ValueRow.{ValueRow}
 use Rattle.normal_task.specs.Lawful as lawful
 use Rattle.normal_task.specs.Lawful.{most, is_object, is_predicate, is_init, is_value}
-use Rattle.normal_task.specs.Meaning.{is_same_atom}
-use Rattle.normal_task.specs.Normalised.{numbered_atom, stated, value_row, is_same_value, normal}
+use Rattle.normal_task.specs.Meaning.{is_same_atom, is_same_value}
+use Rattle.normal_task.specs.Normalised.{numbered_atom, stated, value_row, normal}
 use Rattle.normal_task.specs.Numbers.{object_number, predicate_number, function_number}
 use Rattle.normal_task.proofs.Faultless.{all_flat_map}
 use Rattle.normal_task.proofs.OnceEach.{once-passes}
@@ -103,5 +103,5 @@ module _ (domain : Domain) (problem : Problem) where
 
     pub values-are : IsWellSpelledProblem problem → list_all (is_value task) task.values ≡ true
     values-are spelled =
-        once-passes domain problem (is_same_value domain problem) (is_value task) [] (flat_map (value_row domain problem) problem.init)
+        once-passes domain problem is_same_value (is_value task) [] (flat_map (value_row domain problem) problem.init)
         (all_flat_map (is_value task) (value_row domain problem) problem.init ∙ each_passes (λ entry. list_all (is_value task) (value_row domain problem entry)) problem.init (entry-values spelled))

@@ -3,13 +3,14 @@ use Rattle.std.proofs.Common.{◌≡◌, ℕ, suc, ◌+◌, Bool, true, false, n
 use Rattle.std.specs.Prelude.{slice_get, ◌==◌, if◌then◌else◌}
 use Rattle.std.specs.List.{list_all, flat_map}
 use Rattle.std.proofs.lemmas.Bool.{and_parts, and_from}
+use Rattle.lists.specs.Members.{is_among}
 use Rattle.pddl_parser.specs.declared.types.Condition.{Condition}
 use Rattle.pddl_parser.specs.declared.types.Domain.{Domain}
 use Rattle.pddl_parser.specs.declared.types.Problem.{Problem}
 use Rattle.pddl_parser.specs.declared.types.Term.{Term}
 use Rattle.pddl_parser.specs.declared.types.Term.TheVariants as terms
 use Rattle.pddl_parser.specs.declared.types.Typed.{Typed}
-use Rattle.pddl_parser.specs.Words.{Name}
+use Rattle.pddl_parser.specs.Words.{Name, is_same}
 use Rattle.pddl_parser.specs.Objects.{objects}
 use Rattle.pddl_parser.specs.Holds.{is_derived}
 use Rattle.pddl_parser.proofs.ConditionCases.{Each}
@@ -27,7 +28,6 @@ use Rattle.normal_task.specs.Lawful.{has_row, is_object, is_range, is_predicate,
 use Rattle.normal_task.specs.Normalised.{is_changed}
 use Rattle.normal_task.specs.Numbers.{object_names, object_number, predicate_number, range_of, ranges_of}
 use Rattle.normal_task.specs.Parts.{Slot, Scope, with_slot, slots_for, renumbered, scope_inside, Part, Fresh, Made, in_turn, all_of, moved_place, moved, joined, paired, with_variables, Known, place_of, fresh_number, free_slots, exists_inside, none_inside, known_step, known}
-use Rattle.normal_task.specs.Same.{is_among}
 use Rattle.normal_task.proofs.Alls.{all-both, all-left, all-right, all-images, all-pieces}
 use Rattle.normal_task.proofs.Fits.{place_within, literal_within, literal_from, fits}
 use Rattle.normal_task.proofs.PredicateTable.{is_fresh_row, HaveRows, rows-left, rows-right}
@@ -190,7 +190,7 @@ pub record HasTables (domain : Domain) (problem : Problem) (task : Normal) : Typ
   pub predicates : (usage : Use) → names.has_arity domain.predicates usage ≡ true → is_predicate task (has_arity task usage.arity) (predicate_number domain usage.name.name) ≡ true
   pub written : (usage : Use) → is_derived domain usage.name.name ≡ false → is_changed domain problem usage.name.name ≡ true → names.has_arity domain.predicates usage ≡ true →
       is_predicate task (λ row. has_arity task usage.arity row && not row.derived && not row.fixed) (predicate_number domain usage.name.name) ≡ true
-  pub objects : (name : Name) → is_among (object_names domain problem) name ≡ true → is_object task (object_number domain problem name) ≡ true
+  pub objects : (name : Name) → is_among is_same (object_names domain problem) name ≡ true → is_object task (object_number domain problem name) ≡ true
   pub ranges : (variable : Typed) → is_range task (range_of domain problem variable) ≡ true
 
 module _ (domain : Domain) (problem : Problem) (task : Normal) (tables : HasTables domain problem task) where

@@ -23,7 +23,7 @@ use Rattle.normal_task.proofs.Alls.{all-both, all-images, all-weaker}
 use Rattle.normal_task.proofs.Bound.{free-bound}
 use Rattle.normal_task.proofs.Faultless.{rules_sound}
 use Rattle.normal_task.proofs.Fits.{literal_within, literal_from, fits, part_fits, parts_fit, fresh_fit, MadeFits, condition-fits}
-use Rattle.normal_task.proofs.Full.{RuleSound, body-mentioned}
+use Rattle.normal_task.proofs.FullStatesMatch.{RuleSound, body-mentioned}
 use Rattle.normal_task.proofs.KnownParts.{all-by_both, literal_known, literal-lawful, part_known, fresh_known, MadeKnown, ranges-known, inside-known, well_mentioned, condition-known}
 use Rattle.normal_task.proofs.PredicateTable.{HaveRows, declared-derived}
 use Rattle.normal_task.proofs.Ranks.{each-among}

@@ -11,9 +11,9 @@ use Rattle.lists.proofs.Items.{Among}
 use Rattle.normal_task.specs.declared.task.Literal.TheVariants.{Holds}
 use Rattle.normal_task.specs.declared.task.Normal.{Normal}
 use Rattle.normal_task.specs.Lawful.{is_predicate, has_arity, is_literal, is_schema, is_axiom, IsLawful}
-use Rattle.normal_task.specs.Meaning.{is_same_atom}
+use Rattle.normal_task.specs.Meaning.{is_same_atom, is_same_value}
 use Rattle.normal_task.specs.Parts.{Part, Fresh, Made, in_turn, fresh_number}
-use Rattle.normal_task.specs.Normalised.{schemas, axiom_rows, fresh_rows, goal_parts, goal_atom, goal_of, stated, value_row, is_same_value, made_schemas, made_axioms, made_goal, after_schemas, after_axioms, all_fresh, normal}
+use Rattle.normal_task.specs.Normalised.{schemas, axiom_rows, fresh_rows, goal_parts, goal_atom, goal_of, stated, value_row, made_schemas, made_axioms, made_goal, after_schemas, after_axioms, all_fresh, normal}
 use Rattle.normal_task.proofs.Alls.{all-both}
 use Rattle.normal_task.proofs.Bound.{free-bound}
 use Rattle.normal_task.proofs.Faultless.{goal_sound, all_fit}
@@ -165,7 +165,7 @@ module _ (domain : Domain) (problem : Problem) (none : check_faults domain probl
     init = init-are domain problem none;
     init_once = once-differ domain problem is_same_atom same_atom-swap [] (flat_map (stated domain problem) problem.init);
     values = values-are domain problem none spelled_problem;
-    values_once = once-differ domain problem (is_same_value domain problem) (same_value-swap domain problem) [] (flat_map (value_row domain problem) problem.init);
+    values_once = once-differ domain problem is_same_value same_value-swap [] (flat_map (value_row domain problem) problem.init);
     goal = goal-is;
     rank = rank domain problem none;
     falls = ranks-fall domain problem none;

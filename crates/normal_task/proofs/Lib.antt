@@ -2,37 +2,38 @@ pub mod Anys
 pub mod Alls
 pub mod Chosen
 pub mod Scopes
-pub mod ThreeFolds
+mod ThreeFolds
 pub mod Mentioned
-pub mod Fits
+mod Fits
 pub mod PartsMean
-pub mod ConditionsMean
-pub mod Full
-pub mod Filled
-pub mod Bound
+mod ConditionsMean
+pub mod FullStatesMatch
+mod Filled
+mod Bound
 pub mod EffectsMean
-pub mod EffectsFit
-pub mod Turns
+mod EffectsFit
+mod MadeInTurn
 pub mod Steps
-pub mod Law
+mod StartsAndGoals
 pub mod Faultless
-pub mod Costs
-pub mod Busy
+mod Costs
+mod Busy
 pub mod Checked
-pub mod Counts
+mod Counts
 pub mod Written
-pub mod Asks
+mod Asks
 pub mod Ranks
 pub mod KeyTables
-pub mod NameWords
+mod NameWords
 pub mod OnceEach
-pub mod PredicateTable
-pub mod InitialRows
-pub mod RanksFall
-pub mod KnownParts
-pub mod KnownEffects
-pub mod WellMentioned
-pub mod LawfulSchemas
-pub mod LawfulAxioms
+mod PredicateTable
+mod InitialRows
+mod RanksFall
+mod KnownParts
+mod KnownEffects
+mod WellMentioned
+mod LawfulSchemas
+mod LawfulAxioms
 pub mod LawfulTask
-pub mod RisingRanges
+mod RisingRanges
+mod RefusedTasks

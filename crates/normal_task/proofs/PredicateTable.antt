@@ -27,7 +27,7 @@ use Rattle.normal_task.specs.Numbers.{number_in, head_names, predicate_number}
 use Rattle.normal_task.specs.Parts.{Fresh}
 use Rattle.normal_task.proofs.Alls.{all-both, all-images}
 use Rattle.normal_task.proofs.Chosen.{eq-itself}
-use Rattle.normal_task.proofs.Full.{within-left, heads-length, number-below}
+use Rattle.normal_task.proofs.FullStatesMatch.{within-left, heads-length, number-below}
 use Rattle.normal_task.proofs.NameWords.{spelled-word, fresh-word, all-tested}
 use Rattle.normal_task.proofs.RisingRanges.{number-first, number-behind}
 use Rattle.normal_task.proofs.Scopes.{length-append}

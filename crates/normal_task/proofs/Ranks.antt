@@ -31,7 +31,7 @@ use Rattle.normal_task.proofs.Asks.{IsAsked, PartsAsk, FreshAsks, MadeAsks, cond
 use Rattle.normal_task.proofs.ConditionsMean.{same-number}
 use Rattle.normal_task.proofs.Faultless.{rules_sound, action_mentioned, known_in_problem}
 use Rattle.normal_task.proofs.Filled.{goal_fresh, last_fresh, goal-last}
-use Rattle.normal_task.proofs.Full.{RuleSound, head-declared, body-mentioned, number-below}
+use Rattle.normal_task.proofs.FullStatesMatch.{RuleSound, head-declared, body-mentioned, number-below}
 use Rattle.normal_task.proofs.Mentioned.{is_declared, is_known_mention, AreKnown}
 use Rattle.normal_task.proofs.Scopes.{length-append}
 

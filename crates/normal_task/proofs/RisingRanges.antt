@@ -5,6 +5,7 @@ use Rattle.std.specs.List.{list_all, filter, AllByRecursion, IsDistinct}
 use Rattle.std.proofs.lemmas.Bool.{and_parts, and_from, ltb-true, lt-ltb}
 use Rattle.std.proofs.lemmas.Cmp.{nat_list_eq_equiv}
 use Rattle.std.proofs.lemmas.Map.Keys.{IsDistinct-head, IsDistinct-tail}
+use Rattle.lists.specs.Members.{is_among}
 use Rattle.pddl_parser.specs.declared.types.Domain.{Domain}
 use Rattle.pddl_parser.specs.declared.types.Problem.{Problem}
 use Rattle.pddl_parser.specs.declared.types.Typed.{Typed}
@@ -16,7 +17,6 @@ use Rattle.lists.proofs.Items.{each_passes}
 use Rattle.normal_task.specs.Lawful.{is_rising, is_object, is_range}
 use Rattle.normal_task.specs.Normalised.{normal}
 use Rattle.normal_task.specs.Numbers.{number_in, object_names, object_number, range_of}
-use Rattle.normal_task.specs.Same.{is_among}
 use Rattle.normal_task.proofs.Alls.{all-images}
 use Rattle.normal_task.proofs.Fits.{number-within}
 use Rattle.normal_task.proofs.Scopes.{range-known}
@@ -89,12 +89,12 @@ numbers-rise test (object ∷ list) distinct = by (test object) (numbers-rise te
 -- ---- the ranges of variables
 
 module _ (domain : Domain) (problem : Problem) where
-  pub object-is : (name : Name) → is_among (object_names domain problem) name ≡ true → is_object (normal domain problem) (object_number domain problem name) ≡ true
+  pub object-is : (name : Name) → is_among is_same (object_names domain problem) name ≡ true → is_object (normal domain problem) (object_number domain problem name) ≡ true
   object-is name known = lt-ltb (object_number domain problem name) (length (object_names domain problem)) (number-within (object_names domain problem) name known)
 
   pub range-is : check_faults domain problem ≡ [] → (variable : Typed) → is_range (normal domain problem) (range_of domain problem variable) ≡ true
   range-is none variable =
       and_from (list_all (is_object (normal domain problem)) (range_of domain problem variable)) (is_rising (range_of domain problem variable))
-      (all-images (is_among (object_names domain problem)) (is_object (normal domain problem)) (object_number domain problem) object-is (range domain problem variable)
-      (each_passes (is_among (object_names domain problem)) (range domain problem variable) (range-known domain problem variable)))
+      (all-images (is_among is_same (object_names domain problem)) (is_object (normal domain problem)) (object_number domain problem) object-is (range domain problem variable)
+      (each_passes (is_among is_same (object_names domain problem)) (range domain problem variable) (range-known domain problem variable)))
       (numbers-rise (has_listed_type domain.types variable.types) (objects domain problem) (objects_once domain problem none))

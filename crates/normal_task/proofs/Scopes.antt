@@ -2,10 +2,12 @@
 use Rattle.std.proofs.Common.{◌≡◌, ℕ, suc, ◌+◌, ◌<◌, ◌≤◌, Bool, true, false, not, ◌&&◌, ◌||◌, List, [], ◌∷◌, ◌++◌, map, length, get_or, Option, Some, None, refl, sym, ap, ◌∙◌, subst, arith, inl, inr, append-nil}
 use Rattle.std.specs.Prelude.{nat_eq, if◌then◌else◌}
 use Rattle.std.specs.List.{list_any, filter}
-use Rattle.std.proofs.lemmas.Bool.{and_parts, and_from}
+use Rattle.std.proofs.lemmas.Bool.{and_parts, and_from, not-true}
 use Rattle.std.proofs.lemmas.Cmp.{nat_list_eq_equiv}
 use Rattle.std.proofs.lemmas.List.{get_or_append_left}
 use Rattle.std.proofs.Math.Seq.{get_or-append_seam}
+pub use Rattle.std.proofs.lemmas.List.{length-append, map-append, append_assoc as append-assoc}
+use Rattle.lists.specs.Members.{is_among}
 use Rattle.pddl_parser.specs.declared.types.Domain.{Domain}
 use Rattle.pddl_parser.specs.declared.types.Problem.{Problem}
 use Rattle.pddl_parser.specs.declared.types.Typed.{Typed}
@@ -17,27 +19,14 @@ use Rattle.normal_task.specs.Numbers.{object_names, object_number, range_of}
 use Rattle.normal_task.specs.Meaning.{Binding}
 use Rattle.normal_task.proofs.Chosen.{is_choice}
 use Rattle.normal_task.specs.Parts.{Slot, Scope, slot_of, with_slot, scope_inside, slots_for, renumbered, is_listed}
-use Rattle.normal_task.specs.Same.{is_among}
 use Rattle.normal_task.proofs.Chosen.{eq-itself}
 
 pub same-itself : (name : Name) → is_same name name ≡ true
 same-itself name = nat_list_eq_equiv.refl name
 
-pub length-append : {X : Type 0} (xs ys : List X) → length (xs ++ ys) ≡ length xs + length ys
-length-append [] ys = omega arith
-length-append (x ∷ xs) ys = omega (arith, length-append xs ys)
-
 pub length-map : {X Y : Type 0} (f : X → Y) (xs : List X) → length (map f xs) ≡ length xs
 length-map f [] = refl
 length-map f (x ∷ xs) = ap (λ (n : ℕ). suc n) (length-map f xs)
-
-pub map-append : {X Y : Type 0} (f : X → Y) (xs ys : List X) → map f (xs ++ ys) ≡ map f xs ++ map f ys
-map-append f [] ys = refl
-map-append f (x ∷ xs) ys = ap (λ l. f x ∷ l) (map-append f xs ys)
-
-pub append-assoc : {X : Type 0} (xs ys zs : List X) → (xs ++ ys) ++ zs ≡ xs ++ (ys ++ zs)
-append-assoc [] ys zs = refl
-append-assoc (x ∷ xs) ys zs = ap (λ l. x ∷ l) (append-assoc xs ys zs)
 
 -- ---- the variable that a name stands for
 
@@ -129,7 +118,7 @@ module _ (domain : Domain) (problem : Problem) where
   number = object_number domain problem
 
   abbrev pub is_known : Name → Bool
-  is_known = is_among (object_names domain problem)
+  is_known = is_among is_same (object_names domain problem)
 
   -- The name stands for a variable in scope. By its number that stands for the object, of those it ranges over, for which the name stands in the files.
   pub record Stands (scope : Scope) (named : pddl.Binding) (binding : Binding) (name : Name) : Type 0 where
@@ -304,12 +293,8 @@ module _ (domain : Domain) (problem : Problem) where
       (slots-typed (hides slot asks) outer named binding
       (λ name asked.
       let parts = and_parts (asks name) (not (is_same slot.variable name)) asked in
-      stands-behind slot outer named binding name (unsame (is_same slot.variable name) parts.1) (stand name parts.0)))
+      stands-behind slot outer named binding name (not-true (is_same slot.variable name) parts.1) (stand name parts.0)))
     where
-      unsame : (b : Bool) → not b ≡ true → b ≡ false
-      unsame true e = absurd cc
-      unsame false e = refl
-
       by : (a : Bool) → asks slot.variable ≡ a → is_choice (map (λ (slot : Slot). slot.range) (slots_behind asks slot outer)) (values binding (slots_behind asks slot outer)) ≡ true →
           is_choice (map (λ (slot : Slot). slot.range) (slots_with a (slots_behind asks slot outer) slot)) (values binding (slots_with a (slots_behind asks slot outer) slot)) ≡ true
       by true asked rest =

@@ -3,9 +3,10 @@ use Rattle.std.proofs.Common.{◌≡◌, ℕ, suc, ◌+◌, Bool, true, false, n
 use Rattle.std.specs.Prelude.{nat_eq, if◌then◌else◌, unwrap_or, IsSome, IsTrue}
 use Rattle.std.specs.List.{list_all, list_any, flat_map, Contains}
 use Rattle.std.specs.Cmp.Lexicographic.{pointwise}
-use Rattle.std.proofs.lemmas.Bool.{and_parts, and_from}
+use Rattle.std.proofs.lemmas.Bool.{and_parts, and_from, false≢true}
 use Rattle.std.proofs.lemmas.Cmp.{nat_list_eq_equiv}
 use Rattle.std.proofs.Math.Seq.{take-append_seam}
+use Rattle.lists.specs.Members.{is_among}
 use Rattle.planning.specs.Task.{IsFull, Takes, cost, successor}
 use Rattle.runs.specs.Systems.{HasStep}
 use Rattle.planning.specs.Plan.{system}
@@ -34,7 +35,7 @@ use Rattle.normal_task.specs.Meaning.{normal_task, steps_of, atom_of, State, Bin
 use Rattle.normal_task.proofs.Chosen.{is_choice}
 use Rattle.normal_task.specs.Parts.{moved, Part, known}
 use Rattle.normal_task.specs.Normalised.{numbered_atom, parameter_scope, rows_of, action_cost, moved_row, schema, precondition_parts, effect_rows, schemas, made_schemas, made_axioms, made_goal}
-use Rattle.normal_task.specs.Same.{is_among, is_known_atom, Shows}
+use Rattle.normal_task.specs.Same.{is_known_atom, Shows}
 use Rattle.normal_task.proofs.Anys.{any-map, any-same}
 use Rattle.normal_task.proofs.Alls.{all-left, all-right}
 use Rattle.normal_task.proofs.Chosen.{choice-any}
@@ -45,11 +46,11 @@ use Rattle.normal_task.proofs.PartsMean.{some_part, part_met, GivenIn, given-lef
 use Rattle.normal_task.proofs.ConditionsMean.{choices-numbers, ShowsFull, condition-means, named-choice-length}
 use Rattle.normal_task.proofs.Bound.{in-inside, free-bound}
 use Rattle.normal_task.proofs.EffectsMean.{StandAll, effect-means}
-use Rattle.normal_task.proofs.Full.{declared, planning, num, fresh_all, RuleSound, choices-known, chosen, files-full, full-given, given-of_all}
+use Rattle.normal_task.proofs.FullStatesMatch.{declared, planning, num, fresh_all, RuleSound, choices-known, chosen, files-full, full-given, given-of_all}
 use Rattle.normal_task.proofs.Filled.{GoalSound, first_fresh, task-full}
 use Rattle.lists.proofs.Items.{among_contains, contains_among, among_flat_map, flat_map_piece}
 use Rattle.pddl_parser.proofs.Steps.{is_step, in_steps}
-use Rattle.normal_task.proofs.Turns.{turn, origin}
+use Rattle.normal_task.proofs.MadeInTurn.{turn, origin}
 
 -- a choice of two lists of lists falls into a choice of each
 pub record Split (xs ys : List (List ℕ)) (objects : List ℕ) : Type 0 where
@@ -108,11 +109,11 @@ in_normal_steps made step is =
     contains_among (flat_map steps_of made.schemas) step (among_flat_map steps_of step.schema step made.schemas (among_contains made.schemas step.schema is.declared) inside)
 
 -- the name with the number of a name
-pub name-of_number : (names : List Name) (name other : Name) → is_among names name ≡ true → get_or names (number_in names name) other ≡ name
+pub name-of_number : (names : List Name) (name other : Name) → is_among is_same names name ≡ true → get_or names (number_in names name) other ≡ name
 name-of_number [] name other known = absurd cc
 name-of_number (first ∷ names) name other known = by (is_same name first) refl known (name-of_number names name other)
   where
-    by : (here : Bool) → is_same name first ≡ here → (here || is_among names name) ≡ true → (is_among names name ≡ true → get_or names (number_in names name) other ≡ name) →
+    by : (here : Bool) → is_same name first ≡ here → (here || is_among is_same names name) ≡ true → (is_among is_same names name ≡ true → get_or names (number_in names name) other ≡ name) →
         get_or (first ∷ names) (if not (is_same name first) then 1 + number_in names name else 0) other ≡ name
     by true e known rest = ap (λ h. get_or (first ∷ names) (if not h then 1 + number_in names name else 0) other) e ∙ sym (same_name name first e)
     by false e known rest =
@@ -153,9 +154,6 @@ module _ (domain : Domain) (problem : Problem) where
     pub goal : GoalSound domain problem
     pub fit : fresh_fit (declared domain problem) 0 (first_fresh domain problem) ≡ true
 
-  pub nowhere : false ≡ true → ⊥
-  nowhere e = cc
-
   module _ (full : holds.State) (numbered : State) (shows : ShowsFull domain problem full numbered) (action : Action) (sound : ActionSound action) (names : List Name) (among : Among names (pddl.choices domain problem action.parameters)) where
     abbrev named : pddl.Binding
     named = pddl.bound action.parameters names []
@@ -170,7 +168,7 @@ module _ (domain : Domain) (problem : Problem) where
     long = length-map (num domain problem) names ∙ named-choice-length domain problem full numbered shows action.parameters names among
 
     pub stand : StandAll domain problem in_scope (parameter_scope domain problem action.parameters) named binding
-    stand name inside = inside-stands domain problem action.parameters names 0 [] [] [] name refl among (λ unlisted. absurd (nowhere (in-inside action.parameters [] name inside unlisted)))
+    stand name inside = inside-stands domain problem action.parameters names 0 [] [] [] name refl among (λ unlisted. absurd (false≢true (in-inside action.parameters [] name inside unlisted)))
 
     pub rest-mentioned : AreKnown domain problem (in_condition action.precondition ++ in_effect action.effect)
     rest-mentioned = (and_parts (true && true) _ sound.mentioned).1

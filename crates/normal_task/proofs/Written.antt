@@ -1,7 +1,7 @@
 -- What an effect writes is a declared basic atom of declared objects, in the files and in the normal task.
 use Rattle.std.proofs.Common.{◌≡◌, ℕ, ◌+◌, Bool, true, false, not, ◌&&◌, List, [], ◌∷◌, ◌++◌, map, length, refl, sym, ap, ◌∙◌, subst, arith, inl, inr, ◌⊎◌}
 use Rattle.std.specs.List.{list_all, list_any, flat_map}
-use Rattle.std.proofs.lemmas.Bool.{and_parts, and_from, or_cases}
+use Rattle.std.proofs.lemmas.Bool.{and_parts, and_from, or_cases, false≢true, not-true}
 use Rattle.std.proofs.lemmas.List.Folds.{list_any-append}
 use Rattle.pddl_parser.specs.declared.types.Atom.{Atom}
 use Rattle.pddl_parser.specs.declared.types.Domain.{Domain}
@@ -34,7 +34,7 @@ use Rattle.normal_task.proofs.ConditionsMean.{choices-numbers, terms-objects, Sh
 use Rattle.normal_task.proofs.Bound.{in-inside, terms-bound}
 use Rattle.normal_task.proofs.EffectsMean.{StandAll, with_variables-write}
 use Rattle.type_checker.proofs.EffectFolds.{by_folds}
-use Rattle.normal_task.proofs.Law.{same-task_atom}
+use Rattle.normal_task.proofs.StartsAndGoals.{same-task_atom}
 
 module _ (domain : Domain) (problem : Problem) where
   -- the predicates that are written aren't derived
@@ -43,13 +43,6 @@ module _ (domain : Domain) (problem : Problem) where
 
   abbrev pub AreBasic : List Mention → Type 0
   AreBasic mentions = list_all is_basic_mention mentions ≡ true
-
-  unsame : (b : Bool) → not b ≡ true → b ≡ false
-  unsame true e = absurd cc
-  unsame false e = refl
-
-  nowhere : false ≡ true → ⊥
-  nowhere e = cc
 
   -- a declared basic atom of declared objects
   pub record Basic (atom : holds.GroundAtom) : Type 0 where
@@ -71,7 +64,7 @@ module _ (domain : Domain) (problem : Problem) where
       let name = (and_parts (is_declared domain problem atom.predicate.name) true sides.0).0 in
       record {
         known = and_from (is_declared domain problem atom.predicate.name) (list_all (is_known domain problem) (map (holds.object_of named) atom.terms)) name there.1;
-        basic = unsame (holds.is_derived domain atom.predicate.name) (and_parts (not (holds.is_derived domain atom.predicate.name)) true (and_parts (is_basic_mention (Written atom)) true basic).0).0;
+        basic = not-true (holds.is_derived domain atom.predicate.name) (and_parts (not (holds.is_derived domain atom.predicate.name)) true (and_parts (is_basic_mention (Written atom)) true basic).0).0;
       }
 
   module _ (full : holds.State) (numbered : State) (shows : ShowsFull domain problem full numbered) (adds : Bool) where
@@ -117,7 +110,7 @@ module _ (domain : Domain) (problem : Problem) where
         (((atom : holds.GroundAtom) → list_any (λ member. member named atom) (map change members) ≡ true → Basic atom)
         × ((required : List (ℕ → ℕ → Made Part)) (next : ℕ) (target : GroundAtom) →
         task.writes numbered adds (in_turn (map (λ member. member required scope (length binding)) (map (rows_of domain problem) members)) next).items binding target ≡ true → Image target))
-    members-basic [] each mentioned basic names scope named binding unbound stand = ((λ atom some. absurd (nowhere some)), λ required next target some. absurd (nowhere some))
+    members-basic [] each mentioned basic names scope named binding unbound stand = ((λ atom some. absurd (false≢true some)), λ required next target some. absurd (false≢true some))
     members-basic (member ∷ members) each mentioned basic names scope named binding unbound stand =
         let here =
         each.0 (all-left (is_known_mention domain problem) (in_effect member) (flat_map (λ mentions. mentions) (map in_effect members)) mentioned) (all-left is_basic_mention (in_effect member) (flat_map (λ mentions. mentions) (map in_effect members)) basic) names scope named binding
@@ -172,7 +165,7 @@ module _ (domain : Domain) (problem : Problem) where
     -- what an effect writes is basic
     pub effect-basic : (effect : Effect) → Shown effect
     effect-basic = by_folds (Rows domain problem) (pddl.Binding → holds.State) (scopes.Scope → List ℕ) (List Mention) (row_step domain problem) (step.writes_step domain problem full adds) scopes.effect_step effect_step WritesBasic record {
-      at_nothing = λ line mentioned basic names scope named binding unbound stand. ((λ atom some. absurd (nowhere some)), λ required next target some. absurd (nowhere some));
+      at_nothing = λ line mentioned basic names scope named binding unbound stand. ((λ atom some. absurd (false≢true some)), λ required next target some. absurd (false≢true some));
       at_add = λ atom mentioned basic names scope named binding unbound stand. atom-basic true atom adds mentioned basic names scope named binding unbound stand;
       at_delete = λ atom mentioned basic names scope named binding unbound stand. atom-basic false atom (not adds) mentioned basic names scope named binding unbound stand;
       at_and = λ members line held mentioned basic names scope named binding unbound stand. members-basic members held mentioned basic names scope named binding unbound stand;
@@ -182,5 +175,5 @@ module _ (domain : Domain) (problem : Problem) where
           (right_empty (scopes.in_condition condition names) (scopes.in_effect inside names) unbound) stand in
           ((λ atom some. rest.0 atom (and_parts (holds.holds domain problem full condition named) (change inside named atom) some).1), λ required next target some. rest.1 _ next target some);
       at_forall = forall-basic;
-      at_increase = λ term cost line mentioned basic names scope named binding unbound stand. ((λ atom some. absurd (nowhere some)), λ required next target some. absurd (nowhere some));
+      at_increase = λ term cost line mentioned basic names scope named binding unbound stand. ((λ atom some. absurd (false≢true some)), λ required next target some. absurd (false≢true some));
     }

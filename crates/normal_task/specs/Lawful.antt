@@ -1,7 +1,6 @@
 -- When a normal task is lawful: its numbers are positions, its atoms have the arities of their predicates, and no derived predicate depends on itself.
-use Rattle.std.specs.Prelude.{◌≡◌, ℕ, ◌+◌, Bool, true, false, not, ◌&&◌, ◌||◌, ◌==◌, nat_eq, nat_lt, nat_le, List, [], ◌∷◌, length, Option, Some, None, slice_get}
+use Rattle.std.specs.Prelude.{◌≡◌, ℕ, ◌+◌, Bool, true, false, not, ◌&&◌, ◌||◌, ◌==◌, nat_lt, nat_le, List, [], ◌∷◌, length, Option, Some, None, slice_get}
 use Rattle.std.specs.List.{list_all, list_any}
-use Rattle.std.specs.Cmp.Lexicographic.{pointwise}
 use Rattle.pddl_parser.specs.Words.{Name}
 use Rattle.normal_task.specs.declared.task.AxiomRow.{AxiomRow}
 use Rattle.normal_task.specs.declared.task.CostRow.{CostRow}
@@ -16,7 +15,7 @@ use Rattle.normal_task.specs.declared.task.Place.TheVariants.{Variable, Object}
 use Rattle.normal_task.specs.declared.task.PredicateRow.{PredicateRow}
 use Rattle.normal_task.specs.declared.task.Schema.{Schema}
 use Rattle.normal_task.specs.declared.task.ValueRow.{ValueRow}
-use Rattle.normal_task.specs.Meaning.{is_derived, is_same_atom}
+use Rattle.normal_task.specs.Meaning.{is_derived, is_same_atom, is_same_value}
 
 -- the greatest cost or value
 abbrev pub most : ℕ
@@ -95,9 +94,6 @@ module _ (task : Normal) where
   abbrev pub is_value : ValueRow → Bool
   is_value row = list_all is_object row.objects && nat_le row.value most
 
-  abbrev pub has_same_term : ValueRow → ValueRow → Bool
-  has_same_term a b = nat_eq a.function b.function && pointwise nat_eq a.objects b.objects
-
   -- the literal asks for no derived predicate, or for one of a lower rank
   abbrev pub is_below : (ℕ → ℕ) → ℕ → Literal → Bool
   is_below rank predicate (Holds positive other places) = not (is_derived task other) || nat_lt (rank other) (rank predicate)
@@ -111,7 +107,7 @@ module _ (task : Normal) where
     pub init : list_all is_init task.init ≡ true
     pub init_once : differ is_same_atom task.init ≡ true
     pub values : list_all is_value task.values ≡ true
-    pub values_once : differ has_same_term task.values ≡ true
+    pub values_once : differ is_same_value task.values ≡ true
     pub goal : list_all (is_literal 0) task.goal ≡ true
     -- no derived predicate depends on itself: some rank falls from each axiom's predicate to those that its condition asks for
     pub rank : ℕ → ℕ

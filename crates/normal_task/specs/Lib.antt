@@ -6,3 +6,4 @@ pub mod Lawful
 pub mod Within
 pub mod Same
 pub mod Keys
+pub mod Refused

@@ -48,10 +48,10 @@ object_at binding (Object object) = object
 abbrev pub objects_at : Binding → List Place → List ℕ
 objects_at binding places = map (object_at binding) places
 
--- every list with one object of each list
-abbrev pub choices : List (List ℕ) → List (List ℕ)
+-- every list with one item of each list
+abbrev pub choices : {A : Type 0} → List (List A) → List (List A)
 choices [] = [] ∷ []
-choices (objects ∷ more) = flat_map (λ object. map (λ others. object ∷ others) (choices more)) objects
+choices (items ∷ more) = flat_map (λ item. map (λ others. item ∷ others) (choices more)) items
 
 -- ---- conditions
 
@@ -94,6 +94,10 @@ abbrev pub writes : State → Bool → List EffectRow → Binding → State
 writes full adds rows binding atom = list_any (row_writes full adds binding atom) rows
 
 -- ---- costs
+
+-- values of one function, for the same objects
+abbrev pub is_same_value : ValueRow → ValueRow → Bool
+is_same_value a b = nat_eq a.function b.function && pointwise nat_eq a.objects b.objects
 
 -- the value of the function for the objects, or None where it has none
 abbrev pub value_in : List ValueRow → ℕ → List ℕ → Option ℕ

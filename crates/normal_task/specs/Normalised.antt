@@ -1,6 +1,5 @@
 -- The normal task of a domain and a problem (Helmert 2009, section 4).
-use Rattle.std.specs.Prelude.{ℕ, suc, ◌+◌, Bool, true, false, not, ◌&&◌, nat_eq, ◌==◌, List, [], ◌∷◌, ◌++◌, map, length, codes, if◌then◌else◌}
-use Rattle.std.specs.Cmp.Lexicographic.{pointwise}
+use Rattle.std.specs.Prelude.{ℕ, suc, ◌+◌, Bool, true, false, not, ◌&&◌, ◌==◌, List, [], ◌∷◌, ◌++◌, map, length, codes, if◌then◌else◌}
 use Rattle.std.specs.Fmt.{decimal}
 use Rattle.std.specs.List.{list_any, flat_map}
 use Rattle.pddl_parser.specs.declared.types.Action.{Action}
@@ -31,7 +30,7 @@ use Rattle.normal_task.specs.declared.task.PredicateRow.{PredicateRow}
 use Rattle.normal_task.specs.declared.task.Schema.{Schema}
 use Rattle.normal_task.specs.declared.task.ValueRow.{ValueRow}
 use Rattle.normal_task.specs.Numbers.{object_names, object_number, predicate_number, function_number, ranges_of}
-use Rattle.normal_task.specs.Meaning.{is_same_atom}
+use Rattle.normal_task.specs.Meaning.{is_same_atom, is_same_value}
 use Rattle.normal_task.specs.Parts.{Scope, Part, Fresh, Made, in_turn, all_of, moved_place, moved, scope_inside, places_of, fresh_number, parts}
 
 module _ (domain : Domain) (problem : Problem) where
@@ -198,9 +197,6 @@ module _ (domain : Domain) (problem : Problem) where
         value = value;
       }
       ∷ []
-
-  abbrev pub is_same_value : ValueRow → ValueRow → Bool
-  is_same_value a b = nat_eq a.function b.function && pointwise nat_eq a.objects b.objects
 
   -- ---- predicates
 

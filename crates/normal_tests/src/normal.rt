@@ -84,6 +84,19 @@ action go 0: +1(#2) +2() costs 1
  add 1(#0):
 goal: +0(#2) +3()",
     ),
+    // The variables of a part stand behind those of an axiom's head, which alone are shown.
+    (
+        "(define (domain joined) (:types t) (:predicates (r ?x ?y) (d ?x ?y))
+ (:derived (d ?x - t ?y) (or (r ?x ?y) (exists (?z - t) (and (r ?x ?z) (r ?z ?y)))))
+ (:action set :parameters (?x ?y) :effect (r ?x ?y)))",
+        "(define (problem j) (:domain joined) (:objects a b - object c - t) (:init) (:goal (d c a)))",
+        "predicates r/2 d/2:derived
+action set 2 { 0 1 2 } { 0 1 2 }: costs 1
+ add 0(?0?1):
+axiom 1 2 { 2 } { 0 1 2 }: +0(?0?1)
+axiom 1 2 { 2 } { 0 1 2 } { 2 }: +0(?0?2) +0(?2?1)
+goal: +1(#2#0)",
+    ),
 ];
 
 #[test]
@@ -141,6 +154,12 @@ axiom 3 0 { 0 1 2 }: -0(?0)",
     ),
     // ---- parts
     (
+        ":precondition (not (and (p a) (q)))",
+        "",
+        "action go 0: -0(#0) costs 1
+action go 0: -1() costs 1",
+    ),
+    (
         ":precondition (and (or (p a) (p b)) (imply (q) (p c)))",
         "",
         "action go 0: +0(#0) -1() costs 1
@@ -173,6 +192,32 @@ action go 0 { 0 1 2 }: +0(?0) costs 1",
 action go 1 { 0 1 2 } { 2 } { 0 1 2 }: +1() +0(?0) +2(?1?0) +2(?2?0) +1() costs 1",
     ),
     // ---- effects
+    (
+        ":parameters (?x) :effect (when (r ?x a) (not (p ?x)))",
+        "",
+        "action go 1 { 0 1 2 }: costs 1
+ del 0(?0): +2(?0#0)",
+    ),
+    // What holds before the action is its effect's condition, also where the action deletes it.
+    (
+        ":effect (and (not (p a)) (when (p a) (q)))",
+        "",
+        "action go 0: costs 1
+ del 0(#0):
+ add 1(): +0(#0)",
+    ),
+    (
+        ":parameters (?x) :effect (forall (?y - t) (forall (?z) (when (r ?x ?z) (r ?z ?y))))",
+        "",
+        "action go 1 { 0 1 2 }: costs 1
+ add 2(?2?1) { 2 } { 0 1 2 }: +2(?0?2)",
+    ),
+    (
+        ":parameters (?x) :effect (forall (?x - t) (forall (?x) (p ?x)))",
+        "",
+        "action go 1 { 0 1 2 }: costs 1
+ add 0(?2) { 2 } { 0 1 2 }:",
+    ),
     // A condition is cut for each atom by itself, with new predicates of its own.
     (
         ":effect (when (forall (?x) (p ?x)) (and (q) (not (p a))))",

@@ -14,11 +14,11 @@ use Rattle.normal_task.specs.declared.task.Normal.{Normal}
 use Rattle.normal_task.specs.declared.task.PredicateRow.{PredicateRow}
 use Rattle.normal_task.specs.declared.task.Schema.{Schema}
 use Rattle.normal_task.specs.declared.task.ValueRow.{ValueRow}
-use Rattle.normal_task.specs.Meaning.{is_same_atom}
+use Rattle.normal_task.specs.Meaning.{is_same_atom, is_same_value}
 use Rattle.normal_task.specs.Numbers.{object_names}
 use Rattle.normaliser.specs.declared.normal.MadeAll.{MadeAll}
 use Rattle.normaliser.specs.WholeTask.{IsMadeAll, goal_from}
-use Rattle.normal_task.specs.Normalised.{schemas, axiom_rows, made_schemas, made_axioms, after_schemas, after_axioms, made_goal, all_fresh, declared_row, fresh_predicates, fresh_rows, once_after, stated, value_row, is_same_value, normal}
+use Rattle.normal_task.specs.Normalised.{schemas, axiom_rows, made_schemas, made_axioms, after_schemas, after_axioms, made_goal, all_fresh, declared_row, fresh_predicates, fresh_rows, once_after, stated, value_row, normal}
 use Rattle.normal_task.specs.declared.parts.Fresh.{Fresh}
 use Rattle.normal_task.specs.Parts.{Made, in_turn}
 
@@ -60,7 +60,7 @@ module _ (domain : Domain) (problem : Problem) where
       (schema_items : List Schema) → schema_items ≡ (made_schemas domain problem).items →
       (axioms axiom_items : List AxiomRow) (fresh' : List Fresh) → fresh' ≡ all_fresh domain problem → axiom_items ≡ (made_axioms domain problem).items → axioms ≡ axiom_items ++ fresh_rows domain problem 0 fresh' →
       (entries : List Init) → entries ≡ problem.init → (init : List GroundAtom) → init ≡ once_after domain problem is_same_atom [] (flat_map (stated domain problem) entries) →
-      (values : List ValueRow) → values ≡ once_after domain problem (is_same_value domain problem) [] (flat_map (value_row domain problem) entries) →
+      (values : List ValueRow) → values ≡ once_after domain problem is_same_value [] (flat_map (value_row domain problem) entries) →
       (goal_literals : List Literal) → goal_literals ≡ (made_goal domain problem).items → (metric : Bool) → metric ≡ problem.metric →
       (record { objects = names; predicates = predicates; schemas = schema_items; axioms = axioms; init = init; values = values; goal = goal_literals; metric = metric }) ≡ normal domain problem
   normal-is names names_are predicates fresh fresh_is predicates_are schema_items schemas_are axioms axiom_items fresh' fresh_is' axiom_items_are axioms_are entries entries_are init init_is values values_are goal_literals goal_is metric metric_is =
@@ -70,8 +70,8 @@ module _ (domain : Domain) (problem : Problem) where
       axioms_are ∙ ap (λ (l : List AxiomRow). l ++ fresh_rows domain problem 0 fresh') axiom_items_are ∙ ap (λ (l : List Fresh). (made_axioms domain problem).items ++ fresh_rows domain problem 0 l) fresh_is' in
       let init_same : init ≡ once_after domain problem is_same_atom [] (flat_map (stated domain problem) problem.init) =
       init_is ∙ ap (λ (l : List Init). once_after domain problem is_same_atom [] (flat_map (stated domain problem) l)) entries_are in
-      let values_same : values ≡ once_after domain problem (is_same_value domain problem) [] (flat_map (value_row domain problem) problem.init) =
-      values_are ∙ ap (λ (l : List Init). once_after domain problem (is_same_value domain problem) [] (flat_map (value_row domain problem) l)) entries_are in
+      let values_same : values ≡ once_after domain problem is_same_value [] (flat_map (value_row domain problem) problem.init) =
+      values_are ∙ ap (λ (l : List Init). once_after domain problem is_same_value [] (flat_map (value_row domain problem) l)) entries_are in
       joined names_are predicates_same schemas_are axioms_same init_same values_same goal_is metric_is
     where
       joined : {n n' : List Name} {p p' : List PredicateRow} {s s' : List Schema} {a a' : List AxiomRow} {i i' : List GroundAtom} {v v' : List ValueRow} {g g' : List Literal} {m m' : Bool} →

@@ -3,6 +3,7 @@ ghost use Rattle.std.specs.Prelude.{◌≡◌, ◌++◌, [], map, true, IfOk, On
 ghost use Rattle.pddl_parser.specs.Objects.{objects};
 ghost use Rattle.normaliser.specs.WholeTask.{IsMadeAll, goal_from};
 ghost use Rattle.normal_rows.specs.MadeThings.{IsMadeOf};
+ghost use Rattle.normal_task.specs.Lawful.{IsLawful};
 ghost use Rattle.normal_task.specs.Normalised as spec;
 ghost use Rattle.normal_task.specs.Numbers as numbers;
 
@@ -11,6 +12,7 @@ use crate::goal::goal_of;
 use action_schemas::{Here, cut, schemas_of};
 use lists::{List, Text};
 use normal_rows::{Made, joined_lists};
+use normal_task::laws::lawful;
 use normal_task::{AxiomRow, Fresh, Literal, Normal, Schema};
 use numbering::{Numbering, predicate_rows, stated_atoms, stated_values, sum};
 use pddl_parser::Typed;
@@ -139,12 +141,22 @@ fn numbered(alloc: Global, numbering: &Numbering<'_>) -> Result<Normal, AllocErr
     normal_of(alloc, numbering, made)
 }
 
+/// The normal task of the checked pair is lawful.
+fn lawful_task(task: &Checked)
+    ensures { IsLawful (spec.normal task.now.domain task.now.problem) }
+{
+    lawful();
+    task.domain();
+}
+
 /// The normal task of the two files (Helmert 2009, section 4): objects and predicates become numbers, and conditions,
 /// effects and axioms become lists of literals, with a new derived predicate for each `forall`. The only error is want
 /// of memory, also where numbers would exceed a `u64`.
 pub fn normalise(alloc: Global, task: &Checked) -> Result<Normal, AllocError>
-    ensures { IfOk result (λ normal. normal ≡ spec.normal task.now.domain task.now.problem) }
+    ensures normal { IfOk result (λ normal. normal ≡ spec.normal task.now.domain task.now.problem) }
+    ensures lawful { IfOk result IsLawful }
 {
+    lawful_task(task);
     let numbering = Numbering::of(alloc, task)?;
     numbered(alloc, &numbering)
 }

@@ -6,7 +6,7 @@ ghost use Rattle.names.specs.Names.{is_same};
 ghost use Rattle.normal_task.specs.declared.task.GroundAtom as atom_type;
 ghost use Rattle.normal_task.specs.declared.task.ValueRow as row_type;
 ghost use Rattle.normal_task.specs.Keys.{atom_key, value_key};
-ghost use Rattle.normal_task.specs.Meaning.{is_same_atom};
+ghost use Rattle.normal_task.specs.Meaning.{is_same_atom, is_same_value};
 ghost use Rattle.normal_task.specs.Normalised as spec;
 ghost use Rattle.normal_task.specs.Numbers.{function_number, object_number};
 
@@ -153,8 +153,8 @@ fn push_value(
     numbering: &Numbering<'_>,
     entry: &Init,
 ) -> Result<(), AllocError>
-    ensures { (so_far : Items row_type.ValueRow) → keys.old ≡ map value_key rows.old.items → rows.old.items ≡ spec.once_after numbering.now.domain numbering.now.problem (spec.is_same_value numbering.now.domain numbering.now.problem) [] so_far →
-        OnOk result ((keys.new ≡ map value_key rows.new.items) × (rows.new.items ≡ spec.once_after numbering.now.domain numbering.now.problem (spec.is_same_value numbering.now.domain numbering.now.problem) [] (so_far ++ spec.value_row numbering.now.domain numbering.now.problem entry.now))) }
+    ensures { (so_far : Items row_type.ValueRow) → keys.old ≡ map value_key rows.old.items → rows.old.items ≡ spec.once_after numbering.now.domain numbering.now.problem is_same_value [] so_far →
+        OnOk result ((keys.new ≡ map value_key rows.new.items) × (rows.new.items ≡ spec.once_after numbering.now.domain numbering.now.problem is_same_value [] (so_far ++ spec.value_row numbering.now.domain numbering.now.problem entry.now))) }
 {
     match entry {
         Init::Value(term, value, _) => {
@@ -176,7 +176,7 @@ pub fn stated_values(
     numbering: &Numbering<'_>,
     entries: &[Init],
 ) -> Result<List<ValueRow>, AllocError>
-    ensures { IfOk result (λ rows. rows ≡ spec.once_after numbering.now.domain numbering.now.problem (spec.is_same_value numbering.now.domain numbering.now.problem) [] (flat_map (spec.value_row numbering.now.domain numbering.now.problem) entries.now)) }
+    ensures { IfOk result (λ rows. rows ≡ spec.once_after numbering.now.domain numbering.now.problem is_same_value [] (flat_map (spec.value_row numbering.now.domain numbering.now.problem) entries.now)) }
 {
     let mut keys = Keys::new(alloc);
     let mut rows = Vec::new(alloc);

@@ -1,8 +1,10 @@
+-- laws, which other crates may cite
 pub mod Places
+pub mod Lowered
+-- lemmas of this crate
 mod Building
-mod Lowered
 mod Reading
-mod Turns
+mod ReaderTurns
 mod Unique
 mod Examples
 mod Spelled

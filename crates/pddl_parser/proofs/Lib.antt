@@ -1,23 +1,26 @@
-pub mod Places
-pub mod Rows
-pub mod OwnFaults
-pub mod Digits
-pub mod Groups
-pub mod Readings
-pub mod Nested
-pub mod NestedEffects
-pub mod Keys
-pub mod Heads
-pub mod Initials
-pub mod Sections
+-- laws, which other crates may cite
 pub mod ConditionCases
 pub mod EffectCases
 pub mod SameAtoms
-pub mod Written
-pub mod IdleSteps
 pub mod TypeChains
-pub mod Given
-pub mod Spelling
-pub mod Numbers
-pub mod WellSpelled
 pub mod Steps
+-- lemmas of this crate
+mod Places
+mod Rows
+mod OwnFaults
+mod Digits
+mod Groups
+mod Readings
+mod Nested
+mod NestedEffects
+mod Keys
+mod Heads
+mod Initials
+mod Sections
+mod Written
+mod IdleSteps
+mod Given
+mod Spelling
+mod Numbers
+mod WellSpelled
+mod WorkedPair

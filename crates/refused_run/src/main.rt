@@ -1,4 +1,4 @@
-//! A stored run of the translator on a pair of files with a fault.
+//! A stored run of the translator on words of which one is no UTF-8.
 #![tactic(auto)]
 
 use translator::{Ended, run};

@@ -1,8 +1,8 @@
 -- The reached task of a lawful ground task is lawful: what the ground task's law says, part by part.
-use Rattle.std.proofs.Common.{◌≡◌, ℕ, ◌<◌, Bool, true, false, not, ◌&&◌, ◌||◌, nat_lt, nat_le, nat_eq, List, [], map, length, Option, Some, None, refl, sym, ap, ◌∙◌, subst}
+use Rattle.std.proofs.Common.{◌≡◌, ℕ, Bool, true, false, not, ◌&&◌, ◌||◌, nat_le, nat_eq, List, [], map, length, Option, Some, None, refl, sym, ap, ◌∙◌, subst}
 use Rattle.std.specs.List.{list_all, slice_get}
 use Rattle.std.specs.Option.{option_map, option_map_or, unwrap_or}
-use Rattle.std.proofs.lemmas.Bool.{and_parts, true≢false, not-true, leb-true, ltb-true, eqb-true}
+use Rattle.std.proofs.lemmas.Bool.{and_parts, true≢false, not-true, leb-true, eqb-true}
 use Rattle.std.proofs.lemmas.Option.{slice_get_within, get_or_from_slice_get}
 use Rattle.lists.proofs.Items.{Among, among_contains, among_at, map_source, all_passes}
 use Rattle.normal_task.specs.declared.task.GroundAtom.{GroundAtom}
@@ -13,10 +13,10 @@ use Rattle.static_matcher.specs.declared.types.GroundAction.{GroundAction}
 use Rattle.static_matcher.specs.declared.types.GroundAxiom.{GroundAxiom}
 use Rattle.static_matcher.specs.declared.types.GroundEffect.{GroundEffect}
 use Rattle.static_matcher.specs.GroundTask.{is_derived, effect_row, action_row, axiom_row, ground_task}
-use Rattle.static_matcher.specs.Lawful.{is_name, is_object, is_predicate, is_atom, is_basic_atom, is_derived_atom, is_condition, is_effect, is_cost, is_action, is_axiom, is_below, asks_below, IsLawful as IsLawfulGround}
+use Rattle.static_matcher.specs.Lawful.{is_name, is_object, is_predicate, is_atom, is_basic_atom, is_derived_atom, is_condition, is_effect, is_cost, is_action, is_axiom, IsLawful as IsLawfulGround}
 use Rattle.static_matcher.specs.Literals.{EffectRow, ActionRow, AxiomRow}
-use Rattle.static_matcher.specs.Ranked.{IsRanked}
 use Rattle.static_matcher.proofs.AtomKinds.{HasKinds}
+use Rattle.static_matcher.proofs.LawfulRanks.{lawful_ranks}
 use Rattle.relaxed_reach.specs.declared.types.Reached.{Reached}
 use Rattle.relaxed_reach.specs.Reachable.{predicate_name, IsClosed, IsReachedTask}
 use Rattle.relaxed_reach.specs.Lawful.{IsLawful}
@@ -104,34 +104,6 @@ module _ (task : Ground) (lawful : IsLawfulGround task) where
         subst (λ (r : AxiomRow GroundAtom). is_derived task.normal_predicates r.atom ≡ true) from.gives (derived from.source.atom (axiom_derived from.source from.among));
   }
 
-  -- ---- ranks
-
-  lower : (predicate : ℕ) (atoms : List GroundAtom) → list_all (is_below task lawful.rank predicate) atoms ≡ true → (atom : GroundAtom) → Among atom atoms → is_derived task.normal_predicates atom ≡ true → lawful.rank atom.predicate < lawful.rank predicate
-  lower predicate atoms all atom among is = by (is_derived task.normal_predicates atom) is (all_passes (is_below task lawful.rank predicate) atom atoms among all)
-    where
-      by : (b : Bool) → b ≡ true → (not b || nat_lt (lawful.rank atom.predicate) (lawful.rank predicate)) ≡ true → lawful.rank atom.predicate < lawful.rank predicate
-      by true is below = ltb-true (lawful.rank atom.predicate) (lawful.rank predicate) below
-      by false is below = absurd (true≢false (sym is))
-
-  pub ranked : IsRanked (ground_task task)
-  ranked = record {
-    rank = λ atom. lawful.rank atom.predicate;
-    positive = λ row in' atom in_atom is.
-        let from = map_source axiom_row task.axioms row (among_contains (map axiom_row task.axioms) row in') in
-        let asks = and_parts (list_all (is_below task lawful.rank from.source.atom.predicate) from.source.condition.positive) (list_all (is_below task lawful.rank from.source.atom.predicate) from.source.condition.negative)
-        (all_passes (asks_below task lawful.rank) from.source task.axioms from.among lawful.falls) in
-        subst (λ (r : AxiomRow GroundAtom). lawful.rank atom.predicate < lawful.rank r.atom.predicate) from.gives
-        (lower from.source.atom.predicate from.source.condition.positive asks.0 atom
-        (subst (λ (r : AxiomRow GroundAtom). Among atom r.condition.positive) (sym from.gives) (among_contains row.condition.positive atom in_atom)) is);
-    negative = λ row in' atom in_atom is.
-        let from = map_source axiom_row task.axioms row (among_contains (map axiom_row task.axioms) row in') in
-        let asks = and_parts (list_all (is_below task lawful.rank from.source.atom.predicate) from.source.condition.positive) (list_all (is_below task lawful.rank from.source.atom.predicate) from.source.condition.negative)
-        (all_passes (asks_below task lawful.rank) from.source task.axioms from.among lawful.falls) in
-        subst (λ (r : AxiomRow GroundAtom). lawful.rank atom.predicate < lawful.rank r.atom.predicate) from.gives
-        (lower from.source.atom.predicate from.source.condition.negative asks.1 atom
-        (subst (λ (r : AxiomRow GroundAtom). Among atom r.condition.negative) (sym from.gives) (among_contains row.condition.negative atom in_atom)) is);
-  }
-
   -- ---- names of facts
 
   -- the atom's predicate has a name that is a word
@@ -159,5 +131,5 @@ module _ (task : Ground) (lawful : IsLawfulGround task) where
 
   pub lawful_reached : (reached : Reached) → IsReachedTask task reached → IsLawful reached
   lawful_reached reached is =
-      lawful_if task reached is ranked kinds paid lawful.init_once (λ atom among.
+      lawful_if task reached is (lawful_ranks task lawful) kinds paid lawful.init_once (λ atom among.
       shown_is_name task atom lawful.objects (is.reachable.least.least (λ atom. is_word (predicate_name task atom.predicate)) closed atom (from_in is.atoms atom among)))

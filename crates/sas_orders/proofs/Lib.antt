@@ -1,1 +1,4 @@
 mod Compared
+-- laws, which other crates may cite
+pub mod InOrder
+pub mod Sorted

@@ -1,8 +1,12 @@
 -- A task stands for itself, and what stands for one that stands for a third stands for the third.
-use Rattle.std.proofs.Common.{ℕ, ◌≤◌, List, [], ◌∷◌, arith}
-use Rattle.sas_task.specs.Task.{Task}
+use Rattle.std.proofs.Common.{ℕ, ◌≤◌, Bool, List, [], ◌∷◌, map, filter, sum, subst, arith}
 use Rattle.runs.specs.Runs.{IsSubsequence, Done, Keep, Skip}
-use Rattle.sas_task.specs.Keeps.{Keeps}
+use Rattle.runs.specs.Systems.{IsFollowed, IsFollowedWhere}
+use Rattle.runs.proofs.Systems.{run_follows, part_follows, part_names, part_cost}
+use Rattle.sas_task.specs.declared.parts.Operator.{Operator}
+use Rattle.sas_task.specs.Task.{Task}
+use Rattle.sas_task.specs.Solution.{cost_in, system}
+use Rattle.sas_task.specs.Keeps.{IsSound, Keeps}
 
 whole : (xs : List (List ℕ)) → IsSubsequence xs xs
 whole [] = Done
@@ -37,4 +41,19 @@ keeps_through a b c first second =
             solution = two.solution;
           };
       sound = λ is. second.sound (first.sound is);
+    }
+
+-- a task may stand for one whose steps it follows, but for those that are left out, and whose steps follow its own
+pub keeps_by_steps : (old new : Task) (passes : Operator → Bool) (Related : List ℕ → List ℕ → Type 0) → IsFollowedWhere (system old) (system new) passes Related → IsFollowed (system new) (system old) (λ t s. Related s t) → (IsSound old → IsSound new) → Keeps old new
+keeps_by_steps old new passes Related forth back sound =
+    record {
+      no_more = run_follows (system new) (system old) (λ t s. Related s t) back;
+      no_less = λ names cost has. record {
+        names' = map (λ (o : Operator). o.name) (filter passes has.steps);
+        cost' = sum (map (cost_in old) (filter passes has.steps));
+        shorter = subst (IsSubsequence (map (λ (o : Operator). o.name) (filter passes has.steps))) has.same_names (part_names passes (λ (o : Operator). o.name) has.steps);
+        no_dearer = subst (λ c. sum (map (cost_in old) (filter passes has.steps)) ≤ c) has.same_cost (part_cost passes (cost_in old) has.steps);
+        solution = part_follows (system old) (system new) passes Related forth has.steps has.end has.leads has.meets;
+      };
+      sound = sound;
     }

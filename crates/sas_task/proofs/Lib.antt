@@ -1,8 +1,8 @@
-pub mod Members
+pub mod ValidParts
 pub mod Completion
 pub mod Successors
 pub mod States
-mod KeepsLaws
+pub mod KeepsLaws
 mod Checks
 mod Steps
 mod Tells

@@ -166,8 +166,22 @@ impl SasTask {
         self.rules.as_slice().len() as u64
     }
 
+    /// The mutex groups, in order.
+    pub fn group_slice(&self) -> &[Group]
+        ensures { result.now ≡ self.now.groups }
+    {
+        self.groups.as_slice()
+    }
+
+    /// The operators, in order.
+    pub fn operator_slice(&self) -> &[Operator]
+        ensures { result.now ≡ self.now.operators }
+    {
+        self.operators.as_slice()
+    }
+
     /// The rules, in order.
-    pub(crate) fn rule_slice(&self) -> &[Rule]
+    pub fn rule_slice(&self) -> &[Rule]
         ensures { result.now ≡ self.now.rules }
     {
         self.rules.as_slice()

@@ -1,2 +1,2 @@
-pub mod Pieces
-pub mod Searches
+mod Pieces
+mod Searches

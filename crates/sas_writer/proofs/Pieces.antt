@@ -1,13 +1,13 @@
 -- Pieces of lines, appended one after another.
 use Rattle.std.proofs.Common.{◌≡◌, ℕ, zero, suc, ◌+◌, ◌^◌, ◌<◌, List, [], ◌∷◌, ◌++◌, length, get_or, take, Some, sym, ap, ◌∙◌, subst, append_assoc, append-nil, arith}
 use Rattle.std.specs.List.{flat_map, slice_get, enumerate_from}
-use Rattle.std.proofs.lemmas.List.{take_more}
 use Rattle.std.proofs.lemmas.List.Concat.{flat_map-append}
 use Rattle.std.proofs.lemmas.List.FromFn.{length-enumerate_from, get_or-enumerate_from}
 use Rattle.std.proofs.lemmas.Option.{slice_get_within, slice_get-get_or, get_or_from_slice_get}
-use Rattle.sas_task.specs.declared.parts.Variable.{Variable}
 use Rattle.std.proofs.lemmas.Fmt.{decimal-digits_of, decimal_digit}
 use Rattle.std.specs.Fmt.{decimal}
+use Rattle.lists.proofs.LoopSteps.{flat_map_got}
+use Rattle.sas_task.specs.declared.parts.Variable.{Variable}
 use Rattle.sas_task.specs.Output.{Line, bytes_of, numeral, spaced}
 
 -- what a number below 2^64 is printed as
@@ -20,17 +20,10 @@ pub then_lines : (a b : List Line) (out out1 out2 : List ℕ) → out1 ≡ out +
 then_lines a b out out1 out2 first second =
     second ∙ ap (λ o. o ++ bytes_of b) first ∙ append_assoc out (bytes_of a) (bytes_of b) ∙ ap (λ o. out ++ o) (sym (flat_map-append (λ line. line ++ 10 ∷ []) a b))
 
--- the flat_map of one more item
-pub flat_map_next : {X Y : Type 0} (f : X → List Y) (xs : List X) (i : ℕ) (x : X) → slice_get xs i ≡ Some x → flat_map f (take (i + 1) xs) ≡ flat_map f (take i xs) ++ f x
-flat_map_next f xs i x at =
-    ap (flat_map f) (take_more xs i x (slice_get_within xs i x at) ∙ ap (λ y. take i xs ++ y ∷ []) (get_or_from_slice_get xs i x x at))
-    ∙ flat_map-append f (take i xs) (x ∷ [])
-    ∙ ap (λ l. flat_map f (take i xs) ++ l) (append-nil (f x))
-
 -- the lines of one more item
 pub next_lines : {X : Type 0} (lines : X → List Line) (xs : List X) (i : ℕ) (x : X) (out out1 out2 : List ℕ) → slice_get xs i ≡ Some x → out1 ≡ out ++ bytes_of (flat_map lines (take i xs)) → out2 ≡ out1 ++ bytes_of (lines x) → out2 ≡ out ++ bytes_of (flat_map lines (take (i + 1) xs))
 next_lines lines xs i x out out1 out2 at first second =
-    then_lines (flat_map lines (take i xs)) (lines x) out out1 out2 first second ∙ ap (λ l. out ++ bytes_of l) (sym (flat_map_next lines xs i x at))
+    then_lines (flat_map lines (take i xs)) (lines x) out out1 out2 first second ∙ ap (λ l. out ++ bytes_of l) (sym (flat_map_got lines xs i x at))
 
 -- each word with a space before it
 abbrev pub after_spaces : List Line → List ℕ

@@ -1,5 +1,5 @@
 -- What a binary search finds in a list that is sorted.
-use Rattle.std.proofs.Common.{◌≡◌, ℕ, ◌+◌, ◌<◌, ◌≤◌, false, ◌||◌, cond, eqb, List, [], ◌∷◌, length, map, get_or, Some, None, Result, Ok, Err, refl, sym, ap, ◌∙◌, subst, inl, inr, arith}
+use Rattle.std.proofs.Common.{◌≡◌, ℕ, ◌+◌, ◌<◌, ◌≤◌, false, cond, eqb, List, length, map, get_or, Some, None, Result, Ok, Err, sym, ap, ◌∙◌, subst, inl, inr, arith}
 use Rattle.std.specs.Prelude.{is_ok}
 use Rattle.std.specs.List.{list_any, find, slice_get}
 use Rattle.std.specs.List.Sorted.{IsNonDecreasing, IsStrictlyIncreasing, IsBinarySearchResult, IsNonDecreasingBy}
@@ -30,11 +30,6 @@ found_is_any xs x (Err i) search up =
           | inl before ↦ let l : get_or xs k 0 < x = at.1 k before in absurd (omega arith)
           | inr after ↦ let l : x < get_or xs k 0 = at.2 k after below in absurd (omega arith)
         ])
-
--- some number of the list is x exactly where some item gives it
-pub list_any-map : {X : Type 0} (f : X → ℕ) (x : ℕ) (xs : List X) → list_any (λ v. eqb v x) (map f xs) ≡ list_any (λ y. eqb (f y) x) xs
-list_any-map f x [] = refl
-list_any-map f x (y ∷ xs) = ap (λ b. eqb (f y) x || b) (list_any-map f x xs)
 
 -- pairs that are sorted by variable
 module _ (pairs : List Pair) (var : ℕ) (sorted : IsStrictlyIncreasing (map (λ p. p.var) pairs)) where

@@ -1,14 +1,5 @@
-mod Lists
-mod Sorted
-mod Turns
+mod MarkTurns
 mod Searched
-mod Exact
-mod NewNumbers
-mod KeptValues
-mod Mirror
-mod Seen
-mod Shape
-mod Instance
-mod Validity
-mod Assembled
+mod Projected
 mod OneProjection
+mod Staying

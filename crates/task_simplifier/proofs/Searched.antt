@@ -4,37 +4,34 @@ use Rattle.std.specs.Prelude.{IsSomeAnd}
 use Rattle.std.specs.List.{Contains, slice_get, range_with_len}
 use Rattle.std.specs.List.Sorted.{IsStrictlyIncreasing}
 use Rattle.std.specs.Option.{option_map_or}
-use Rattle.std.proofs.lemmas.Bool.{cases_lt, false≢true, eq-eqb, eqb-true}
+use Rattle.std.proofs.lemmas.Bool.{cases_lt, not-false, false≢true, eq-eqb, eqb-true}
 use Rattle.std.proofs.lemmas.Option.{slice_get-get_or}
-use Rattle.std.proofs.lemmas.List.{length-map, get_or-map}
+use Rattle.std.proofs.lemmas.List.{length-map, get_or-map, get_or_past}
 use Rattle.std.proofs.lemmas.List.Elements.{All-contains}
 use Rattle.std.proofs.lemmas.List.Kept.{IsStrictlyIncreasing-filter}
 use Rattle.std.proofs.lemmas.List.FromFn.{length-range_with_len, get_or-range_with_len, length-map-range_with_len, get_or-map-range_with_len}
 use Rattle.sas_task.specs.declared.parts.Variable.{Variable}
 use Rattle.sas_task.specs.Task.{Task}
-use Rattle.sas_task.specs.Valid.{IsValid, IsValidOperator, IsValidEffect, IsValidRule, IsValue}
-use Rattle.sas_task.proofs.Members.{no_member, member_range}
-use Rattle.task_simplifier.specs.Kept.{Leaves, IsKept, Initial, ByEffect, ByRule, AreKept}
+use Rattle.sas_task.specs.Valid.{IsValid, IsValue}
+use Rattle.lists.proofs.Members.{no_member, member_range, filter_member, member_filter}
+use Rattle.sas_task.proofs.ValidParts.{effect_law, rule_law}
+use Rattle.sas_restriction.specs.Closed.{Leaves}
+use Rattle.task_simplifier.specs.Kept.{IsKept, Initial, ByEffect, ByRule, AreKept}
 use Rattle.task_simplifier.specs.Projection.{values_in}
 use Rattle.task_simplifier.specs.Marked.{Table, marked, is_open, EffectClosed, OperatorClosed, RuleClosed, TaskClosed, IsSoundTable, Search, start_row, start_table, value_count, listed}
-use Rattle.task_simplifier.proofs.Lists.{get_past, filter_member, member_filter}
-use Rattle.task_simplifier.proofs.Turns.{leave_marked_from}
+use Rattle.task_simplifier.proofs.MarkTurns.{leave_marked_from}
 
 -- a mark that is set has a place
 set_within : (row : List Bool) (val : ℕ) → get_or row val false ≡ true → val < length row
 set_within row val is =
     elim (cases_lt val (length row)) [
       | inl low ↦ low
-      | inr past ↦ absurd (false≢true (sym (get_past row val false past) ∙ is))
+      | inr past ↦ absurd (false≢true (sym (get_or_past row val false past) ∙ is))
     ]
 
 -- a place that isn't open is marked
 shut_marked : (row : List Bool) (val : ℕ) → val < length row → option_map_or not (slice_get row val) false ≡ false → get_or row val false ≡ true
-shut_marked row val low shut = by_mark (get_or row val false) (sym (ap (λ o. option_map_or not o false) (slice_get-get_or row val false low)) ∙ shut)
-  where
-    by_mark : (b : Bool) → not b ≡ false → b ≡ true
-    by_mark true e = refl
-    by_mark false e = absurd (false≢true (sym e))
+shut_marked row val low shut = not-false (get_or row val false) (sym (ap (λ o. option_map_or not o false) (slice_get-get_or row val false low)) ∙ shut)
 
 module _ (task : Task) (valid : IsValid task) where
   value_below : (var val : ℕ) → IsValue task var val → val < value_count task var
@@ -60,7 +57,7 @@ module _ (task : Task) (valid : IsValid task) where
   start_sound : IsSoundTable task (start_table task)
   start_sound var val is =
       elim (cases_lt var (length (start_table task))) [
-        | inr past ↦ absurd (false≢true (sym (ap (λ row. get_or row val false) (get_past (start_table task) var [] past)) ∙ is))
+        | inr past ↦ absurd (false≢true (sym (ap (λ row. get_or row val false) (get_or_past (start_table task) var [] past)) ∙ is))
         | inl low ↦
             let below : var < length task.variables = subst (λ n. var < n) start_count low in
             let there : get_or (start_row (value_count task var) (get_or task.state var 0)) val false ≡ true = sym (ap (λ row. get_or row val false) (start_row_at var below)) ∙ is in
@@ -97,11 +94,8 @@ module _ (task : Task) (valid : IsValid task) where
     kept_marked var val below Initial = search.stays var (get_or task.state var 0) (start_marked var below)
     kept_marked var val below (ByEffect from next kept move) = by_effect (kept_marked var from below kept)
       where
-        o-law : IsValidOperator task move.operator
-        o-law = All-contains (IsValidOperator task) task.operators move.operator valid.operators move.of_task
-
         value : IsValue task var val
-        value = subst (λ w. IsValue task w val) move.on (subst (IsValue task move.effect.var) move.to (All-contains (IsValidEffect task) move.operator.effects move.effect o-law.effects move.of_operator).value)
+        value = subst (λ w. IsValue task w val) move.on (subst (IsValue task move.effect.var) move.to (effect_law task valid move.operator move.of_task move.effect move.of_operator).value)
 
         shut : EffectClosed move.operator table move.effect
         shut = All-contains (EffectClosed move.operator table) move.operator.effects move.effect (All-contains (OperatorClosed table) task.operators move.operator closed.0 move.of_task) move.of_operator
@@ -116,7 +110,7 @@ module _ (task : Task) (valid : IsValid task) where
     kept_marked var val below (ByRule from next kept move) = by_rule (kept_marked var from below kept)
       where
         value : IsValue task var val
-        value = subst (λ w. IsValue task w val) move.on (subst (IsValue task move.rule.var) move.to (All-contains (IsValidRule task) task.rules move.rule valid.rules move.of_task).value)
+        value = subst (λ w. IsValue task w val) move.on (subst (IsValue task move.rule.var) move.to (rule_law task valid move.rule move.of_task).value)
 
         by_rule : marked table var from ≡ true → marked table var val ≡ true
         by_rule is =

@@ -3,13 +3,12 @@
 ghost use Rattle.std.specs.Prelude.{◌≡◌, ℕ, List, [], ◌∷◌};
 ghost use Rattle.sas_task.specs.declared.parts.Pair.{Pair};
 ghost use Rattle.sas_task.specs.Task.{Task};
+ghost use Rattle.sas_task.specs.Pairs.{pair};
 ghost use Rattle.sas_task.specs.Valid.{IsValid};
-ghost use Rattle.sas_task.specs.Keeps.{Keeps};
+ghost use Rattle.sas_task.specs.Keeps.{Keeps, KeepsChanging};
 ghost use Rattle.task_simplifier.specs.Projection.{values_in, project_to, IsProjection};
 ghost use Rattle.task_simplifier.specs.Kept.{IsKept};
-ghost use Rattle.task_simplifier.specs.Examples.{shut, shut_kept, shut_projected};
-ghost use Rattle.sas_task.specs.Examples.{pair};
-ghost use Rattle.task_simplifier.specs.Changing.{KeepsChanging};
+ghost use Rattle.task_simplifier.specs.Examples.{shut, shut_kept, shut_projected, doubled, doubled_projected};
 
 /// A valid task has at most one projection. It is valid and may stand for the task, and each solution of the task whose
 /// every step changes the state is a solution of the projection, with its names and its cost.
@@ -27,6 +26,7 @@ pub fn projection_keeps()
 pub fn worked_example()
     ensures hall { (goal : List Pair) (val : ℕ) → IsKept (shut goal) 0 val → val ≡ 0 }
     ensures projected { project_to (values_in shut_kept) (shut (pair 3 0 ∷ [])) ≡ shut_projected }
+    ensures once { project_to (values_in shut_kept) doubled ≡ doubled_projected }
     ensures empty_goal { (project_to (values_in shut_kept) (shut (pair 0 0 ∷ []))).goal ≡ pair 3 0 ∷ [] }
     ensures empty_goal_met { (project_to (values_in shut_kept) (shut (pair 0 0 ∷ []))).state ≡ 1 ∷ 1 ∷ 1 ∷ 0 ∷ [] }
     ensures false_goal { (project_to (values_in shut_kept) (shut (pair 0 1 ∷ []))).goal ≡ pair 3 0 ∷ [] }

@@ -4,6 +4,7 @@ ghost use Rattle.std.specs.Io.KnownBytes.{ReadConsumes, WriteAppends};
 ghost use Rattle.tl_device.specs.Causes.{HasCause, saturating_add};
 
 use crate::{Console, Failed, Files};
+use std::fs::OpenFile;
 use std::io::{Printer, Read, Write};
 use std::{fs, io, rt};
 
@@ -62,7 +63,7 @@ impl<'a, R: rt::Files> Files for RealFiles<'a, R> {
 
     fn open_file(&mut self, name: &str) -> Result<(), Failed> {
         self.taken = 0;
-        self.reading = fs::open(self.runtime, name).ok();
+        self.reading = apart(fs::open(self.runtime, name));
         if self.reading.is_none() {
             self.read_faults = self.read_faults.saturating_add(1);
             return Err(Failed);
@@ -102,7 +103,7 @@ impl<'a, R: rt::Files> Files for RealFiles<'a, R> {
     }
 
     fn create_file(&mut self, name: &str) -> Result<(), Failed> {
-        self.writing = fs::create(self.runtime, name).ok();
+        self.writing = apart(fs::create(self.runtime, name));
         if self.writing.is_none() {
             self.write_faults = self.write_faults.saturating_add(1);
             return Err(Failed);
@@ -131,6 +132,12 @@ impl<'a, R: rt::Files> Files for RealFiles<'a, R> {
         };
         write_counted(file, piece, &mut self.write_faults)
     }
+}
+
+// An opened file by a second descriptor, which the system numbers above those of the three standard streams. A file that is
+// opened where such a stream is closed gets the stream's number, and what is printed would go into the file.
+fn apart<F: OpenFile + Drop>(opened: io::Result<F>) -> Option<F> {
+    opened.ok()?.try_clone().ok()
 }
 
 // Writes a front of the piece. It is a fault to fail, and to take nothing where there is something.

@@ -33,22 +33,39 @@ fn is_begun(rt: &HostRuntime, name: &str) -> bool {
     RealFiles::new(rt).open_file(name).is_ok()
 }
 
-fn found(rt: &HostRuntime, name: &str, limit: u64) -> Result<Vec<u8>, ReadEnd>
+fn found(
+    alloc: Global,
+    files: &mut RealFiles<'_, HostRuntime>,
+    name: &str,
+    limit: u64,
+) -> Result<Vec<u8>, ReadEnd>
     requires { limit < 2 ^ 32 }
 {
-    read_all(rt.alloc(), &mut RealFiles::new(rt), name, limit)
+    read_all(alloc, files, name, limit)
 }
 
-fn is_read(rt: &HostRuntime, name: &str, limit: u64, bytes: &[u8]) -> bool
+fn is_read(
+    alloc: Global,
+    files: &mut RealFiles<'_, HostRuntime>,
+    name: &str,
+    limit: u64,
+    bytes: &[u8],
+) -> bool
     requires { limit < 2 ^ 32 }
 {
-    matches!(found(rt, name, limit), Ok(read) if read.as_slice() == bytes)
+    matches!(found(alloc, files, name, limit), Ok(read) if read.as_slice() == bytes)
 }
 
-fn is_unread(rt: &HostRuntime, name: &str, limit: u64, end: ReadEnd) -> bool
+fn is_unread(
+    alloc: Global,
+    files: &mut RealFiles<'_, HostRuntime>,
+    name: &str,
+    limit: u64,
+    end: ReadEnd,
+) -> bool
     requires { limit < 2 ^ 32 }
 {
-    matches!(found(rt, name, limit), Err(found) if found == end)
+    matches!(found(alloc, files, name, limit), Err(found) if found == end)
 }
 
 /// Whether the system itself finds these bytes in the file.
@@ -56,13 +73,20 @@ fn holds(rt: &HostRuntime, name: &str, bytes: &[u8]) -> bool {
     matches!(fs::read(rt, name), Ok(held) if held.as_slice() == bytes)
 }
 
+/// Whether both files are read, one of them in part, and then nothing of a name that no file has.
+fn are_read(rt: &HostRuntime, bytes: &[u8]) -> bool {
+    let mut files = RealFiles::new(rt);
+    is_read(rt.alloc(), &mut files, WRITTEN, 300_000, bytes)
+        && is_read(rt.alloc(), &mut files, BESIDE, 6, b"beside")
+        && is_unread(rt.alloc(), &mut files, BESIDE, 5, ReadEnd::TooLong)
+        && is_unread(rt.alloc(), &mut files, ABSENT, 10, ReadEnd::Failed)
+}
+
 fn is_replaced(rt: &HostRuntime, bytes: &[u8]) -> bool {
     is_put(rt, WRITTEN, bytes)
         && holds(rt, WRITTEN, bytes)
         && holds(rt, BESIDE, b"beside")
-        && is_read(rt, WRITTEN, 300_000, bytes)
-        && is_read(rt, BESIDE, 6, b"beside")
-        && is_unread(rt, BESIDE, 5, ReadEnd::TooLong)
+        && are_read(rt, bytes)
 }
 
 fn is_replaced_by(rt: &HostRuntime, first: u8, length: usize) -> bool {
@@ -86,17 +110,22 @@ fn a_real_file_is_replaced_and_read_whole(rt: HostRuntime) {
     assert!(rt; is_removed(&rt, WRITTEN) && is_removed(&rt, BESIDE));
 }
 
-/// Whether nothing is read of a name that no file has, nor of a folder, which can be begun, and nothing written there.
-fn are_refused(rt: &HostRuntime) -> bool {
-    is_unread(rt, ABSENT, 10, ReadEnd::Failed)
-        && is_begun(rt, ".")
-        && is_unread(rt, ".", 10, ReadEnd::Failed)
+/// Whether a folder can be begun, and nothing is read there and nothing written.
+fn is_refused(rt: &HostRuntime) -> bool {
+    is_begun(rt, ".")
+        && is_unread(
+            rt.alloc(),
+            &mut RealFiles::new(rt),
+            ".",
+            10,
+            ReadEnd::Failed,
+        )
         && !is_put(rt, ".", b"x")
 }
 
 #[test]
-fn an_absent_file_and_a_folder_fail(rt: HostRuntime) {
-    assert!(rt; are_refused(&rt));
+fn a_folder_fails(rt: HostRuntime) {
+    assert!(rt; is_refused(&rt));
 }
 
 /// A printer that is to print a text. A call takes so many bytes at most, and fails where they aren't the next ones,

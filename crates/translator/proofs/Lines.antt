@@ -1,24 +1,28 @@
 -- Each line is its pieces, one after another.
-use Rattle.std.proofs.Common.{◌≡◌, ℕ, List, [], ◌∷◌, ◌++◌, sym, ◌∙◌, append-nil, append_assoc}
+use Rattle.std.proofs.Common.{◌≡◌, ℕ, List, [], ◌∷◌, ◌++◌, refl, sym, ◌∙◌, append-nil, append_assoc}
 use Rattle.std.specs.Prelude.{fold, codes, decimal}
 use Rattle.pddl_lexer.specs.Kinds.{text}
 use Rattle.pddl_lexer.specs.declared.fault.Fault.{Fault}
 use Rattle.translator.specs.declared.outcome.Summary.{Summary}
 use Rattle.translator.specs.declared.message.Phrase.TheVariants as phrases
-use Rattle.translator.specs.Messages.{unreadable_line, unwritable_line, fault_line, summary_lines}
+use Rattle.translator.specs.Messages.{named_line, unreadable_line, unwritable_line, fault_line, summary_lines}
 use Rattle.translator.specs.Pieces.{bytes_of, joined}
 
 run_on : (before : List ℕ) (parts : List (List ℕ)) → before ++ joined parts ≡ fold (λ line part. line ++ part) before parts
 run_on before [] = append-nil before
 run_on before (part ∷ parts) = sym (append_assoc before part (joined parts)) ∙ run_on (before ++ part) parts
 
-pub unreadable_pieces : (name : List ℕ) → joined (bytes_of phrases.CannotRead ∷ name ∷ bytes_of phrases.LineFeed ∷ []) ≡ unreadable_line name
-unfolding bytes_of unreadable_line
-unreadable_pieces name = run_on (codes "translate: cannot read ") (name ∷ codes "\n" ∷ [])
+pub named_pieces : (words name : List ℕ) → joined (words ∷ name ∷ bytes_of phrases.LineFeed ∷ []) ≡ named_line words name
+unfolding bytes_of
+named_pieces words name = run_on words (name ∷ codes "\n" ∷ [])
 
-pub unwritable_pieces : (name : List ℕ) → joined (bytes_of phrases.CannotWrite ∷ name ∷ bytes_of phrases.LineFeed ∷ []) ≡ unwritable_line name
+pub unreadable_is : (name : List ℕ) → named_line (bytes_of phrases.CannotRead) name ≡ unreadable_line name
+unfolding bytes_of unreadable_line
+unreadable_is name = refl
+
+pub unwritable_is : (name : List ℕ) → named_line (bytes_of phrases.CannotWrite) name ≡ unwritable_line name
 unfolding bytes_of unwritable_line
-unwritable_pieces name = run_on (codes "translate: cannot write ") (name ∷ codes "\n" ∷ [])
+unwritable_is name = refl
 
 pub fault_pieces : (name : List ℕ) (fault : Fault) →
     joined (bytes_of phrases.Prefix ∷ name ∷ bytes_of phrases.BeforeLine ∷ decimal fault.line ∷ bytes_of phrases.AfterLine ∷ text fault.kind ∷ bytes_of phrases.LineFeed ∷ []) ≡ fault_line name fault

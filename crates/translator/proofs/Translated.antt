@@ -1,40 +1,43 @@
 -- The task that the passes make of a domain and a problem translates them: the laws of the passes, one after another.
 use Rattle.std.proofs.Common.{◌≡◌, ℕ, ◌<◌, true, false, List, length, sym, subst}
-use Rattle.std.specs.Prelude.{Result, Ok, Err, IfOk, IfErr, All}
+use Rattle.std.specs.Prelude.{◌^◌, Result, Ok, Err, IfOk, IfErr, All}
 use Rattle.std.specs.List.{list_all}
-use Rattle.planning.specs.Plan.{LeavesPlan}
+use Rattle.lists.proofs.Members.{all_from_members}
+use Rattle.runs.specs.Systems.{Through}
+use Rattle.runs.proofs.Systems.{same_names_and_costs}
+use Rattle.planning.specs.Task.{State, PlanningTask}
+use Rattle.planning.specs.Plan.{LeavesPlan, system as plans}
+use Rattle.planning.specs.Same.{MeansTheSame}
 use Rattle.planning.proofs.IdleSteps.{left_plan}
+use Rattle.planning.proofs.SameRuns.{means_through}
 use Rattle.pddl_parser.specs.declared.types.Domain.{Domain}
 use Rattle.pddl_parser.specs.declared.types.Problem.{Problem}
 use Rattle.pddl_parser.specs.Words.{Name}
+use Rattle.pddl_parser.specs.Holds.{GroundAtom}
 use Rattle.pddl_parser.specs.Plan.{pddl_task, HasPlan, HasBusyPlan}
 use Rattle.normal_task.specs.declared.task.Normal.{Normal}
 use Rattle.normal_task.specs.Normalised.{normal}
-use Rattle.normal_task.specs.Same.{SameTask}
 use Rattle.invariant_check.specs.declared.types.Candidate.{Candidate}
 use Rattle.invariant_check.specs.WellFormed.{is_well_formed}
 use Rattle.invariant_guess.specs.declared.types.Found.{Found}
 use Rattle.invariant_guess.specs.Trial.{IsFound}
 use Rattle.static_matcher.specs.declared.types.Ground.{Ground}
 use Rattle.static_matcher.specs.Instances.{IsGroundTask}
-use Rattle.static_matcher.specs.Law as matcher
+use Rattle.static_matcher.specs.Literals.{meaning}
 use Rattle.relaxed_reach.specs.declared.types.Reached.{Reached}
-use Rattle.relaxed_reach.specs.ReachedTask.{is_derived}
+use Rattle.relaxed_reach.specs.ReachedTask.{is_derived, reached_task}
 use Rattle.relaxed_reach.specs.Reachable.{IsReachedTask}
 use Rattle.relaxed_reach.specs.Layers.{AreLayers}
-use Rattle.relaxed_reach.specs.Law as reach
-use Rattle.mutex_groups.specs.Groups.{IsGroup, AreGroups}
+use Rattle.mutex_groups.specs.Groups.{IsMutexGroup, AreGroups}
 use Rattle.mutex_groups.specs.Laws.{IsReachedOf, GroupsAreSorted, GroupsAreFacts, GroupsAreBasic}
 use Rattle.group_cover.specs.Cover.{IsCover}
-use Rattle.fdr_encoder.specs.Ordered.{IsEncodingInOrder}
-use Rattle.fdr_encoder.specs.Simulates.{IsGroup as IsSortedGroup, Simulates}
-use Rattle.task_simplifier.specs.Changing.{KeepsChanging}
+use Rattle.fdr_encoder.specs.Covers.{IsBasicGroup}
+use Rattle.fdr_encoder.specs.Encoding.{IsEncoding}
+use Rattle.fdr_encoder.specs.Simulates.{Correspond, Simulates}
 use Rattle.task_simplifier.specs.Projection.{IsProjection}
 use Rattle.sas_task.specs.Task.{Task}
-use Rattle.sas_task.specs.Valid.{IsValid}
-use Rattle.sas_task.specs.Solution.{HasSolution}
-use Rattle.sas_task.specs.Keeps.{HasShorterSolution, Keeps}
-use Rattle.sas_task.proofs.Members.{all_from_members}
+use Rattle.sas_task.specs.Solution.{HasSolution, system as solutions}
+use Rattle.sas_task.specs.Keeps.{HasShorterSolution, Keeps, KeepsChanging}
 use Rattle.translator.specs.declared.outcome.End.{End}
 use Rattle.translator.specs.declared.outcome.End.TheVariants.{NoMemory}
 use Rattle.translator.specs.declared.translation.Translation.{Translation}
@@ -47,25 +50,32 @@ use Rattle.translator.proofs.Texts.{memory_stops}
 -- the groups of well formed candidates are sorted and have basic facts
 pub sorted_groups : (made : Normal) (candidates : List Candidate) (reached : Reached) (groups : List (List ℕ)) →
     GroupsAreSorted → GroupsAreFacts → GroupsAreBasic → IsReachedOf made reached → list_all (is_well_formed made) candidates ≡ true →
-    AreGroups made candidates reached groups → All (IsSortedGroup reached) groups
+    AreGroups made candidates reached groups → All (IsBasicGroup reached) groups
 sorted_groups made candidates reached groups sorted facts basic reached_of formed are =
-    all_from_members (IsSortedGroup reached) groups (λ group in'.
-    let is : IsGroup made candidates reached group = (are.all group).0 in' in
+    all_from_members (IsBasicGroup reached) groups (λ group in'.
+    let is : IsMutexGroup made candidates reached group = (are.all group).0 in' in
     record {
       sorted = sorted made candidates reached group is;
       facts = all_from_members (λ f. f < length reached.facts) group (facts made candidates reached group is);
       basic = all_from_members (λ f. is_derived reached.facts f ≡ false) group (basic made candidates reached group reached_of formed is);
     })
 
-module _ (domain : Domain) (problem : Problem) (grounded : Ground) (reached : Reached) (sets : List (List ℕ)) (encoded task : Task)
-    (files : SameTask domain problem) (made : matcher.MeansTheSame (normal domain problem) grounded) (shrunk : reach.MeansTheSame grounded reached)
-    (same : Simulates sets reached encoded) (kept : Keeps encoded task) (changing : KeepsChanging encoded task)
+-- tasks that mean the same in turn, the first of them what the last does
+pub in_turn : {A S B T C U D V : Type 0} (one : PlanningTask A S) (two : PlanningTask B T) (three : PlanningTask C U) (four : PlanningTask D V) (R : State A → State B → Type 0) (R' : State B → State C → Type 0) (R'' : State C → State D → Type 0) →
+    MeansTheSame one two R → MeansTheSame two three R' → MeansTheSame three four R'' → MeansTheSame one four (Through (Through R R') R'')
+in_turn one two three four R R' R'' first second third =
+    means_through one three four (Through R R') R'' (Through (Through R R') R'') (λ s u both. both) (λ s t u before after. (t, before, after))
+    (means_through one two three R R' (Through R R') (λ s u both. both) (λ s t u before after. (t, before, after)) first second) third
+
+module _ (domain : Domain) (problem : Problem) (reached : Reached) (sets : List (List ℕ)) (encoded task : Task) (Related : State GroundAtom → State ℕ → Type 0)
+    (means : MeansTheSame (pddl_task domain problem) (meaning (reached_task reached)) Related) (same : Simulates sets reached encoded) (kept : Keeps encoded task) (changing : KeepsChanging encoded task)
     (idle : (names : List Name) (cost : ℕ) (plan : HasPlan domain problem names cost) → LeavesPlan (pddl_task domain problem) names cost plan) where
   plan_of : (names : List Name) (cost : ℕ) → HasSolution task names cost → HasPlan domain problem names cost
-  plan_of names cost solution = (files.plans.plans names cost).1 (made.sound names cost (shrunk.sound names cost (same.sound_plans names cost (kept.no_more names cost solution))))
+  plan_of names cost solution =
+      (means.plans.plans names cost).1 ((same_names_and_costs (plans (meaning (reached_task reached))) (solutions encoded) (Correspond sets reached encoded) same.runs names cost).1 (kept.no_more names cost solution))
 
   solution_of : (names : List Name) (cost : ℕ) → HasBusyPlan domain problem names cost → HasSolution task names cost
-  solution_of names cost plan = changing names cost (same.busy_plans names cost (shrunk.busy names cost (made.busy names cost ((files.plans.busy_plans names cost).0 plan))))
+  solution_of names cost plan = changing names cost (same.busy_plans names cost ((means.plans.busy_plans names cost).0 plan))
 
   -- the names of the steps that aren't idle are those of a solution
   shorter : (names : List Name) (cost : ℕ) → HasPlan domain problem names cost → HasShorterSolution task names cost
@@ -85,26 +95,24 @@ reached_of_instances made grounded (Ok reached) is_ground is_reached = record { 
 reached_of_instances made grounded (Err end) is_ground is_reached = tt
 
 -- the passes' results up to the encoding are those of the run
-pub encoding_of_run : {E : Type 0} (made : Normal) (found : Found) (grounded : Ground) (reached : Reached) (layers layers' : List ℕ) (groups sets : List (List ℕ)) (facts : ℕ) (result : Result Task E)
-    → IsGroundTask made grounded → IsReachedTask grounded reached → AreLayers reached layers → layers' ≡ layers → AreGroups made found.accepted reached groups
-    → facts ≡ length reached.facts → IsCover facts groups sets
-    → IfOk result (IsEncodingInOrder sets groups layers' reached) → IfOk result IsValid → IfOk result (IsRunEncoding made found)
-encoding_of_run made found grounded reached layers layers' groups sets facts (Ok encoded) is_ground is_reached are same are_groups all is_cover encodes valid =
+pub encoding_of_run : {E : Type 0} (made : Normal) (found : Found) (reached : Reached) (layers layers' : List ℕ) (groups sets : List (List ℕ)) (facts : ℕ) (result : Result Task E)
+    → IsReachedOf made reached → AreLayers reached layers → layers' ≡ layers → AreGroups made found.accepted reached groups
+    → facts ≡ length reached.facts → facts < 2 ^ 64 → IsCover facts groups sets
+    → IfOk result (IsEncoding sets groups layers' reached) → IfOk result (IsRunEncoding made found)
+encoding_of_run made found reached layers layers' groups sets facts (Ok encoded) is_reached are same are_groups all few is_cover encodes =
     record {
-      grounded = grounded;
       reached = reached;
       layers = layers;
       groups = groups;
       sets = sets;
-      is_ground = is_ground;
       is_reached = is_reached;
+      few = subst (λ n. n < 2 ^ 64) all few;
       are_layers = are;
       are_groups = are_groups;
       is_cover = subst (λ n. IsCover n groups sets) all is_cover;
-      encodes = subst (λ (l : List ℕ). IsEncodingInOrder sets groups l reached encoded) same encodes;
-      valid = valid;
+      encodes = subst (λ (l : List ℕ). IsEncoding sets groups l reached encoded) same encodes;
     }
-encoding_of_run made found grounded reached layers layers' groups sets facts (Err end) is_ground is_reached are same are_groups all is_cover encodes valid = tt
+encoding_of_run made found reached layers layers' groups sets facts (Err end) is_reached are same are_groups all few is_cover encodes = tt
 
 -- the projection of the encoding of the run is the task of the run
 pub run_task_of : {E : Type 0} (made : Normal) (found : Found) (encoded : Task) (result : Result Task E) → IsRunEncoding made found encoded → IfOk result (IsProjection encoded) → IfOk result (IsRunTask made found)

@@ -16,13 +16,17 @@ usage_line = codes "usage: translate DOMAIN PROBLEM [options]\n"
 unfoldable pub memory_line : List ℕ
 memory_line = codes "translate: out of memory\n"
 
+-- a line that ends with a name
+abbrev pub named_line : List ℕ → List ℕ → List ℕ
+named_line words name = words ++ name ++ codes "\n"
+
 -- the line that names a file that can't be read
 unfoldable pub unreadable_line : List ℕ → List ℕ
-unreadable_line name = codes "translate: cannot read " ++ name ++ codes "\n"
+unreadable_line name = named_line (codes "translate: cannot read ") name
 
 -- the line that names a file that can't be written
 unfoldable pub unwritable_line : List ℕ → List ℕ
-unwritable_line name = codes "translate: cannot write " ++ name ++ codes "\n"
+unwritable_line name = named_line (codes "translate: cannot write ") name
 
 -- the line on a fault, with its file and its line
 unfoldable pub fault_line : List ℕ → Fault → List ℕ

@@ -9,7 +9,7 @@ ghost use Rattle.sas_task.specs.Task.{Task};
 ghost use Rattle.translator.specs.RunTask.{IsRunTask};
 ghost use Rattle.translator.specs.Theorem.{Translates};
 
-use fdr_encoder::laws::{covers, exclusive_covers, in_any_order, simulation};
+use fdr_encoder::laws::{covers, exclusive_covers, simulation, validity};
 use invariant_guess::laws::finds;
 use mutex_groups::laws::{groups_are_exclusive, groups_of_facts};
 use normal_task::laws::same_task;
@@ -36,7 +36,7 @@ pub(crate) fn run_task_translates()
     groups_of_facts();
     covers();
     exclusive_covers();
-    in_any_order();
+    validity();
     simulation();
     projection_keeps();
 }

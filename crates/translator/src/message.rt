@@ -5,7 +5,7 @@ ghost use Rattle.std.specs.List.{flat_map};
 ghost use Rattle.std.specs.Io.KnownBytes.{append_known};
 ghost use Rattle.tl_device.specs.Causes.{HasCause};
 ghost use Rattle.tl_device.specs.Contents.{PrintedInPart};
-ghost use Rattle.translator.specs.Messages.{usage_line, memory_line, unreadable_line, unwritable_line, fault_line, summary_lines, line_of};
+ghost use Rattle.translator.specs.Messages.{usage_line, memory_line, named_line, fault_line, summary_lines, line_of};
 ghost use Rattle.translator.specs.Pieces.{bytes_of, piece_bytes};
 ghost use Rattle.translator.specs.Run.{name_of};
 ghost use Rattle.command_line.specs.Accepted.{asked_by};
@@ -156,26 +156,14 @@ fn say_summary<C: Console>(console: &mut C, summary: &Summary) -> Result<(), Fai
     say_pieces(console, &pieces)
 }
 
-fn say_unreadable<C: Console>(console: &mut C, name: &str) -> Result<(), Failed>
-    ensures ok { OnOk result (C.printed console.new ≡ append_known (C.printed console.old) (unreadable_line name.now)) }
-    ensures err { OnErr result (PrintedInPart (C.printed console.old) (C.printed console.new) (unreadable_line name.now)) }
+/// Says this of the file of this name.
+fn say_named<C: Console>(console: &mut C, phrase: Phrase, name: &str) -> Result<(), Failed>
+    ensures ok { OnOk result (C.printed console.new ≡ append_known (C.printed console.old) (named_line (bytes_of phrase) name.now)) }
+    ensures err { OnErr result (PrintedInPart (C.printed console.old) (C.printed console.new) (named_line (bytes_of phrase) name.now)) }
     ensures cause { HasCause (C.faults console.old) (C.faults console.new) result }
 {
     let pieces = [
-        Piece::Fixed(Phrase::CannotRead),
-        Piece::Name(name),
-        Piece::Fixed(Phrase::LineFeed),
-    ];
-    say_pieces(console, &pieces)
-}
-
-fn say_unwritable<C: Console>(console: &mut C, name: &str) -> Result<(), Failed>
-    ensures ok { OnOk result (C.printed console.new ≡ append_known (C.printed console.old) (unwritable_line name.now)) }
-    ensures err { OnErr result (PrintedInPart (C.printed console.old) (C.printed console.new) (unwritable_line name.now)) }
-    ensures cause { HasCause (C.faults console.old) (C.faults console.new) result }
-{
-    let pieces = [
-        Piece::Fixed(Phrase::CannotWrite),
+        Piece::Fixed(phrase),
         Piece::Name(name),
         Piece::Fixed(Phrase::LineFeed),
     ];
@@ -200,6 +188,7 @@ fn say_fault<C: Console>(console: &mut C, name: &str, fault: Fault) -> Result<()
 }
 
 /// Says how the work ended on what the words asked for.
+#[tactic(auto, using(crate::proofs::Lines::unreadable_is, crate::proofs::Lines::unwritable_is))]
 pub(crate) fn say_outcome<C: Console>(
     console: &mut C,
     outcome: &Result<Summary, End>,
@@ -212,10 +201,12 @@ pub(crate) fn say_outcome<C: Console>(
     match outcome {
         Ok(summary) => say_summary(console, summary),
         Err(End::NoMemory) => say_no_memory(console),
-        Err(End::CannotRead(side)) => {
-            say_unreadable(console, name_of(*side, accepted.domain, accepted.problem))
-        }
-        Err(End::CannotWrite) => say_unwritable(console, accepted.output),
+        Err(End::CannotRead(side)) => say_named(
+            console,
+            Phrase::CannotRead,
+            name_of(*side, accepted.domain, accepted.problem),
+        ),
+        Err(End::CannotWrite) => say_named(console, Phrase::CannotWrite, accepted.output),
         Err(End::Faulty(side, fault)) => say_fault(
             console,
             name_of(*side, accepted.domain, accepted.problem),

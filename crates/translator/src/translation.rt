@@ -31,7 +31,6 @@ use invariant_guess::{Found, find};
 use mutex_groups::groups;
 use mutex_groups::laws::groups_of_facts;
 use normal_task::Normal;
-use normal_task::laws::lawful;
 use normaliser::normalise;
 use pddl_lexer::{Tree, TreeEnd, read_tree};
 use pddl_parser::{Domain, ParseEnd, Problem, parse_domain, parse_problem};
@@ -86,7 +85,6 @@ fn made_of(alloc: Global, checked: &Checked, max_candidates: u32) -> Result<Made
     ensures found { IfOk result (λ made. IsFound (spec.normal checked.now.domain checked.now.problem) max_candidates made.found) }
     ensures task { IfOk result (λ made. IsRunTask (spec.normal checked.now.domain checked.now.problem) made.found made.task) }
 {
-    lawful();
     finds();
     let normal = normalise(alloc, checked)?;
     let found = find(alloc, &normal, max_candidates as u64)?;
@@ -130,8 +128,15 @@ fn encoded_over(
     groups_of_facts();
     let layers = layers(alloc, reached)?;
     let groups = groups(alloc, normal, found.accepted.as_slice(), reached)?;
-    let cover = cover(alloc, reached.facts.as_slice().len() as u64, &groups)?;
+    let cover = cover(alloc, facts_of(reached), &groups)?;
     encode(alloc, reached, &cover, &groups, &layers)
+}
+
+/// The number of facts.
+fn facts_of(reached: &Reached) -> u64
+    ensures { result ≡ length reached.now.facts }
+{
+    reached.facts.as_slice().len() as u64
 }
 
 /// What can be reached of the normal task's instances.

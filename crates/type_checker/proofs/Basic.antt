@@ -8,7 +8,8 @@ use Rattle.type_checker.specs.Faultless.{mentions, is_basic}
 use Rattle.type_checker.specs.Faults.{check_faults}
 use Rattle.type_checker.specs.Mentions.{Mention, written_predicates, in_domain, in_problem}
 use Rattle.type_checker.specs.Names.{written_derived}
-use Rattle.type_checker.proofs.NoFaults.{row_empty, none_pass, all_pieces, all_of_both}
+use Rattle.lists.proofs.Items.{all_both}
+use Rattle.type_checker.proofs.NoFaults.{row_empty, none_pass, all_pieces}
 
 module _ (domain : Domain) (problem : Problem) where
   basic : (list : List Mention) → written_derived domain list ≡ [] → list_all (is_basic domain) list ≡ true
@@ -18,4 +19,4 @@ module _ (domain : Domain) (problem : Problem) where
   pub written_basic : check_faults domain problem ≡ [] → list_all (is_basic domain) (mentions domain problem) ≡ true
   written_basic none =
       let lines = row_empty domain problem none _ (inr (inr (inr (inr (inr (inr (inr (inr (inl refl))))))))) in
-      all_of_both (is_basic domain) (in_domain domain) (in_problem problem) (basic (in_domain domain) lines.0) (basic (in_problem problem) lines.1)
+      all_both (is_basic domain) (in_domain domain) (in_problem problem) (basic (in_domain domain) lines.0) (basic (in_problem problem) lines.1)

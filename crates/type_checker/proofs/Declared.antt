@@ -16,7 +16,8 @@ use Rattle.type_checker.specs.Faults.{check_faults}
 use Rattle.type_checker.specs.Increases.{total_cost}
 use Rattle.type_checker.specs.Mentions.{Mention, Use, predicate_uses, function_uses, arguments, in_domain, in_problem}
 use Rattle.type_checker.specs.Names.{has_arity, is_declared, is_function, is_well_used, use_lines, total_cost_heads, wrong_uses, unknown_object, unknown_objects}
-use Rattle.type_checker.proofs.NoFaults.{left_empty, right_empty, row_empty, all_pass, all_pieces, all_of_both}
+use Rattle.lists.proofs.Items.{all_both}
+use Rattle.type_checker.proofs.NoFaults.{left_empty, right_empty, row_empty, all_pass, all_pieces}
 
 -- ---- predicates and functions
 
@@ -61,15 +62,15 @@ module _ (domain : Domain) (problem : Problem) where
         (right_empty (total_cost_heads domain) (wrong_uses domain (in_domain domain)) lines.0, lines.1)
 
     pub predicates_declared : list_all (has_predicate domain) (mentions domain problem) ≡ true
-    predicates_declared = all_of_both (has_predicate domain) (in_domain domain) (in_problem problem) (predicates_pass domain (in_domain domain) arities.0) (predicates_pass domain (in_problem problem) arities.1)
+    predicates_declared = all_both (has_predicate domain) (in_domain domain) (in_problem problem) (predicates_pass domain (in_domain domain) arities.0) (predicates_pass domain (in_problem problem) arities.1)
 
     pub functions_declared : list_all (has_function domain) (mentions domain problem) ≡ true
-    functions_declared = all_of_both (has_function domain) (in_domain domain) (in_problem problem) (functions_pass domain (in_domain domain) arities.0) (functions_pass domain (in_problem problem) arities.1)
+    functions_declared = all_both (has_function domain) (in_domain domain) (in_problem problem) (functions_pass domain (in_domain domain) arities.0) (functions_pass domain (in_problem problem) arities.1)
 
     pub objects_known : list_all (has_objects domain problem) (mentions domain problem) ≡ true
     objects_known =
         let lines = row_empty domain problem none _ (inr (inr (inr (inr (inr (inr (inl refl))))))) in
-        all_of_both (has_objects domain problem) (in_domain domain) (in_problem problem) (objects_pass (in_domain domain) lines.0) (objects_pass (in_problem problem) lines.1)
+        all_both (has_objects domain problem) (in_domain domain) (in_problem problem) (objects_pass (in_domain domain) lines.0) (objects_pass (in_problem problem) lines.1)
 
 -- ---- the same in other words
 

@@ -5,17 +5,17 @@ use Rattle.pddl_parser.specs.declared.types.Action.{Action}
 use Rattle.pddl_parser.specs.declared.types.Derived.{Derived}
 use Rattle.pddl_parser.specs.declared.types.Domain.{Domain}
 use Rattle.pddl_parser.specs.declared.types.Problem.{Problem}
-use Rattle.lists.proofs.Items.{Among, all_passes, each_passes, among_left, among_right, among_flat_map}
+use Rattle.lists.proofs.Items.{Among, all_passes, each_passes, among_left, among_right, among_flat_map, all_both}
 use Rattle.type_checker.specs.Faultless.{has_few_parts}
 use Rattle.type_checker.specs.Faults.{check_faults}
 use Rattle.type_checker.specs.Sizes.{Cut, cuts, action_cuts, axiom_cuts, domain_cuts, problem_cuts}
-use Rattle.type_checker.proofs.NoFaults.{row_empty, all_pass, all_of_both}
+use Rattle.type_checker.proofs.NoFaults.{row_empty, all_pass}
 
 module _ (domain : Domain) (problem : Problem) (none : check_faults domain problem ≡ []) where
   pub few_parts : list_all has_few_parts (domain_cuts domain ++ problem_cuts problem) ≡ true
   few_parts =
       let lines = row_empty domain problem none _ (inr (inr (inr (inr (inr (inr (inr (inr (inr (inr (inr (inr (inr (inl refl)))))))))))))) in
-      all_of_both has_few_parts (domain_cuts domain) (problem_cuts problem)
+      all_both has_few_parts (domain_cuts domain) (problem_cuts problem)
       (all_pass has_few_parts (λ cut. cut.line) (domain_cuts domain) lines.0) (all_pass has_few_parts (λ cut. cut.line) (problem_cuts problem) lines.1)
 
   in_some : (part : List Cut) → ((cut : Cut) → Among cut part → Among cut (domain_cuts domain)) → list_all has_few_parts part ≡ true

@@ -2,7 +2,8 @@
 use Rattle.std.proofs.Common.{◌≡◌, ℕ, ◌+◌, Bool, true, false, not, ◌&&◌, List, [], ◌∷◌, ◌++◌, map, length, nat_eq, inl, inr, ◌⊎◌, refl, sym, ap, ◌∙◌, subst, arith}
 use Rattle.std.specs.Prelude.{nat_le, if◌then◌else◌}
 use Rattle.std.specs.List.{list_all, flat_map}
-use Rattle.std.proofs.lemmas.Bool.{and_parts, and_from, or_cases}
+use Rattle.std.proofs.lemmas.Bool.{and_parts, and_from, or_cases, not-true, false≢true}
+use Rattle.std.proofs.lemmas.List.{length-append}
 use Rattle.pddl_parser.specs.declared.types.Action.{Action}
 use Rattle.pddl_parser.specs.declared.types.Atom.{Atom}
 use Rattle.pddl_parser.specs.declared.types.Cost.{Cost}
@@ -12,8 +13,7 @@ use Rattle.pddl_parser.specs.declared.types.Effect.{Effect, Effect-F}
 use Rattle.pddl_parser.specs.declared.types.Problem.{Problem}
 use Rattle.pddl_parser.specs.Step as step
 use Rattle.pddl_parser.specs.Words.{is_same}
-use Rattle.pddl_parser.proofs.ConditionCases.{Each}
-use Rattle.lists.proofs.Items.{Among, all_passes, each_passes, among_left, among_right}
+use Rattle.lists.proofs.Items.{Among, Each, each_both, all_passes, each_passes, all_left, all_right}
 use Rattle.type_checker.specs.Increases.{Depth}
 use Rattle.type_checker.specs.Increases.{Outermost, Inner}
 use Rattle.type_checker.specs.Faultless.{has_function, is_known, has_objects, is_one_cost}
@@ -28,9 +28,6 @@ use Rattle.type_checker.proofs.Declared.{functions_declared, objects_known}
 use Rattle.type_checker.proofs.EachPart.{in_each_action}
 use Rattle.type_checker.proofs.EffectFolds.{by_folds}
 use Rattle.type_checker.proofs.NoFaults.{left_empty, right_empty, piece_empty, row_empty}
-
-nowhere : false ≡ true → ⊥
-nowhere e = cc
 
 -- ---- the form of an effect's increases
 
@@ -50,12 +47,12 @@ one_cost (increase ∷ other ∷ more) none = absurd (some (if increase.is_forme
 all_formed : (list : List Increase) → is_one_cost list ≡ true → list_all (λ increase. increase.is_formed) list ≡ true
 all_formed [] one = refl
 all_formed (increase ∷ []) one = and_from increase.is_formed true one refl
-all_formed (increase ∷ other ∷ more) one = absurd (nowhere one)
+all_formed (increase ∷ other ∷ more) one = absurd (false≢true one)
 
 one_at_most : (list : List Increase) → is_one_cost list ≡ true → nat_le (length list) 1 ≡ true
 one_at_most [] one = refl
 one_at_most (increase ∷ []) one = refl
-one_at_most (increase ∷ other ∷ more) one = absurd (nowhere one)
+one_at_most (increase ∷ other ∷ more) one = absurd (false≢true one)
 
 -- ---- the costs of an effect
 
@@ -81,43 +78,25 @@ module _ (domain : Domain) (problem : Problem) where
   abbrev Sound : Effect → Type 0
   Sound effect = CostsSound (step.increases effect) (increases effect) (scopes.in_effect effect) (in_effect effect)
 
-  each_both : {X : Type 0} (P : X → Type 0) (xs ys : List X) → Each P xs → Each P ys → Each P (xs ++ ys)
-  each_both P [] ys one other = other
-  each_both P (x ∷ xs) ys one other = (one.0, each_both P xs ys one.1 other)
-
-  -- all items of a part
-  part_passes : {X : Type 0} (test : X → Bool) (part whole : List X) → ((x : X) → Among x part → Among x whole) → list_all test whole ≡ true → list_all test part ≡ true
-  part_passes test part whole within all = each_passes test part (λ x there. all_passes test x whole (within x there) all)
-
-  left_passes : {X : Type 0} (test : X → Bool) (xs ys : List X) → list_all test (xs ++ ys) ≡ true → list_all test xs ≡ true
-  left_passes test xs ys = part_passes test xs (xs ++ ys) (λ x there. among_left x xs ys there)
-
-  right_passes : {X : Type 0} (test : X → Bool) (xs ys : List X) → list_all test (xs ++ ys) ≡ true → list_all test ys ≡ true
-  right_passes test xs ys = part_passes test ys (xs ++ ys) (λ x there. among_right x xs ys there)
-
   abbrev at_depth : Depth → List Effect → List Increase
   at_depth depth members = flat_map (λ (member : Depth → List Increase). member depth) (map increases members)
 
   abbrev all_costs : List Effect → List Cost
   all_costs members = flat_map (λ (costs : List Cost). costs) (map step.increases members)
 
-  length_append : {X : Type 0} (xs ys : List X) → length (xs ++ ys) ≡ length xs + length ys
-  length_append [] ys = omega arith
-  length_append (x ∷ xs) ys = let rest = length_append xs ys in omega (arith, rest)
-
   members_count : (members : List Effect) → Each Sound members → (depth : Depth) → length (at_depth depth members) ≡ length (all_costs members)
   members_count [] each depth = refl
   members_count (member ∷ members) each depth =
-      length_append (increases member depth) (at_depth depth members)
+      length-append (increases member depth) (at_depth depth members)
       ∙ ap (λ n. n + length (at_depth depth members)) (each.0.0 depth)
       ∙ ap (λ n. length (step.increases member) + n) (members_count members each.1 depth)
-      ∙ sym (length_append (step.increases member) (all_costs members))
+      ∙ sym (length-append (step.increases member) (all_costs members))
 
   none_inner : (members : List Effect) → Each Sound members → AreFormed (at_depth Inner members) → all_costs members ≡ []
   none_inner [] each formed = refl
   none_inner (member ∷ members) each formed =
-      let here = each.0.1 (left_passes (λ (increase : Increase). increase.is_formed) (increases member Inner) (at_depth Inner members) formed) in
-      let rest = none_inner members each.1 (right_passes (λ (increase : Increase). increase.is_formed) (increases member Inner) (at_depth Inner members) formed) in
+      let here = each.0.1 (all_left (λ (increase : Increase). increase.is_formed) (increases member Inner) (at_depth Inner members) formed) in
+      let rest = none_inner members each.1 (all_right (λ (increase : Increase). increase.is_formed) (increases member Inner) (at_depth Inner members) formed) in
       ap (λ (costs : List Cost). costs ++ all_costs members) here ∙ rest
 
   members_sound : (members : List Effect) → Each Sound members → (depth : Depth) → AreFormed (at_depth depth members) → (scope : Scope) →
@@ -127,24 +106,20 @@ module _ (domain : Domain) (problem : Problem) where
       let others = flat_map (λ member. member scope) (map scopes.in_effect members) in
       let mentions = flat_map (λ mentions. mentions) (map in_effect members) in
       each_both (CostSound scope) (step.increases member) (all_costs members)
-      (each.0.2 depth (left_passes (λ (increase : Increase). increase.is_formed) (increases member depth) (at_depth depth members) formed) scope
-      (left_empty (scopes.in_effect member scope) others unbound) (left_passes is_sound (in_effect member) mentions mentioned))
-      (members_sound members each.1 depth (right_passes (λ (increase : Increase). increase.is_formed) (increases member depth) (at_depth depth members) formed) scope
-      (right_empty (scopes.in_effect member scope) others unbound) (right_passes is_sound (in_effect member) mentions mentioned))
+      (each.0.2 depth (all_left (λ (increase : Increase). increase.is_formed) (increases member depth) (at_depth depth members) formed) scope
+      (left_empty (scopes.in_effect member scope) others unbound) (all_left is_sound (in_effect member) mentions mentioned))
+      (members_sound members each.1 depth (all_right (λ (increase : Increase). increase.is_formed) (increases member depth) (at_depth depth members) formed) scope
+      (right_empty (scopes.in_effect member scope) others unbound) (all_right is_sound (in_effect member) mentions mentioned))
 
   increase_sound : (term : Atom) (cost : Cost) (line : ℕ) →
       CostsSound (step.increases_step (Effect-F.Increase term cost line)) (increases_step (Effect-F.Increase term cost line)) (scopes.effect_step (Effect-F.Increase term cost line)) (effect_step (Effect-F.Increase term cost line))
-  increase_sound term cost line = ((λ depth. refl), (λ formed. absurd (nowhere formed)), λ depth formed scope unbound mentioned. (by cost depth formed scope unbound mentioned, tt))
+  increase_sound term cost line = ((λ depth. refl), (λ formed. absurd (false≢true formed)), λ depth formed scope unbound mentioned. (by cost depth formed scope unbound mentioned, tt))
     where
-      unsame : (b : Bool) → not b ≡ true → b ≡ false
-      unsame true e = absurd (nowhere e)
-      unsame false e = refl
-
       other_cost : (cost : Cost) (depth : Depth) → AreFormed (increases_step (Effect-F.Increase term cost line) depth) → is_total_cost_term cost ≡ false
       other_cost cost depth formed =
           let one = (and_parts (may_stand depth && is_proper term cost) true formed).0 in
           let proper = (and_parts (may_stand depth) (is_proper term cost) one).1 in
-          unsame (is_total_cost_term cost) (and_parts (is_same term.predicate.name total_cost) (not (is_total_cost_term cost)) proper).1
+          not-true (is_total_cost_term cost) (and_parts (is_same term.predicate.name total_cost) (not (is_total_cost_term cost)) proper).1
 
       -- what is well used and isn't the total cost is declared
       declared : (function : Atom) → is_well_used domain (use_of function) ≡ true → is_same function.predicate.name total_cost ≡ false → has_arity domain.functions (use_of function) ≡ true
@@ -159,7 +134,7 @@ module _ (domain : Domain) (problem : Problem) where
           by_case : (has_arity domain.functions (use_of function) ≡ true) ⊎ (undeclared ≡ true) → has_arity domain.functions (use_of function) ≡ true
           by_case (inl here) = here
           by_case (inr total) =
-              absurd (nowhere (sym other ∙ (and_parts (is_same function.predicate.name total_cost) (not (is_declared domain.functions total_cost)) (and_parts first_two (nat_eq (length function.terms) 0) total).0).0))
+              absurd (false≢true (sym other ∙ (and_parts (is_same function.predicate.name total_cost) (not (is_declared domain.functions total_cost)) (and_parts first_two (nat_eq (length function.terms) 0) total).0).0))
 
       by : (cost : Cost) (depth : Depth) → AreFormed (increases_step (Effect-F.Increase term cost line) depth) → (scope : Scope) → scopes.effect_step (Effect-F.Increase term cost line) scope ≡ [] →
           list_all is_sound (effect_step (Effect-F.Increase term cost line)) ≡ true → CostSound scope cost
@@ -214,7 +189,7 @@ module _ (domain : Domain) (problem : Problem) where
         in_its_effect =
             let functions = in_each_action domain problem (has_function domain) (functions_declared domain problem none) action among in
             let objects = in_each_action domain problem (has_objects domain problem) (objects_known domain problem none) action among in
-            right_passes is_sound (Variables action.parameters ∷ in_condition action.precondition) (in_effect action.effect) (both_tests (in_action action) functions objects)
+            all_right is_sound (Variables action.parameters ∷ in_condition action.precondition) (in_effect action.effect) (both_tests (in_action action) functions objects)
 
     pub increases_formed : list_all (λ action. is_one_cost (increases action.effect Outermost)) domain.actions ≡ true
     increases_formed = each_passes (λ action. is_one_cost (increases action.effect Outermost)) domain.actions one_increase

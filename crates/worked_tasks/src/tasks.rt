@@ -6,11 +6,10 @@ ghost use Rattle.type_checker.specs.Checked.{IsChecked};
 ghost use Rattle.normal_task.specs.Lawful.{IsLawful};
 
 use normal_task::Normal;
-use normal_task::laws::lawful;
 use normaliser::normalise;
 use pddl_lexer::read_tree;
 use pddl_parser::{Domain, Problem, parse_domain, parse_problem};
-use std::alloc::{AllocError, Global};
+use std::alloc::Global;
 use type_checker::{CheckEnd, Checked, check};
 
 fn domain_of(alloc: Global, text: &str) -> Option<Domain>
@@ -44,18 +43,10 @@ pub fn checked_of(alloc: Global, domain: &str, problem: &str) -> Option<Checked>
     check_pair(alloc, domain, problem).ok()
 }
 
-fn normal_of(alloc: Global, checked: &Checked) -> Result<Normal, AllocError>
-    requires { IsChecked checked.now }
-    ensures { IfOk result IsLawful }
-{
-    lawful();
-    normalise(alloc, checked)
-}
-
 /// The normal task of two texts, where they have no fault.
 pub fn normal_task(alloc: Global, domain: &str, problem: &str) -> Option<Normal>
     ensures { IfSome result IsLawful }
 {
     let checked = checked_of(alloc, domain, problem)?;
-    normal_of(alloc, &checked).ok()
+    normalise(alloc, &checked).ok()
 }

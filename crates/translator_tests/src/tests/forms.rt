@@ -1,9 +1,8 @@
 //! Odd forms that are translated.
 
-use super::{Outside, WORDS, answers, is_written, prepared};
+use super::{SUMMARY, is_written, tells};
 use std::alloc::{AllocError, Global};
 use std::test::*;
-use translator::Status;
 
 /// Requirements in the problem, and carriage returns in both files.
 static SWITCHES: [(&[u8], &[u8]); 2] = [
@@ -39,27 +38,11 @@ fn large_domain(alloc: Global) -> Result<String, AllocError> {
     Ok(domain)
 }
 
-const LARGE_SUMMARY: &[u8] = b"Translator candidates: 3
-Translator invariants: 2
-Translator variables: 1
-Translator facts: 2
-Translator mutex groups: 1
-Translator operators: 1
-Translator axioms: 0
-";
-
-fn is_large_task_written(alloc: Global) -> Result<bool, AllocError> {
-    let domain = large_domain(alloc)?;
-    let mut outside: Outside = prepared(alloc, domain.as_bytes(), super::PROBLEM)?;
-    outside.room(100_000)?;
-    let is_done = answers(alloc, &WORDS, &mut outside, Status::Done)?;
-    Ok(is_done && outside.has_printed(LARGE_SUMMARY))
-}
-
 #[test]
 fn a_hundred_predicates_and_empty_effects_are_translated(
     rt: HostRuntime,
 ) -> Result<(), AllocError> {
-    assert!(rt; is_large_task_written(rt.alloc())?);
+    let domain = large_domain(rt.alloc())?;
+    assert!(rt; tells(rt.alloc(), domain.as_bytes(), super::PROBLEM, SUMMARY)?);
     Ok(())
 }

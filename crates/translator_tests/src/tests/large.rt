@@ -1,6 +1,6 @@
 //! Larger tasks, whose texts follow a rule.
 
-use super::{PROBLEM, gives};
+use super::{PROBLEM, gives, tells};
 use std::alloc::{AllocError, Global};
 use std::test::*;
 
@@ -157,5 +157,39 @@ fn equal_operators_of_alternatives_are_written_once(rt: HostRuntime) -> Result<(
         "(define (domain switch) (:predicates (on) (off)) (:action flip :precondition (or {parts}) :effect (and (on) (not (off)))))"
     )?;
     assert!(rt; super::is_written(rt.alloc(), domain.as_bytes(), PROBLEM)?);
+    Ok(())
+}
+
+const LEAVE: &[u8] = b"(define (domain leave) (:predicates (home) (at ?x) (rung))
+ (:action go :parameters (?x) :precondition (home) :effect (and (not (home)) (at ?x)))
+ (:action ring :precondition (not (home)) :effect (rung)))
+";
+
+/// A problem with so many places to go to.
+fn places(alloc: Global, count: usize) -> Result<String, AllocError> {
+    let mut problem = String::from_str(alloc, "(define (problem l) (:domain leave) (:objects")?;
+    for number in 0..count {
+        let object = format!(in alloc; " o{number}")?;
+        problem.push_str(&object)?;
+    }
+    problem.push_str(") (:init (home)) (:goal (rung)))")?;
+    Ok(problem)
+}
+
+#[test]
+fn a_condition_is_split_over_a_thousand_values(rt: HostRuntime) -> Result<(), AllocError> {
+    // `{home}` is accepted, since nothing adds it. Of `{at}` with and without a counted place and `{rung}`, none is; where
+    // the place is counted, `home` mends it. To be away from home is to be at one of the places, so `ring` is an operator
+    // for each.
+    let problem = places(rt.alloc(), 1100)?;
+    let summary = b"Translator candidates: 5
+Translator invariants: 2
+Translator variables: 2
+Translator facts: 1103
+Translator mutex groups: 1
+Translator operators: 2200
+Translator axioms: 0
+";
+    assert!(rt; tells(rt.alloc(), LEAVE, problem.as_bytes(), summary)?);
     Ok(())
 }

@@ -24,17 +24,22 @@ static ACCEPTED: [&[&str]; 4] = [
     ],
 ];
 
-/// Whether these words write the text and the lines of the switch task.
-fn are_accepted(alloc: Global, words: &[&str]) -> Result<bool, AllocError> {
+/// Whether these words write this text of the switch task and print this.
+fn are_done(
+    alloc: Global,
+    words: &[&str],
+    text: &[u8],
+    printed: &[u8],
+) -> Result<bool, AllocError> {
     let mut outside = switch(alloc)?;
     let is_done = answers(alloc, words, &mut outside, Status::Done)?;
-    Ok(is_done && outside.holds("output.sas", TEXT) && outside.has_printed(SUMMARY))
+    Ok(is_done && outside.holds("output.sas", text) && outside.has_printed(printed))
 }
 
 #[test]
 fn options_that_change_nothing_are_accepted(rt: HostRuntime) -> Result<(), AllocError> {
     for (number, words) in ACCEPTED.iter().enumerate() {
-        assert!(rt; are_accepted(rt.alloc(), words)?, "row {number}");
+        assert!(rt; are_done(rt.alloc(), words, TEXT, SUMMARY)?, "row {number}");
     }
     Ok(())
 }
@@ -150,44 +155,33 @@ end_operator
 0
 ";
 
-/// The numbers of candidates and of invariants where so many candidates are tried at most, and the text. `{on}` is tried
-/// first. It isn't balanced, since `flip` adds `on` and deletes no `on`, and its one repair is `{on, off}`, which then
-/// stands third. `{off}` is second, and balanced, since nothing adds `off`; its group has one fact. `{on, off}` is
-/// balanced, since `flip` deletes the `off` that it needs, and it has no repair.
-static LIMITS: [(&str, [u64; 2], &[u8]); 6] = [
-    ("0", [0, 0], TWO_VALUED),
-    ("1", [1, 0], TWO_VALUED),
-    ("2", [2, 1], TWO_VALUED),
-    ("3", [3, 2], TEXT),
-    ("0002", [2, 1], TWO_VALUED),
-    ("2147483647", [3, 2], TEXT),
+/// What is printed first where so many candidates are tried at most, and the text. The numbers are those of candidates,
+/// invariants, variables, facts and mutex groups. `{on}` is tried first. It isn't balanced, since `flip` adds `on` and
+/// deletes no `on`, and its one repair is `{on, off}`, which then stands third. `{off}` is second, and balanced, since
+/// nothing adds `off`; its group has one fact. `{on, off}` is balanced, since `flip` deletes the `off` that it needs, and it
+/// has no repair.
+static LIMITS: [(&str, [u64; 5], &[u8]); 6] = [
+    ("0", [0, 0, 2, 4, 0], TWO_VALUED),
+    ("1", [1, 0, 2, 4, 0], TWO_VALUED),
+    ("2", [2, 1, 2, 4, 0], TWO_VALUED),
+    ("3", [3, 2, 1, 2, 1], TEXT),
+    ("0002", [2, 1, 2, 4, 0], TWO_VALUED),
+    ("2147483647", [3, 2, 1, 2, 1], TEXT),
 ];
 
-/// Whether this text is written and these numbers are printed first.
+/// Whether this text is written and these numbers are printed.
 fn is_written_within(
     alloc: Global,
     limit: &str,
-    numbers: &[u64; 2],
+    numbers: &[u64; 5],
     text: &[u8],
 ) -> Result<bool, AllocError> {
     let words = ["translate", "d.pddl", "p.pddl", CANDIDATES, limit];
-    let [candidates, invariants] = *numbers;
+    let [candidates, invariants, variables, facts, groups] = *numbers;
     let printed = format!(in alloc;
-        "Translator candidates: {candidates}\nTranslator invariants: {invariants}\nTranslator variables: "
+        "Translator candidates: {candidates}\nTranslator invariants: {invariants}\nTranslator variables: {variables}\nTranslator facts: {facts}\nTranslator mutex groups: {groups}\nTranslator operators: 1\nTranslator axioms: 0\n"
     )?;
-    begins_with(alloc, &words, text, printed.as_bytes())
-}
-
-/// Whether these words write the text, and what is printed begins so.
-fn begins_with(
-    alloc: Global,
-    words: &[&str],
-    text: &[u8],
-    printed: &[u8],
-) -> Result<bool, AllocError> {
-    let mut outside = switch(alloc)?;
-    let is_done = answers(alloc, words, &mut outside, Status::Done)?;
-    Ok(is_done && outside.holds("output.sas", text) && outside.begins_with(printed))
+    are_done(alloc, &words, text, printed.as_bytes())
 }
 
 #[test]

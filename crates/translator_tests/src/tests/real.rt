@@ -2,8 +2,8 @@
 
 use super::{DOMAIN, PROBLEM, TEXT, words};
 use std::alloc::AllocError;
-use std::fs;
 use std::test::*;
+use std::{fs, io};
 use tl_device::{RealConsole, RealFiles};
 use translator::{Status, translate};
 
@@ -23,22 +23,27 @@ static DOMAIN_NAME: &str = "translate_real_domain";
 
 static PROBLEM_NAME: &str = "translate_real_problem";
 
+/// Leaves the two files of the switch task, and in the place of the output file a longer one.
+fn set_files(rt: &HostRuntime) -> io::Result<()> {
+    fs::write(rt, DOMAIN_NAME, DOMAIN)?;
+    fs::write(rt, PROBLEM_NAME, PROBLEM)?;
+    fs::write(rt, "output.sas", TEXT.repeat(rt.alloc(), 2)?.as_slice())
+}
+
+fn remove_files(rt: &HostRuntime) -> io::Result<()> {
+    for name in [DOMAIN_NAME, PROBLEM_NAME, "output.sas"] {
+        fs::remove_file(rt, name)?;
+    }
+    Ok(())
+}
+
 #[test]
 fn the_switch_task_is_written_to_the_real_output_file(rt: HostRuntime) -> Result<(), Fail> {
-    fs::write(&rt, DOMAIN_NAME, DOMAIN)?;
-    fs::write(&rt, PROBLEM_NAME, PROBLEM)?;
-    fs::write(&rt, "output.sas", TEXT.repeat(rt.alloc(), 2)?.as_slice())?;
-    assert!(rt;
-        answers(
-            &rt,
-            &["translate", DOMAIN_NAME, "translate_no_file"],
-            Status::Device
-        )?
-    );
+    set_files(&rt)?;
+    let absent = ["translate", DOMAIN_NAME, "translate_no_file"];
+    assert!(rt; answers(&rt, &absent, Status::Device)?);
     assert!(rt; answers(&rt, &["translate", DOMAIN_NAME, PROBLEM_NAME], Status::Done)?);
     assert!(rt; holds(&rt, "output.sas", TEXT));
-    for name in [DOMAIN_NAME, PROBLEM_NAME, "output.sas"] {
-        fs::remove_file(&rt, name)?;
-    }
+    remove_files(&rt)?;
     Ok(())
 }

@@ -148,7 +148,7 @@ const SHOP: &str =
 const FIT: &str = "(define (domain fit) (:types t u) (:predicates (p ?x - t) (done))
  (:action go :parameters (?x - u) :precondition (p ?x) :effect (done)))";
 
-static GROUNDING: [Row; 8] = [
+static GROUNDING: [Row; 9] = [
     // An instance whose cost has no value is none.
     Row {
         domain: SHOP,
@@ -219,6 +219,20 @@ static GROUNDING: [Row; 8] = [
         rules: &[],
         found: (2, 0),
     },
+    // Nine parameters.
+    Row {
+        domain: "(define (domain nine) (:predicates (done))
+ (:action act :parameters (?a ?b ?c ?d ?e ?f ?g ?h ?i) :effect (done)))",
+        problem: "(define (problem n) (:domain nine) (:objects o) (:init) (:goal (done)))",
+        metric: "0",
+        variables: &[("-1", "Atom done() / NegatedAtom done()")],
+        groups: &[],
+        state: "1",
+        goal: "1 / 0 0",
+        operators: &["act o o o o o o o o o / 0 / 1 / 0 0 -1 0 / 1"],
+        rules: &[],
+        found: (1, 0),
+    },
     // A parameter of a type without objects gives no operator.
     Row {
         domain: "(define (domain none) (:types spare) (:predicates (p) (q))
@@ -288,7 +302,7 @@ const DARK: &str = "(define (domain switch) (:types spare) (:predicates (on) (of
 
 const ONE: &str = "(define (problem one) (:domain switch) (:init (off)) (:goal (on)))";
 
-static CONDITIONS: [Row; 9] = [
+static CONDITIONS: [Row; 10] = [
     // All objects of a type without objects.
     Row {
         domain: LAMP,
@@ -317,7 +331,7 @@ static CONDITIONS: [Row; 9] = [
     },
     // A goal out of reach.
     Row {
-        domain: LAMP,
+        domain: "(define (domain switch) ; a lamp\n (:predicates (on) (off))\n (:action flip :parameters ()\n  :precondition (off)\n  :effect (and (on) (not (off)))))",
         problem: "(define (problem one) (:domain switch) (:init) (:goal (on)))",
         metric: "0",
         variables: &[("-1", "Atom goal@holder() / NegatedAtom goal@holder()")],
@@ -429,6 +443,31 @@ static CONDITIONS: [Row; 9] = [
         rules: &["1 / 0 0 / 2 1 0", "1 / 1 0 / 2 1 0"],
         found: (2, 0),
     },
+    // A `forall` over which four variables are free is a derived atom of four arguments.
+    Row {
+        domain: "(define (domain four) (:predicates (p ?a ?b ?c ?d ?x) (done))
+ (:action act :parameters (?a ?b ?c ?d) :precondition (forall (?x) (p ?a ?b ?c ?d ?x)) :effect (done))
+ (:action set :parameters (?x) :effect (p ?x ?x ?x ?x ?x)))",
+        problem: "(define (problem f) (:domain four) (:objects o) (:init) (:goal (done)))",
+        metric: "0",
+        variables: &[
+            ("-1", "Atom p(o, o, o, o, o) / NegatedAtom p(o, o, o, o, o)"),
+            ("-1", "Atom done() / NegatedAtom done()"),
+            (
+                "0",
+                "Atom new-axiom@0(o, o, o, o) / NegatedAtom new-axiom@0(o, o, o, o)",
+            ),
+        ],
+        groups: &[],
+        state: "1 / 1 / 1",
+        goal: "1 / 1 0",
+        operators: &[
+            "act o o o o / 1 / 2 1 / 1 / 0 1 -1 0 / 1",
+            "set o / 0 / 1 / 0 0 -1 0 / 1",
+        ],
+        rules: &["1 / 0 1 / 2 1 0"],
+        found: (7, 0),
+    },
 ];
 
 #[test]
@@ -436,7 +475,7 @@ fn conditions_and_goals_of_all_forms_are_translated(rt: HostRuntime) -> Result<(
     assert_rows(&rt, rt.alloc(), &CONDITIONS)
 }
 
-static EFFECTS: [Row; 6] = [
+static EFFECTS: [Row; 8] = [
     // A delete effect without a condition needs none in the task, since nothing sets the other value.
     Row {
         domain: "(define (domain w) (:predicates (p)) (:action wipe :effect (not (p))))",
@@ -485,6 +524,44 @@ static EFFECTS: [Row; 6] = [
         operators: &[
             "act / 0 / 3 / 2 0 0 2 1 1 -1 0 / 2 0 1 1 0 1 -1 1 / 2 1 0 2 0 1 -1 1 / 1",
             "change / 0 / 2 / 0 0 -1 1 / 0 2 -1 0 / 1",
+        ],
+        rules: &[],
+        found: (3, 1),
+    },
+    // A delete under a condition.
+    Row {
+        domain: "(define (domain fade) (:predicates (p) (q)) (:action act :effect (when (q) (not (p)))) (:action set :effect (q)))",
+        problem: "(define (problem f) (:domain fade) (:init (p)) (:goal (not (p))))",
+        metric: "0",
+        variables: &[
+            ("-1", "Atom p() / NegatedAtom p()"),
+            ("-1", "Atom q() / NegatedAtom q()"),
+        ],
+        groups: &[],
+        state: "0 / 1",
+        goal: "1 / 0 1",
+        operators: &[
+            "act / 0 / 1 / 1 1 0 0 -1 1 / 1",
+            "set / 0 / 1 / 0 1 -1 0 / 1",
+        ],
+        rules: &[],
+        found: (2, 1),
+    },
+    // The condition of an effect is looked at before the action, so what is deleted may be its condition.
+    Row {
+        domain: "(define (domain turn) (:predicates (p) (q)) (:action act :effect (and (not (p)) (when (p) (q)))) (:action more :effect (q)))",
+        problem: "(define (problem t) (:domain turn) (:init (p)) (:goal (q)))",
+        metric: "0",
+        variables: &[
+            ("-1", "Atom p() / NegatedAtom p()"),
+            ("-1", "Atom q() / NegatedAtom q()"),
+        ],
+        groups: &[],
+        state: "0 / 1",
+        goal: "1 / 1 0",
+        operators: &[
+            "act / 0 / 2 / 0 0 -1 1 / 1 0 0 1 -1 0 / 1",
+            "more / 0 / 1 / 0 1 -1 0 / 1",
         ],
         rules: &[],
         found: (3, 1),

@@ -6,7 +6,7 @@ use Rattle.relaxed_reach.specs.declared.types.Fact.{Fact}
 use Rattle.relaxed_reach.specs.declared.types.Reached.{Reached}
 use Rattle.relaxed_reach.specs.Lawful.{IsLawful}
 use Rattle.relaxed_reach.specs.Layers.{AreLayers}
-use Rattle.axiom_layers.specs.declared.arcs.Arc.{Arc}
+use Rattle.names.specs.declared.arcs.Arc.{Arc}
 use Rattle.axiom_layers.specs.Arcs.{arcs_of, AreSound, IsAbove, AreHeld}
 use Rattle.axiom_layers.proofs.Found.{sound, are_layers}
 use Rattle.axiom_layers.proofs.Lifts.{below_count}

@@ -1,12 +1,10 @@
 -- What the encoding asks of the cover comes from the groups.
 use Rattle.std.proofs.Common.{◌<◌, ℕ, List, length, sym, ap, ◌∙◌, subst}
-use Rattle.std.specs.Prelude.{IfOk}
 use Rattle.std.specs.List.{All}
 use Rattle.std.specs.List.Sorted.{IsStrictlyIncreasing}
 use Rattle.relaxed_reach.specs.declared.types.Fact.{Fact}
-use Rattle.relaxed_reach.specs.Exclusive.{IsExclusive}
-use Rattle.fdr_encoder.specs.Simulates.{IsCover, IsGroup, Simulates}
-use Rattle.fdr_encoder.proofs.Covers.{covered_by_groups, exclusive_by_groups, sets_apart, sets_of_facts}
+use Rattle.fdr_encoder.specs.Covers.{MakesVariables, IsBasicGroup}
+use Rattle.fdr_encoder.proofs.Covers.{covered_by_groups, sets_apart, sets_of_facts}
 use Rattle.fdr_encoder.proofs.encoding.encode.Goals as goal
 
 pub new-requires-clause-facts : goal.new-requires-clause-facts
@@ -20,19 +18,11 @@ new-requires-clause-apart c =
 
 pub encode_over-requires-clause-cover : goal.encode_over-requires-clause-cover
 encode_over-requires-clause-cover c =
-    subst (IsCover c.args.reached.now) (sym (c.in_ok-index.ensures ∙ c.as_slice-2.ensures)) (covered_by_groups c.args.reached.now c.args.groups.now.groups c.args.cover.now.sets c.requires.groups c.requires.cover)
+    subst (MakesVariables c.args.reached.now) (sym (c.in_ok-index.ensures ∙ c.as_slice-2.ensures)) (covered_by_groups c.args.reached.now c.args.groups.now.groups c.args.cover.now.sets c.requires.groups c.requires.cover)
 
 pub encode_over-requires-clause-apart : goal.encode_over-requires-clause-apart
 encode_over-requires-clause-apart c =
     subst (All IsStrictlyIncreasing) (sym (c.in_ok-index.ensures ∙ c.as_slice-2.ensures)) (sets_apart c.args.reached.now c.args.groups.now.groups c.args.cover.now.sets c.requires.groups c.requires.cover)
 
 pub encode_over-requires-clause-groups : goal.encode_over-requires-clause-groups
-encode_over-requires-clause-groups c = subst (All (IsGroup c.args.reached.now)) (sym c.as_slice-3.ensures) c.requires.groups
-
-pub returns-clause-simulates : goal.returns-clause-simulates
-returns-clause-simulates c exclusive =
-    let reached = c.args.reached.now in
-    subst (λ (sets : List (List ℕ)). IfOk c.encode_over.result (Simulates sets reached)) (c.in_ok-index.ensures ∙ c.as_slice-2.ensures)
-    (c.encode_over.ensures.simulates
-    (subst (All (IsExclusive reached)) (sym (c.in_ok-index.ensures ∙ c.as_slice-2.ensures)) (exclusive_by_groups reached c.args.groups.now.groups c.args.cover.now.sets exclusive c.requires.cover))
-    (subst (All (IsExclusive reached)) (sym c.as_slice-3.ensures) exclusive))
+encode_over-requires-clause-groups c = subst (All (IsBasicGroup c.args.reached.now)) (sym c.as_slice-3.ensures) c.requires.groups

@@ -1,14 +1,9 @@
--- Part by part the task is the encoding, so that it is valid and simulates.
-use Rattle.std.proofs.Common.{length, refl, sym, ap, ◌∙◌, subst}
-use Rattle.std.specs.List.{flat_map}
+-- Part by part the task is the encoding, so that it is valid.
+use Rattle.std.proofs.Common.{length, refl, ap, ◌∙◌}
 use Rattle.sas_task.specs.Task.{Task}
-use Rattle.fdr_encoder.specs.Effects.{operators_at}
 use Rattle.fdr_encoder.specs.Encoding.{layer_above, goal_part}
-use Rattle.fdr_encoder.specs.Ordered.{AreByName}
 use Rattle.fdr_encoder.proofs.Assembled.{assembled}
-use Rattle.fdr_encoder.proofs.OrderedEncoding.{in_order_is}
 use Rattle.fdr_encoder.proofs.Validity.{encoding_is_valid}
-use Rattle.fdr_encoder.proofs.Plans.{simulates}
 use Rattle.fdr_encoder.proofs.encoding.encode_over.Goals as goal
 
 pub from_parts-requires : goal.from_parts-requires
@@ -29,7 +24,7 @@ from_parts-requires c =
       rules = c.in_ok-rules.rules;
     } in
     let encoding = assembled cover mutexes layers reached members task c.requires.members refl (c.in_ok-variables.ensures (length cover)) c.in_ok-groups.ensures (c.in_ok-state.ensures (length cover) above) (c.in_ok-goal.ensures above ∙ ap (λ var. (goal_part var above members).goal) c.variables-2.ensures) c.in_ok-operators.ensures (c.in_ok-rules.ensures above) in
-    encoding_is_valid reached c.requires.lawful cover c.requires.cover mutexes c.requires.groups layers c.requires.layers c.requires.few task (in_order_is cover mutexes layers reached task encoding)
+    encoding_is_valid reached c.requires.lawful cover c.requires.cover mutexes c.requires.groups layers c.requires.layers c.requires.few task encoding
 
 pub returns : goal.returns
 returns c =
@@ -41,8 +36,8 @@ returns c =
     let above = layer_above reached layers in
     let task = c.from_parts.result in
     let is = c.from_parts.ensures in
-    let operators = subst (AreByName (flat_map (operators_at cover) reached.actions)) (ap (λ (t : Task). t.operators) (sym is)) c.in_ok-operators.ensures in
-    let ordered = assembled cover mutexes layers reached members task c.requires.members (ap (λ (t : Task). t.metric) is) (ap (λ (t : Task). t.variables) is ∙ c.in_ok-variables.ensures (length cover)) (ap (λ (t : Task). t.groups) is ∙ c.in_ok-groups.ensures) (ap (λ (t : Task). t.state) is ∙ c.in_ok-state.ensures (length cover) above) (ap (λ (t : Task). t.goal) is ∙ c.in_ok-goal.ensures above ∙ ap (λ var. (goal_part var above members).goal) c.variables-2.ensures) operators (ap (λ (t : Task). t.rules) is ∙ c.in_ok-rules.ensures above) in
-    let encoding = in_order_is cover mutexes layers reached task ordered in
-    let valid = encoding_is_valid reached c.requires.lawful cover c.requires.cover mutexes c.requires.groups layers c.requires.layers c.requires.few task encoding in
-    record { encoding = ordered; valid = valid; simulates = λ sets-exclusive groups-exclusive. simulates reached c.requires.lawful cover c.requires.cover mutexes c.requires.groups sets-exclusive groups-exclusive layers task encoding valid }
+    let encoding = assembled cover mutexes layers reached members task c.requires.members (ap (λ (t : Task). t.metric) is) (ap (λ (t : Task). t.variables) is ∙ c.in_ok-variables.ensures (length cover)) (ap (λ (t : Task). t.groups) is ∙ c.in_ok-groups.ensures) (ap (λ (t : Task). t.state) is ∙ c.in_ok-state.ensures (length cover) above) (ap (λ (t : Task). t.goal) is ∙ c.in_ok-goal.ensures above ∙ ap (λ var. (goal_part var above members).goal) c.variables-2.ensures) (ap (λ (t : Task). t.operators) is ∙ c.in_ok-operators.ensures) (ap (λ (t : Task). t.rules) is ∙ c.in_ok-rules.ensures above) in
+    record {
+      encoding = encoding;
+      valid = encoding_is_valid reached c.requires.lawful cover c.requires.cover mutexes c.requires.groups layers c.requires.layers c.requires.few task encoding;
+    }

@@ -4,7 +4,7 @@ use Rattle.std.specs.List.{Contains}
 use Rattle.std.specs.Vec.{vec_len}
 use Rattle.itertools.specs.Odometer.{ways}
 use Rattle.itertools.specs.Pool.{multi_left, sizes_high, pool_sizes, ClonesEach}
-use Rattle.sas_task.proofs.Members.{member_first, member_later}
+use Rattle.lists.proofs.Members.{member_first, member_later}
 use Rattle.fdr_encoder.proofs.Combined.{items, read, low, taken, taken_are, all_ways, all_fit, read_is, ways_of, one_taken}
 use Rattle.fdr_encoder.proofs.splits.combined.Goals as goal
 

@@ -1,4 +1,4 @@
-use Rattle.invariant_guess.proofs.Turns.{begun, repaired as all_repaired, nothing_else}
+use Rattle.invariant_guess.proofs.Queue.{begun, repaired as all_repaired, nothing_else}
 use Rattle.invariant_guess.proofs.laws.closure.Goals as goal
 
 pub returns-clause-begins : goal.returns-clause-begins

@@ -1,4 +1,4 @@
-use Rattle.invariant_guess.proofs.Turns.{found_formed, found_accepted}
+use Rattle.invariant_guess.proofs.Queue.{found_formed, found_accepted}
 use Rattle.invariant_guess.proofs.laws.finds.Goals as goal
 
 pub returns-clause-well_formed : goal.returns-clause-well_formed

@@ -1,4 +1,4 @@
-use Rattle.invariant_guess.proofs.Turns.{all_formed, each_once as once, front_of}
+use Rattle.invariant_guess.proofs.Queue.{all_formed, each_once as once, front_of}
 use Rattle.std.proofs.Common.{suc, arith}
 use Rattle.invariant_guess.proofs.laws.queues.Goals as goal
 

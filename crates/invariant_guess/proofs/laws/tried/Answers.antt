@@ -1,4 +1,4 @@
-use Rattle.invariant_guess.proofs.Turns.{some_order as order_of, some_number, one_number, tried_are_smaller, tried_are_first}
+use Rattle.invariant_guess.proofs.Queue.{some_order as order_of, some_number, one_number, tried_are_smaller, tried_are_first}
 use Rattle.invariant_guess.proofs.laws.tried.Goals as goal
 
 pub returns-clause-some_order : goal.returns-clause-some_order

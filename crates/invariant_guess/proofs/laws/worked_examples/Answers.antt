@@ -1,6 +1,7 @@
 use Rattle.std.proofs.Common.{refl}
-use Rattle.invariant_guess.specs.Examples.{switch, back, bell}
-use Rattle.invariant_guess.proofs.Turns.{tried_by}
+use Rattle.invariant_check.specs.Examples.{switch, back}
+use Rattle.invariant_guess.specs.Examples.{bell}
+use Rattle.invariant_guess.proofs.Queue.{tried_by}
 use Rattle.invariant_guess.proofs.laws.worked_examples.Goals as goal
 
 pub returns-clause-order_of_switch : goal.returns-clause-order_of_switch

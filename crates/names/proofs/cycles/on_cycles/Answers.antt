@@ -1,12 +1,12 @@
 use Rattle.std.proofs.Common.{[], sym, ap, ◌∙◌}
 use Rattle.std.specs.List.{list_any}
 use Rattle.names.specs.Names.{is_same}
-use Rattle.names.specs.declared.links.Pair.{Pair}
+use Rattle.names.specs.declared.links.Ends.{Ends}
 use Rattle.names.proofs.CycleNames.{answer_at, named, passed, all_passed}
 use Rattle.names.proofs.cycles.on_cycles.Goals as goal
 use Rattle.names.proofs.cycles.on_cycles.Goals.{then-index+in_ok-add, else-index}
 
-abbrev no_pair : Pair
+abbrev no_pair : Ends
 no_pair = record { from = record { ref_ptr = (0, 0); now = [] }; to = record { ref_ptr = (0, 0); now = [] } }
 
 pub loop-position-preserved : goal.loop-position-preserved

@@ -2,9 +2,10 @@ use Rattle.std.proofs.Common.{◌≡◌, ℕ, List, [], ◌∷◌, ◌++◌, map
 use Rattle.std.proofs.lemmas.Result.{on_ok_weaker}
 use Rattle.pddl_parser.specs.Holds as pddl
 use Rattle.pddl_parser.specs.Words.{is_same}
+use Rattle.normal_task.specs.Meaning.{is_same_value}
 use Rattle.normal_task.specs.declared.task.ValueRow.{ValueRow}
 use Rattle.normal_task.specs.Keys.{value_key}
-use Rattle.normal_task.specs.Normalised.{once_after, value_row, is_same_value}
+use Rattle.normal_task.specs.Normalised.{once_after, value_row}
 use Rattle.normal_task.specs.Numbers.{function_number, object_number}
 use Rattle.numbering.proofs.OnceSteps.{once-step}
 use Rattle.numbering.proofs.initial.push_value.Goals as goal
@@ -25,7 +26,7 @@ returns-in_ok-key-in-Value c = λ so_far keys_are items_are.
     ap (λ (row : ValueRow). so_far ++ row ∷ []) c.in_ok-row-in-Value.ensures ∙ sym (ap (λ (l : List ValueRow). so_far ++ l) kept) in
     on_ok_weaker c.push_new.result
     (λ made.
-    let step = once-step domain problem (is_same_value domain problem) value_key (λ a b. refl) c.args.keys.now c.args.rows.now.items so_far keys_are items_are c.in_ok-row-in-Value.row c.in_ok-key-in-Value.key.items
+    let step = once-step domain problem is_same_value value_key (λ a b. refl) c.args.keys.now c.args.rows.now.items so_far keys_are items_are c.in_ok-row-in-Value.row c.in_ok-key-in-Value.key.items
     (c.in_ok-key-in-Value.ensures ∙ ap (λ l. c.in_ok-row-in-Value.row.function ∷ l) c.as_slice-in-Value.ensures) c.push_new.new.keys c.push_new.new.items.items made in
-    (step.0, step.1 ∙ ap (once_after domain problem (is_same_value domain problem) []) added))
+    (step.0, step.1 ∙ ap (once_after domain problem is_same_value []) added))
     c.push_new.ensures

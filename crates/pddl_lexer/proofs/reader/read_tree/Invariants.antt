@@ -1,5 +1,5 @@
 use Rattle.std.proofs.Common.{length}
-use Rattle.pddl_lexer.proofs.Turns.{Passed}
+use Rattle.pddl_lexer.proofs.ReaderTurns.{Passed}
 use Rattle.pddl_lexer.proofs.reader.read_tree.Given as goal
 
 abbrev pub invariant-loop-text : goal.invariant-loop-text

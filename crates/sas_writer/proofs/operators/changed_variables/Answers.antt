@@ -2,7 +2,7 @@ use Rattle.std.proofs.Common.{◌==◌, ◌∙◌, ap, sym}
 use Rattle.std.specs.List.{list_any}
 use Rattle.std.proofs.lemmas.List.Sorted.{IsNonDecreasingBy-from_sort, list_any-IsPermutation}
 use Rattle.sas_task.specs.declared.parts.Effect.{Effect}
-use Rattle.sas_writer.proofs.Searches.{list_any-map}
+use Rattle.lists.proofs.Items.{any_map}
 use Rattle.sas_writer.proofs.operators.changed_variables.Goals as goal
 
 pub returns-clause-sorted : goal.returns-clause-sorted
@@ -12,4 +12,4 @@ pub returns-clause-changed : goal.returns-clause-changed
 returns-clause-changed c var =
     sym (list_any-IsPermutation (λ v. v == var) c.in_ok-changed.changed.items c.sort_unstable.new.self.items c.sort_unstable.ensures.permutation)
     ∙ ap (list_any (λ v. v == var)) c.in_ok-changed.ensures
-    ∙ list_any-map (λ (e : Effect). e.var) var c.args.effects.now
+    ∙ any_map (λ v. v == var) (λ (e : Effect). e.var) c.args.effects.now

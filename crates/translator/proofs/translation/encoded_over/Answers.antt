@@ -1,5 +1,4 @@
-use Rattle.std.proofs.Common.{List, length, ap, subst}
-use Rattle.relaxed_reach.specs.declared.types.Fact.{Fact}
+use Rattle.std.proofs.Common.{List, subst}
 use Rattle.invariant_check.specs.declared.types.Candidate.{Candidate}
 use Rattle.mutex_groups.specs.Groups.{AreGroups}
 use Rattle.group_cover.specs.Cover.{IsCover}
@@ -7,8 +6,7 @@ use Rattle.translator.proofs.Translated.{sorted_groups, encoding_of_run}
 use Rattle.translator.proofs.translation.encoded_over.Goals as goal
 
 pub encode-requires-clause-cover : goal.encode-requires-clause-cover
-encode-requires-clause-cover c =
-    subst (λ n. IsCover n c.in_ok-groups.groups.groups c.in_ok-cover.cover.sets) (ap (λ (fs : List Fact). length fs) c.as_slice-2.ensures) c.in_ok-cover.ensures
+encode-requires-clause-cover c = subst (λ n. IsCover n c.in_ok-groups.groups.groups c.in_ok-cover.cover.sets) c.facts_of.ensures c.in_ok-cover.ensures
 
 pub encode-requires-clause-groups : goal.encode-requires-clause-groups
 encode-requires-clause-groups c =
@@ -22,6 +20,5 @@ returns c =
     let reached = c.args.reached.now in
     let are : AreGroups c.args.normal.now c.args.found.now.accepted reached c.in_ok-groups.groups.groups =
     subst (λ (candidates : List Candidate). AreGroups c.args.normal.now candidates reached c.in_ok-groups.groups.groups) c.as_slice.ensures c.in_ok-groups.ensures.groups in
-    encoding_of_run c.args.normal.now c.args.found.now c.requires.reached.ground_of reached c.in_ok-layers.layers.items c.deref.result.now c.in_ok-groups.groups.groups c.in_ok-cover.cover.sets _ c.encode.result
-    c.requires.reached.is_ground c.requires.reached.is_reached c.in_ok-layers.ensures.layers c.deref.ensures.value are
-    (ap (λ (fs : List Fact). length fs) c.as_slice-2.ensures) c.in_ok-cover.ensures c.encode.ensures.encoding c.encode.ensures.valid
+    encoding_of_run c.args.normal.now c.args.found.now reached c.in_ok-layers.layers.items c.deref.result.now c.in_ok-groups.groups.groups c.in_ok-cover.cover.sets c.facts_of.result c.encode.result
+    c.requires.reached c.in_ok-layers.ensures.layers c.deref.ensures.value are c.facts_of.ensures c.facts_of.type_inv c.in_ok-cover.ensures c.encode.ensures.encoding

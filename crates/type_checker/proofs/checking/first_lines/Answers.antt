@@ -3,7 +3,8 @@ use Rattle.pddl_lexer.specs.declared.fault.Kind.{Kind}
 use Rattle.type_checker.specs.Lines.{earliest}
 use Rattle.type_checker.specs.Mentions.{in_domain}
 use Rattle.type_checker.specs.Names.{domain_arities, wrong_uses, total_cost_heads}
-use Rattle.type_checker.specs.Rows.{row_of, first_lines}
+use Rattle.type_checker.specs.Faults.{row_of}
+use Rattle.type_checker.specs.Rows.{first_lines}
 use Rattle.type_checker.proofs.FirstLines.{first_of_same}
 use Rattle.type_checker.proofs.Joined.{earliest_of_both}
 use Rattle.type_checker.proofs.checking.first_lines.Goals as goal

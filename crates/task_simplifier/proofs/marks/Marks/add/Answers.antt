@@ -1,10 +1,13 @@
 -- The row of the variable is changed, and no other.
-use Rattle.std.proofs.Common.{◌<◌, true, length, set, sym, ap, ◌∙◌, arith}
+use Rattle.std.proofs.Common.{◌≡◌, ℕ, ◌<◌, true, List, [], map, length, get_or, set, sym, ap, ◌∙◌, arith}
 use Rattle.std.specs.Vec.{with_items}
-use Rattle.std.proofs.lemmas.List.{length-set, with_items_is}
+use Rattle.std.proofs.lemmas.List.{length-set, map-set, get_or-map, with_items_is}
 use Rattle.task_simplifier.specs.Marked.{with_mark}
-use Rattle.task_simplifier.proofs.Lists.{row_set}
 use Rattle.task_simplifier.proofs.marks.Marks.add.Goals as goal
+
+row_set : {R X : Type 0} (items : R → List X) (rows : List R) (i : ℕ) (row changed : R) (change : List X → List X) → i < length rows → row ≡ get_or rows i row → items changed ≡ change (items row) → map items (set rows i changed) ≡ set (map items rows) i (change (get_or (map items rows) i []))
+row_set items rows i row changed change low at is =
+    map-set items rows i changed ∙ ap (set (map items rows) i) (is ∙ ap change (ap items at ∙ sym (get_or-map items rows i row [] low)))
 
 pub returns-clause-marks : goal.returns-clause-marks
 returns-clause-marks c =

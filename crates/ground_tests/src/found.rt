@@ -1,0 +1,52 @@
+//! The ground task and the reached task of a pair of texts.
+
+ghost use Rattle.std.specs.Prelude.{◌≡◌, ◌<◌, IfOk, IfSome};
+ghost use Rattle.normal_task.specs.Lawful.{IsLawful as IsLawfulNormal};
+ghost use Rattle.static_matcher.specs.Lawful.{IsLawful as IsLawfulGround};
+ghost use Rattle.relaxed_reach.specs.Lawful.{IsLawful};
+
+use normal_task::Normal;
+use relaxed_reach::{Reached, Steps, reach};
+use static_matcher::{Ground, instances};
+use std::alloc::{AllocError, Global};
+use std::marker::Brand;
+use std::sync::ledger::{Blank, Ledger};
+use worked_tasks::normal_task;
+
+fn instances_of(alloc: Global, normal: &Normal) -> Result<Ground, AllocError>
+    requires { IsLawfulNormal normal.now }
+    ensures { IfOk result IsLawfulGround }
+{
+    instances(alloc, normal)
+}
+
+/// The ground task of two texts without a fault.
+pub(crate) fn ground_of(alloc: Global, domain: &str, problem: &str) -> Option<Ground>
+    ensures { IfSome result IsLawfulGround }
+{
+    let normal = normal_task(alloc, domain, problem)?;
+    instances_of(alloc, &normal).ok()
+}
+
+fn reached_by<L: Ledger>(
+    alloc: Global,
+    ground: &Ground,
+    blank: Blank,
+) -> Result<Reached, AllocError>
+    requires name { blank.name ≡ L.name }
+    requires parts { blank.parts ≡ L.parts }
+    requires some { 0 < L.parts }
+    requires lawful { IsLawfulGround ground.now }
+    ensures { IfOk result IsLawful }
+{
+    let mut steps = Steps::<L>::new(blank);
+    reach(alloc, ground, &mut steps)
+}
+
+/// The reached task of a ground task.
+pub(crate) fn reached_of(alloc: Global, ground: &Ground) -> Result<Reached, AllocError>
+    requires { IsLawfulGround ground.now }
+    ensures { IfOk result IsLawful }
+{
+    reached_by::<Brand>(alloc, ground, Blank::new(1))
+}

@@ -1,0 +1,44 @@
+-- A domain and a problem for worked examples: a lamp that one action switches on, which costs 3.
+use Rattle.std.specs.Prelude.{ℕ, true, List, [], ◌∷◌, codes}
+use Rattle.pddl_parser.specs.declared.types.Action.{Action}
+use Rattle.pddl_parser.specs.declared.types.Atom as atoms
+use Rattle.pddl_parser.specs.declared.types.Condition.TheVariants.{True, Atom}
+use Rattle.pddl_parser.specs.declared.types.Cost.TheVariants.{Number}
+use Rattle.pddl_parser.specs.declared.types.Domain.{Domain}
+use Rattle.pddl_parser.specs.declared.types.Effect.TheVariants.{Add, And, Increase}
+use Rattle.pddl_parser.specs.declared.types.Named.{Named}
+use Rattle.pddl_parser.specs.declared.types.Problem.{Problem}
+use Rattle.pddl_parser.specs.Words.{Name}
+
+-- the name, on line 1
+abbrev pub named : Name → Named
+named name = record { name = name; line = 1 }
+
+-- an atom without arguments
+abbrev pub alone : Name → atoms.Atom
+alone name = record { predicate = named name; terms = []; line = 1 }
+
+-- `(:action switch :effect (and (lit) (increase (total-cost) 3)))`
+abbrev pub switch : Action
+switch =
+    record {
+      name = named (codes "switch");
+      parameters = [];
+      precondition = True 1;
+      effect = And (Add (alone (codes "lit")) ∷ Increase (alone (codes "total-cost")) (Number 3) 1 ∷ []) 1;
+    }
+
+abbrev pub lamp : Domain
+lamp =
+    record {
+      types = [];
+      constants = [];
+      predicates = record { name = named (codes "lit"); variables = [] } ∷ [];
+      functions = record { name = named (codes "total-cost"); variables = [] } ∷ [];
+      actions = switch ∷ [];
+      axioms = [];
+    }
+
+-- the lamp is off, is to be lit, and the total cost is to be small
+abbrev pub lit_lamp : Problem
+lit_lamp = record { objects = []; init = []; goal = Atom (alone (codes "lit")); metric = true }

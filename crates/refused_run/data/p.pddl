@@ -1,3 +1,0 @@
-(define (problem one) (:domain switch)
- (:init (off))
- (:goal (up)))

@@ -1,0 +1,16 @@
+mod Pairs
+mod Pieces
+mod Exact
+mod Places
+mod Shape
+mod Completed
+mod Steps
+mod Assembled
+-- what a pass owes and gets, which crates above cite
+pub mod Numbers
+pub mod Shown
+pub mod Valid
+pub mod Closed
+pub mod Stands
+pub mod Arranged
+pub mod Told

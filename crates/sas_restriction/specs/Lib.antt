@@ -1,0 +1,5 @@
+pub mod Choice
+pub mod Listed
+pub mod Restriction
+pub mod Closed
+pub mod MayStand

@@ -1,0 +1,13 @@
+//! Restrictions of tasks: to some of their variables, in any order, to some of the values of each, and to some of their
+//! operators. A pass over tasks chooses, and `restrict` does the rest; one law says when the result may stand for the
+//! task.
+#![tactic(auto)]
+
+mod chosen;
+pub mod laws;
+mod parts;
+mod whole;
+
+pub use chosen::{Chosen, Once};
+pub use parts::busy_marks;
+pub use whole::restrict;

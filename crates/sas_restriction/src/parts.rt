@@ -1,0 +1,282 @@
+// What is left of variables, groups, effects, operators and rules.
+
+ghost use Rattle.std.specs.Prelude.{◌≡◌, ◌++◌, ◌<◌, ◌&&◌, Bool, nat_lt, List, [], ◌∷◌, map, filter, length, All, IfOk, OnOk, if◌then◌else◌, slice_index, slice_index_or};
+ghost use Rattle.sas_task.specs.declared.parts.Operator.{Operator as AnOperator};
+ghost use Rattle.sas_task.specs.Valid.{IsValid};
+ghost use Rattle.sas_restriction.specs.Listed.{chosen, with_operators};
+ghost use Rattle.sas_restriction.specs.Choice as choice;
+ghost use Rattle.sas_restriction.specs.Restriction as restriction;
+
+use crate::chosen::{Chosen, Once};
+use lists::{List, Text};
+use sas_orders::arrange;
+use sas_task::{Effect, Group, Operator, Rule, SasTask, Variable};
+use std::alloc::{AllocError, Global};
+
+/// A copy of the fact of this value.
+fn fact_at(alloc: Global, facts: &[Text], val: u64) -> Result<Text, AllocError>
+    ensures { IfOk result (λ fact. fact ≡ slice_index_or facts.now val []) }
+{
+    let fact = match facts.get(val as usize) {
+        Some(fact) => fact.as_slice(),
+        None => &[],
+    };
+    Ok(Text::from_vec(fact.to_vec(alloc)?))
+}
+
+/// Copies of the facts of these values.
+fn facts_at(alloc: Global, facts: &[Text], values: &[u64]) -> Result<Vec<Text>, AllocError>
+    ensures { IfOk result (λ names. names.items ≡ map (λ val. slice_index_or facts.now val []) values.now) }
+{
+    let mut names = Vec::new(alloc);
+    for val in values {
+        names.push(fact_at(alloc, facts, *val)?)?;
+    }
+    Ok(names)
+}
+
+/// The variable with the facts of its values that are left.
+fn new_variable(
+    alloc: Global,
+    shown: &Chosen,
+    task: &SasTask,
+    var: u64,
+) -> Result<Variable, AllocError>
+    requires { var < length task.now.variables }
+    ensures { IfOk result (λ variable. variable ≡ choice.new_variable (chosen shown.now) task.now var) }
+{
+    let old = task.variable(var);
+    let facts = facts_at(alloc, old.facts.as_slice(), shown.values(var))?;
+    Ok(Variable {
+        layer: old.layer,
+        facts: List::from_vec(facts),
+    })
+}
+
+/// The variables that are shown.
+pub(crate) fn new_variables(
+    alloc: Global,
+    shown: &Chosen,
+    task: &SasTask,
+) -> Result<Vec<Variable>, AllocError>
+    requires { All (λ v. v < length task.now.variables) shown.now.vars }
+    ensures { IfOk result (λ variables. variables.items ≡ map (choice.new_variable (chosen shown.now) task.now) shown.now.vars) }
+{
+    let mut variables = Vec::new(alloc);
+    for var in shown.vars() {
+        variables.push(new_variable(alloc, shown, task, *var)?)?;
+    }
+    Ok(variables)
+}
+
+/// The initial values of the variables that are shown.
+pub(crate) fn new_state(
+    alloc: Global,
+    shown: &Chosen,
+    task: &SasTask,
+) -> Result<Vec<u64>, AllocError>
+    requires { All (λ v. v < length task.now.variables) shown.now.vars }
+    ensures { IfOk result (λ state. state.items ≡ map (λ var. choice.new_val (chosen shown.now) var (slice_index task.now.state var)) shown.now.vars) }
+{
+    let mut state = Vec::new(alloc);
+    for var in shown.vars() {
+        state.push(shown.new_val(*var, task.state(*var)))?;
+    }
+    Ok(state)
+}
+
+fn add_group(
+    alloc: Global,
+    shown: &Chosen,
+    groups: &mut Vec<Group>,
+    group: &Group,
+) -> Result<(), AllocError>
+    ensures { OnOk result (let new = choice.new_group (chosen shown.now) group.now in groups.new.items ≡ groups.old.items ++ (if nat_lt 1 (length new.facts) then new ∷ [] else [])) }
+{
+    let facts = shown.new_facts(alloc, group.facts.as_slice())?;
+    if facts.len() > 1 {
+        groups.push(Group {
+            facts: List::from_vec(facts),
+        })?;
+    }
+    Ok(())
+}
+
+/// What is left of the groups that have two facts left.
+pub(crate) fn groups_left(
+    alloc: Global,
+    shown: &Chosen,
+    task: &SasTask,
+) -> Result<Vec<Group>, AllocError>
+    ensures { IfOk result (λ groups. groups.items ≡ restriction.new_groups (chosen shown.now) task.now) }
+{
+    let mut groups = Vec::new(alloc);
+    for i in 0..task.groups() {
+        add_group(alloc, shown, &mut groups, task.group(i))?;
+    }
+    Ok(groups)
+}
+
+fn new_effect(alloc: Global, shown: &Chosen, effect: &Effect) -> Result<Effect, AllocError>
+    ensures { IfOk result (λ new. new ≡ choice.new_effect (chosen shown.now) effect.now) }
+{
+    Ok(Effect {
+        conditions: shown.new_pairs(alloc, effect.conditions.as_slice())?,
+        var: shown.new_var(effect.var),
+        after: shown.new_val(effect.var, effect.after),
+    })
+}
+
+impl Chosen {
+    /// Whether the effect stays: what it needs and its new value are left, and its variable is shown.
+    pub fn keeps_effect(&self, effect: &Effect) -> bool
+        ensures { result ≡ choice.effect_stays (chosen self.now) effect.now }
+    {
+        self.has_all(effect.conditions.as_slice())
+            && self.has(effect.var, effect.after)
+            && self.shows(effect.var)
+    }
+
+    /// Whether some effect of the operator stays.
+    pub fn is_busy(&self, operator: &Operator) -> bool
+        ensures { result ≡ choice.is_busy (chosen self.now) operator.now }
+    {
+        let effects = operator.effects.as_slice();
+        effects.iter().any(|effect| self.keeps_effect(effect))
+    }
+}
+
+/// For each operator whether some effect of it stays.
+pub fn busy_marks(alloc: Global, shown: &Chosen, task: &SasTask) -> Result<Vec<bool>, AllocError>
+    ensures { IfOk result (λ marks. marks.items ≡ map (choice.is_busy (chosen shown.now)) task.now.operators) }
+{
+    let mut marks = Vec::new(alloc);
+    for i in 0..task.operators() {
+        marks.push(shown.is_busy(task.operator(i)))?;
+    }
+    Ok(marks)
+}
+
+fn add_effect(
+    alloc: Global,
+    shown: &Chosen,
+    effects: &mut Vec<Effect>,
+    effect: &Effect,
+) -> Result<(), AllocError>
+    ensures { OnOk result (effects.new.items ≡ effects.old.items ++ (if choice.effect_stays (chosen shown.now) effect.now then choice.new_effect (chosen shown.now) effect.now ∷ [] else [])) }
+{
+    if shown.keeps_effect(effect) {
+        effects.push(new_effect(alloc, shown, effect)?)?;
+    }
+    Ok(())
+}
+
+fn effects_left(alloc: Global, shown: &Chosen, old: &[Effect]) -> Result<Vec<Effect>, AllocError>
+    ensures { IfOk result (λ effects. effects.items ≡ map (choice.new_effect (chosen shown.now)) (filter (choice.effect_stays (chosen shown.now)) old.now)) }
+{
+    let mut effects = Vec::new(alloc);
+    for effect in old {
+        add_effect(alloc, shown, &mut effects, effect)?;
+    }
+    Ok(effects)
+}
+
+fn new_operator(
+    alloc: Global,
+    once: Once,
+    shown: &Chosen,
+    operator: &Operator,
+) -> Result<Operator, AllocError>
+    ensures { IfOk result (λ new. new ≡ restriction.new_operator once (chosen shown.now) operator.now) }
+{
+    let effects = effects_left(alloc, shown, operator.effects.as_slice())?;
+    let effects = List::from_vec(arrange(once.effects, effects)?);
+    Ok(Operator {
+        name: Text::from_vec(operator.name.as_slice().to_vec(alloc)?),
+        conditions: shown.new_pairs(alloc, operator.conditions.as_slice())?,
+        effects,
+        cost: operator.cost,
+    })
+}
+
+fn add_operator(
+    alloc: Global,
+    once: Once,
+    shown: &Chosen,
+    operators: &mut Vec<Operator>,
+    operator: &Operator,
+    is_left: bool,
+) -> Result<(), AllocError>
+    ensures { OnOk result (operators.new.items ≡ operators.old.items ++ (if choice.all_left (chosen shown.now) operator.now.conditions && is_left then restriction.new_operator once (chosen shown.now) operator.now ∷ [] else [])) }
+{
+    if shown.has_all(operator.conditions.as_slice()) && is_left {
+        operators.push(new_operator(alloc, once, shown, operator)?)?;
+    }
+    Ok(())
+}
+
+/// What is left of the operators that stay. The marks tell which operators are left.
+pub(crate) fn operators_left(
+    alloc: Global,
+    once: Once,
+    shown: &Chosen,
+    marks: &[bool],
+    task: &SasTask,
+) -> Result<Vec<Operator>, AllocError>
+    requires { length marks.now ≡ length task.now.operators }
+    ensures { IfOk result (λ operators. (leaves : AnOperator → Bool) → marks.now ≡ map leaves task.now.operators →
+        operators.items ≡ restriction.new_operators once (with_operators shown.now leaves) task.now) }
+{
+    let mut operators = Vec::new(alloc);
+    for i in 0..task.operators() {
+        add_operator(
+            alloc,
+            once,
+            shown,
+            &mut operators,
+            task.operator(i),
+            marks[i as usize],
+        )?;
+    }
+    Ok(operators)
+}
+
+fn new_rule(alloc: Global, shown: &Chosen, rule: &Rule) -> Result<Rule, AllocError>
+    ensures { IfOk result (λ new. new ≡ choice.new_rule (chosen shown.now) rule.now) }
+{
+    Ok(Rule {
+        conditions: shown.new_pairs(alloc, rule.conditions.as_slice())?,
+        var: shown.new_var(rule.var),
+        before: shown.new_val(rule.var, rule.before),
+        after: shown.new_val(rule.var, rule.after),
+    })
+}
+
+fn add_rule(
+    alloc: Global,
+    shown: &Chosen,
+    rules: &mut Vec<Rule>,
+    rule: &Rule,
+) -> Result<(), AllocError>
+    ensures { OnOk result (rules.new.items ≡ rules.old.items ++ (if choice.rule_stays (chosen shown.now) rule.now then choice.new_rule (chosen shown.now) rule.now ∷ [] else [])) }
+{
+    if shown.has_all(rule.conditions.as_slice()) && shown.shows(rule.var) {
+        rules.push(new_rule(alloc, shown, rule)?)?;
+    }
+    Ok(())
+}
+
+/// What is left of the rules that stay.
+pub(crate) fn rules_left(
+    alloc: Global,
+    shown: &Chosen,
+    task: &SasTask,
+) -> Result<Vec<Rule>, AllocError>
+    ensures { IfOk result (λ rules. rules.items ≡ restriction.new_rules (chosen shown.now) task.now) }
+{
+    let mut rules = Vec::new(alloc);
+    for i in 0..task.rules() {
+        add_rule(alloc, shown, &mut rules, task.rule(i))?;
+    }
+    Ok(rules)
+}
