@@ -1,5 +1,6 @@
 """Runs the translator on families of made files that grow, and prints processor seconds and peak memory beside their growth."""
 
+import math
 import os
 import subprocess
 import sys
@@ -58,8 +59,8 @@ def written(folder):
 
 def measure(families):
     """Runs each family and prints a line for each size. A family is its name, the most bytes of memory for each byte
-    that is read or written, the most growth of seconds from one size to the next or None, and pairs of a size's name
-    and how its files are made. Ends with 1 where a line ends with `slow` or `large`."""
+    that is read or written, the most growth of seconds for a doubling or None, and its sizes: the number, its name, and
+    how its files are made. Ends with 1 where a line ends with `slow` or `large`."""
     default = os.path.join(TOP, "crates", "translate_main", "out", "translate_main")
     program = os.path.abspath(sys.argv[1]) if len(sys.argv) > 1 else default
     if not os.access(program, os.X_OK):
@@ -68,18 +69,18 @@ def measure(families):
     print(f"{'files':<22} {'size':>9} {'seconds':>8} {'growth':>7} {'MiB used':>9} {'MiB written':>12} {'bytes/byte':>11}  answer")
     for name, most, growth_limit, sizes in families:
         before = None
-        for size, make in sizes:
+        for size, shown_size, make in sizes:
             with tempfile.TemporaryDirectory() as folder:
                 read = write(folder, make)
                 seconds, memory, answer = run(program, folder)
                 output = written(folder)
-            growth = seconds / before if before else None
+            growth = (seconds / before[1]) ** (math.log(2) / math.log(size / before[0])) if before else None
             each = memory / (read + output)
             slow = growth_limit is not None and growth is not None and growth > growth_limit and seconds > 0.2
             large = most is not None and memory > LEAST and each >= most
             bad += slow or large
             shown = f"{growth:7.2f}" if growth else " " * 7
             marks = (" slow" if slow else "") + (" large" if large else "")
-            print(f"{name:<22} {size:>9} {seconds:>8.3f} {shown} {memory / MIB:>9.1f} {output / MIB:>12.2f} {each:>11.1f}  {answer}{marks}", flush=True)
-            before = seconds
+            print(f"{name:<22} {shown_size:>9} {seconds:>8.3f} {shown} {memory / MIB:>9.1f} {output / MIB:>12.2f} {each:>11.1f}  {answer}{marks}", flush=True)
+            before = (size, seconds)
     sys.exit(1 if bad else 0)
