@@ -1,14 +1,14 @@
--- One set more in each round, until no group has two uncovered facts.
-use Rattle.std.proofs.Common.{◌≡◌, ℕ, ◌+◌, ◌<◌, ◌≤◌, Bool, true, false, not, ◌||◌, ◌⊎◌, List, [], ◌∷◌, ◌++◌, append_assoc, append-nil, map, length, inl, inr, refl, sym, ap, ◌∙◌, subst, arith, nat_eq, nat_lt}
+-- One set more, and what it covers.
+use Rattle.std.proofs.Common.{◌≡◌, ℕ, ◌+◌, ◌≤◌, Bool, true, false, not, ◌||◌, ◌⊎◌, List, [], ◌∷◌, ◌++◌, append_assoc, append-nil, map, length, inl, inr, refl, sym, ap, ◌∙◌, subst, arith, nat_eq}
 use Rattle.std.specs.List.{list_any, filter, range_with_len}
 use Rattle.std.specs.Cmp.{nat_eq_equiv}
 use Rattle.std.proofs.Math.Bool.{or-false}
 use Rattle.std.proofs.lemmas.List.{map-append}
 use Rattle.std.proofs.lemmas.List.Elements.{filter-append}
 use Rattle.lists.proofs.LoopSteps.{range_next}
-use Rattle.std.proofs.lemmas.Bool.{true≢false, cases_Bool, or_left, or_right, or_parts, or_from, not_from_true, ltb-true, lt-ltb, eq-eqb, false_from_ne_true}
-use Rattle.lists.proofs.Items.{Among, among_contains, among_filter, any_append, any_passes, filter_yes, filter_no}
-use Rattle.group_cover.specs.Cover.{is_covered, uncovered, count, single, is_before, IsBest, IsPart, AreParts, NoneIsLeft}
+use Rattle.std.proofs.lemmas.Bool.{true≢false, cases_Bool, or_left, or_right, not_from_true, eq-eqb}
+use Rattle.lists.proofs.Items.{Among, among_filter, any_append, any_passes, filter_yes, filter_no}
+use Rattle.group_cover.specs.Cover.{is_covered, uncovered, count, single, IsBest, IsPart, AreParts}
 
 -- the facts of one set more are covered too
 pub covered-more : (sets : List (List ℕ)) (set : List ℕ) (fact : ℕ) → is_covered (sets ++ set ∷ []) fact ≡ (is_covered sets fact || list_any (nat_eq fact) set)
@@ -39,7 +39,7 @@ keeps-none : (test : ℕ → Bool) (xs : List ℕ) → ((x : ℕ) → Among x xs
 keeps-none test [] none = refl
 keeps-none test (x ∷ xs) none = filter_no test x xs (none x (inl refl)) ∙ keeps-none test xs (λ y there. none y (inr there))
 
-count-falls : (sets : List (List ℕ)) (set group : List ℕ) → count (sets ++ set ∷ []) group ≤ count sets group
+pub count-falls : (sets : List (List ℕ)) (set group : List ℕ) → count (sets ++ set ∷ []) group ≤ count sets group
 count-falls sets set group = keeps-fewer (λ fact. not (is_covered (sets ++ set ∷ []) fact)) (λ fact. not (is_covered sets fact)) group still
   where
     open_before : (before more : Bool) → not (before || more) ≡ true → not before ≡ true
@@ -50,7 +50,7 @@ count-falls sets set group = keeps-fewer (λ fact. not (is_covered (sets ++ set 
     still fact is = open_before (is_covered sets fact) (list_any (nat_eq fact) set) (sym (ap not (covered-more sets set fact)) ∙ is)
 
 -- a group whose uncovered part is added has none
-part-closes : (sets : List (List ℕ)) (group : List ℕ) → count (sets ++ uncovered sets group ∷ []) group ≡ 0
+pub part-closes : (sets : List (List ℕ)) (group : List ℕ) → count (sets ++ uncovered sets group ∷ []) group ≡ 0
 part-closes sets group = ap (λ (l : List ℕ). length l) (keeps-none (λ fact. not (is_covered (sets ++ uncovered sets group ∷ []) fact)) group closed)
   where
     closed : (fact : ℕ) → Among fact group → not (is_covered (sets ++ uncovered sets group ∷ []) fact) ≡ false
@@ -60,32 +60,6 @@ part-closes sets group = ap (λ (l : List ℕ). length l) (keeps-none (λ fact. 
           let added = among_filter (λ fact. not (is_covered sets fact)) fact group there (ap not isnt) in
           not_from_true _ (covered-more sets (uncovered sets group) fact ∙ or_right (is_covered sets fact) (list_any (nat_eq fact) (uncovered sets group)) (any_passes (nat_eq fact) fact (uncovered sets group) added (nat_eq_equiv.refl fact)))
     ]
-
--- how many facts of groups are uncovered, in all
-abbrev pub all_open : List (List ℕ) → List (List ℕ) → ℕ
-all_open sets [] = 0
-all_open sets (group ∷ groups) = count sets group + all_open sets groups
-
-all-fall : (sets : List (List ℕ)) (set : List ℕ) (groups : List (List ℕ)) → all_open (sets ++ set ∷ []) groups ≤ all_open sets groups
-all-fall sets set [] = omega arith
-all-fall sets set (group ∷ groups) = let here = count-falls sets set group in let rest = all-fall sets set groups in omega (arith, here, rest)
-
-fewer-open : (sets : List (List ℕ)) (group : List ℕ) → 0 < count sets group → (groups : List (List ℕ)) → Among group groups → all_open (sets ++ uncovered sets group ∷ []) groups < all_open sets groups
-fewer-open sets group some [] none = absurd none
-fewer-open sets group some (first ∷ groups) (inl here) =
-    let closed = ap (λ g. count (sets ++ uncovered sets group ∷ []) g) here ∙ part-closes sets group in
-    let same = ap (count sets) here in
-    let rest = all-fall sets (uncovered sets group) groups in
-    omega (arith, closed, same, rest, some)
-fewer-open sets group some (first ∷ groups) (inr there) =
-    let here = count-falls sets (uncovered sets group) first in
-    let rest = fewer-open sets group some groups there in
-    omega (arith, here, rest)
-
-pub round-closes : (groups sets : List (List ℕ)) (group set : List ℕ) (after : List (List ℕ)) → IsBest groups sets group → set ≡ uncovered sets group → after ≡ sets ++ set ∷ [] → all_open after groups < all_open sets groups
-round-closes groups sets group set after best part made =
-    let several = best.several in
-    subst (λ s. all_open s groups < all_open sets groups) (sym (made ∙ ap (λ s. sets ++ s ∷ []) part)) (fewer-open sets group (omega (arith, several)) groups (among_contains groups group best.of_groups))
 
 -- ---- sets in turn
 
@@ -97,17 +71,6 @@ parts-more groups before (first ∷ sets) set parts part =
 pub round-goes : (groups sets : List (List ℕ)) (group set : List ℕ) (after : List (List ℕ)) → AreParts groups [] sets → IsBest groups sets group → set ≡ uncovered sets group → after ≡ sets ++ set ∷ [] → AreParts groups [] after
 round-goes groups sets group set after parts best part made =
     subst (AreParts groups []) (sym made) (parts-more groups [] sets set parts (record { group = group; best = best; part = part }))
-
--- where the best group has fewer than two uncovered facts, each has
-pub none-left : (sets groups : List (List ℕ)) (best : List ℕ) → list_any (λ other. is_before sets other best) groups ≡ false → count sets best < 2 → NoneIsLeft groups sets
-none-left sets [] best none few = refl
-none-left sets (group ∷ groups) best none few =
-    let parts = or_parts (is_before sets group best) (list_any (λ other. is_before sets other best) groups) none in
-    or_from (nat_lt 1 (count sets group)) (list_any (λ group. nat_lt 1 (count sets group)) groups)
-    (false_from_ne_true (nat_lt 1 (count sets group)) (λ is.
-    let more = ltb-true 1 (count sets group) is in
-    true≢false (sym (or_left (nat_lt (count sets best) (count sets group)) _ (lt-ltb (count sets best) (count sets group) (omega (arith, more, few)))) ∙ parts.0)))
-    (none-left sets groups best parts.1 few)
 
 -- ---- a set for each fact that is left
 

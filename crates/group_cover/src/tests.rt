@@ -66,3 +66,25 @@ fn of_equal_counts_the_first_list_is_taken(rt: HostRuntime) -> Result<(), AllocE
     assert!(rt; are_sets(rt.alloc(), 8, tied, &[&[0, 1, 2], &[6, 7], &[4, 5], &[3]])?);
     Ok(())
 }
+
+#[test]
+fn many_groups_are_taken_in_order(rt: HostRuntime) -> Result<(), AllocError> {
+    let alloc = rt.alloc();
+    let pairs = 200_000u64;
+    let mut groups = Vec::new(alloc);
+    for place in 0..pairs {
+        let first = 2 * (pairs - 1 - place);
+        groups.push(List::from_vec(vec![in alloc; first, first + 1]?))?;
+    }
+    let groups = Groups {
+        groups: List::from_vec(groups),
+    };
+    let cover = cover(alloc, 2 * pairs + 1, &groups)?;
+    let mut sets = Vec::new(alloc);
+    for pair in 0..pairs {
+        sets.push(List::from_vec(vec![in alloc; 2 * pair, 2 * pair + 1]?))?;
+    }
+    sets.push(List::from_vec(vec![in alloc; 2 * pairs]?))?;
+    assert!(rt; cover.sets == List::from_vec(sets));
+    Ok(())
+}

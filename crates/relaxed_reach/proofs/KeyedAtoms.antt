@@ -1,8 +1,11 @@
 -- Tables whose keys are atoms, beside the atoms themselves.
-use Rattle.std.proofs.Common.{◌≡◌, ℕ, ◌+◌, ◌≤◌, Bool, true, false, not, cond, List, [], ◌∷◌, ◌++◌, Some, None, map, take, length, nat_lt, get_or, refl, sym, ap, ◌∙◌, arith}
+use Rattle.std.proofs.Common.{◌≡◌, ℕ, ◌+◌, ◌≤◌, Bool, true, false, not, cond, inl, inr, List, [], ◌∷◌, ◌++◌, Some, None, map, take, length, nat_lt, get_or, refl, sym, ap, ◌∙◌, arith}
 use Rattle.std.specs.List.{list_any, position, position_or_len}
 use Rattle.std.specs.List.Sorted.{IsSorted}
 use Rattle.std.specs.Ordering.{is_lt}
+use Rattle.std.proofs.lemmas.Bool.{cases_Bool, ltb-false}
+use Rattle.std.proofs.lemmas.Option.{none-some, same_Some}
+use Rattle.std.proofs.lemmas.List.Sums.{prefix_len-le-length}
 use Rattle.std.proofs.lemmas.List.{map_push, length-map, get_or-map, take_all}
 use Rattle.std.proofs.lemmas.Simd.{map-map}
 use Rattle.lists.proofs.Items.{any_map}
@@ -10,7 +13,7 @@ use Rattle.normal_task.specs.declared.task.GroundAtom.{GroundAtom}
 use Rattle.normal_task.specs.Meaning.{is_same_atom}
 use Rattle.relaxed_reach.specs.AtomKeys.{Key, atom_of}
 use Rattle.relaxed_reach.specs.Reachable.{is_among, number_of, fact_cmp}
-use Rattle.relaxed_reach.specs.Rounds.{added}
+use Rattle.relaxed_reach.specs.Rules.{added}
 use Rattle.relaxed_reach.proofs.Keeping.{position_is}
 
 position_or_len-map : (test : GroundAtom → Bool) (keys : List Key) → position_or_len test (map atom_of keys) ≡ position_or_len (λ key. test (atom_of key)) keys
@@ -28,6 +31,10 @@ module _ (keys : List Key) (atoms : List GroundAtom) (is : map atom_of keys ≡ 
       ∙ ap (position (is_same_atom atom)) is
       ∙ position_is atoms atom
 
+  -- the place of the first key that is the atom, or the number of keys
+  pub place_in_keys : (atom : GroundAtom) → position_or_len (λ key. is_same_atom atom (atom_of key)) keys ≡ number_of atoms atom
+  place_in_keys atom = sym (position_or_len-map (is_same_atom atom) keys) ∙ ap (λ l. number_of l atom) is
+
   pub added_key : (key : Key) (new_keys : List Key) → new_keys ≡ cond (list_any (λ known. is_same_atom (atom_of key) (atom_of known)) keys) keys (keys ++ key ∷ []) → map atom_of new_keys ≡ added atoms (atom_of key)
   added_key key new_keys grown =
       ap (map atom_of) grown
@@ -38,6 +45,22 @@ module _ (keys : List Key) (atoms : List GroundAtom) (is : map atom_of keys ≡ 
       by : (known : Bool) → map atom_of (cond known keys (keys ++ key ∷ [])) ≡ cond known (map atom_of keys) (map atom_of keys ++ atom_of key ∷ [])
       by true = refl
       by false = map_push atom_of keys key
+
+-- what a look-up of a place answers
+pub found_place : {X : Type 0} (test : X → Bool) (xs : List X) (place : ℕ) → Some place ≡ position test xs → place ≡ position_or_len test xs
+found_place test xs place e = elim (cases_Bool (nat_lt (position_or_len test xs) (length xs))) [
+  | inl in' ↦ same_Some place (position_or_len test xs) (e ∙ ap (λ b. cond b (Some (position_or_len test xs)) None) in')
+  | inr out ↦ absurd (none-some place (sym (e ∙ ap (λ b. cond b (Some (position_or_len test xs)) None) out)))
+]
+
+pub no_place : {X : Type 0} (test : X → Bool) (xs : List X) → None ≡ position test xs → length xs ≡ position_or_len test xs
+no_place test xs e = elim (cases_Bool (nat_lt (position_or_len test xs) (length xs))) [
+  | inl in' ↦ absurd (none-some (position_or_len test xs) (e ∙ ap (λ b. cond b (Some (position_or_len test xs)) None) in'))
+  | inr out ↦
+      let past = ltb-false (position_or_len test xs) (length xs) out in
+      let most = prefix_len-le-length (λ x. not (test x)) xs in
+      omega (arith, past, most)
+]
 
 -- keys in order are atoms in order
 pub sorted_keys : (keys : List Key) → IsSorted (λ (a b : Key). fact_cmp (atom_of a) (atom_of b)) keys → IsSorted fact_cmp (map atom_of keys)

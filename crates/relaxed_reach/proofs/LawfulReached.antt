@@ -21,7 +21,7 @@ use Rattle.relaxed_reach.specs.declared.types.Reached.{Reached}
 use Rattle.relaxed_reach.specs.Reachable.{predicate_name, IsClosed, IsReachedTask}
 use Rattle.relaxed_reach.specs.Lawful.{IsLawful}
 use Rattle.relaxed_reach.proofs.LawfulTask.{IsPaid, lawful_if}
-use Rattle.relaxed_reach.proofs.Passes.{from_in}
+use Rattle.relaxed_reach.proofs.Sets.{from_in}
 use Rattle.relaxed_reach.proofs.ShownNames.{shown_is_name}
 
 -- the row of a predicate that passes a test
