@@ -81,7 +81,8 @@ fn init(alloc: Global, tables: &Tables<'_>) -> Result<List<GroundAtom>, AllocErr
 fn goal(alloc: Global, tables: &Tables<'_>) -> Result<GoalRow<GroundAtom>, AllocError>
     ensures { IfOk result (λ goal. goal ≡ kept_goal (static_settling tables.now) (instance_task tables.now).goal) }
 {
-    match condition(alloc, tables, &[], tables.task().goal.as_slice())? {
+    let mut key = Vec::new(alloc);
+    match condition(alloc, tables, &mut key, &[], tables.task().goal.as_slice())? {
         Some(literals) => Ok(GoalRow::All(literals)),
         None => Ok(GoalRow::Never),
     }
@@ -89,6 +90,7 @@ fn goal(alloc: Global, tables: &Tables<'_>) -> Result<GoalRow<GroundAtom>, Alloc
 
 /// The ground task of the task with tables.
 fn instances_by(alloc: Global, tables: &Tables<'_>) -> Result<Ground, AllocError>
+    requires { IsLawfulNormal tables.now }
     ensures { IfOk result (IsGroundTask tables.now) }
 {
     let task = tables.task();
