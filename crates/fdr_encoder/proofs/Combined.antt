@@ -1,15 +1,16 @@
 -- The ways to take one item from each pool, by their places, are the combinations.
-use Rattle.std.proofs.Common.{◌≡◌, ℕ, zero, suc, ◌+◌, ◌-◌, ◌<◌, List, [], ◌∷◌, ◌++◌, map, length, get_or, append_assoc, Bool, true, ◌&&◌, ltb, refl, sym, ap, ◌∙◌, subst, arith, length-append, Vec, Global, Result, Ok, Err}
+use Rattle.std.proofs.Common.{◌≡◌, ℕ, zero, suc, ◌+◌, ◌-◌, ◌<◌, List, [], ◌∷◌, ◌++◌, map, length, get_or, append_assoc, append-nil, Bool, true, ◌&&◌, ltb, refl, sym, ap, ◌∙◌, subst, arith, length-append, Vec, Global, Result, Ok, Err}
 use Rattle.std.specs.Vec.{vec_len}
-use Rattle.std.specs.List.{Contains, flat_map, range_with_len}
+use Rattle.std.specs.Prelude.{◌==◌}
+use Rattle.std.specs.List.{Contains, flat_map, list_all, range_with_len}
 use Rattle.std.specs.Result.{IfOk}
 use Rattle.std.specs.Iterator.Runs.{Run, WholeRun, EveryRun, ItemsAre}
 use Rattle.std.specs.declared.vec.IntoIter.{IntoIter}
 use Rattle.std.specs.Vec.Iter.{into_iter_steps, into_iter_items}
-use Rattle.std.proofs.lemmas.List.{length-map, map-append}
+use Rattle.std.proofs.lemmas.List.{length-map}
 use Rattle.std.proofs.lemmas.Simd.{map-map}
 use Rattle.itertools.specs.declared.combinations.MultiProduct.{MultiProduct}
-use Rattle.std.proofs.lemmas.Bool.{and_from, and_parts, ltb-true, lt-ltb}
+use Rattle.std.proofs.lemmas.Bool.{and_from, and_parts, eqb-true, ltb-true, lt-ltb}
 use Rattle.itertools.specs.Odometer.{ways, numbers}
 use Rattle.itertools.specs.Pool.{sizes_high, pool_sizes, multi_left, ClonesEach, PoolsAre}
 use Rattle.lists.proofs.Items.{map_flat_map, same_flat_map}
@@ -182,3 +183,27 @@ pools_hold gives held (s ∷ ss) (v ∷ vs) are =
 pub pools_kept : {E : Type 0} (gives : Vec Pair Global → IntoIter Pair Global → Type 0) → ((v : Vec Pair Global) (it : IntoIter Pair Global) → gives v it → Held v it) → (given : Vec (Vec Pair Global) Global) (start : IntoIter (Vec Pair Global) Global) → InOrder (Vec Pair Global) → into_iter_items start ≡ given.items → (made : Result (MultiProduct Pair Global) E) → IfOk made (λ c. WholeRun (into_iter_steps {X = Vec Pair Global} {Z = Global}) start (λ p. PoolsAre gives (into_iter_steps {X = Pair} {Z = Global}) p.items c.pools.items)) → IfOk made (λ c. items c.pools.items ≡ items given.items)
 pools_kept gives held given start ordered left (Ok c) run = pools_hold gives held run.0.items c.pools.items run.3 ∙ ap items (run_over ordered given start run.0 run.1 run.2 left)
 pools_kept gives held given start ordered left (Err e) run = tt
+
+-- where each variable has one value, there is one combination
+pub single_ways : (values : ℕ → List ℕ) (vars : List ℕ) → list_all (λ (pool : List Pair). length pool == 1) (map (λ var. map (pair var) (values var)) vars) ≡ true →
+    combinations values vars ≡ flat_map (λ (pool : List Pair). pool) (map (λ var. map (pair var) (values var)) vars) ∷ []
+single_ways values [] is = refl
+single_ways values (var ∷ vars) is = by (single_ways values vars (and_parts (length (map (pair var) (values var)) == 1) (list_all (λ (pool : List Pair). length pool == 1) (map (λ v. map (pair v) (values v)) vars)) is).1) (values var) refl
+  where
+    later : List (List Pair)
+    later = map (λ v. map (pair v) (values v)) vars
+
+    parts : (length (map (pair var) (values var)) == 1 ≡ true) × (list_all (λ (pool : List Pair). length pool == 1) later ≡ true)
+    parts = and_parts (length (map (pair var) (values var)) == 1) (list_all (λ (pool : List Pair). length pool == 1) later) is
+
+    one : length (map (pair var) (values var)) ≡ 1
+    one = eqb-true (length (map (pair var) (values var))) 1 parts.0
+
+    by : combinations values vars ≡ flat_map (λ (pool : List Pair). pool) later ∷ [] → (vals : List ℕ) → values var ≡ vals → combinations values (var ∷ vars) ≡ (map (pair var) (values var) ++ flat_map (λ (pool : List Pair). pool) later) ∷ []
+    by rest [] e = let moved = ap (λ l. length (map (pair var) l)) e in absurd (omega (arith, one, moved))
+    by rest (val ∷ []) e =
+        ap (λ l. flat_map (λ v. map (λ rest. pair var v ∷ rest) (combinations values vars)) l) e
+        ∙ append-nil (map (λ rest. pair var val ∷ rest) (combinations values vars))
+        ∙ ap (map (λ rest. pair var val ∷ rest)) rest
+        ∙ ap (λ l. (map (pair var) l ++ flat_map (λ (pool : List Pair). pool) later) ∷ []) (sym e)
+    by rest (val ∷ other ∷ more) e = let moved = ap (λ l. length (map (pair var) l)) e in absurd (omega (arith, one, moved))

@@ -1,15 +1,17 @@
 -- The variables that a split looks at, in order.
-use Rattle.std.proofs.Common.{◌≡◌, ℕ, ◌<◌, Bool, true, false, eqb, List, [], ◌∷◌, length, refl, sym, ◌∙◌, subst, inl, inr}
+use Rattle.std.proofs.Common.{◌≡◌, ℕ, ◌<◌, Bool, true, false, ◌||◌, eqb, List, [], ◌∷◌, length, refl, sym, ap, ◌∙◌, subst, inl, inr}
+use Rattle.std.specs.Prelude.{◌==◌}
 use Rattle.std.specs.List.{Contains, filter, range_with_len, list_any, slice_get}
 use Rattle.std.specs.List.Sorted.{IsStrictlyIncreasing}
 use Rattle.std.specs.Option.{option_map_or}
 use Rattle.std.proofs.lemmas.Bool.{eqb-true, eq-eqb, or_cases, false≢true}
 use Rattle.std.proofs.lemmas.List.Kept.{IsStrictlyIncreasing-filter}
 use Rattle.sas_task.specs.declared.parts.Pair.{Pair}
+use Rattle.lists.proofs.Items.{filter_no}
 use Rattle.lists.proofs.Members.{member_first, member_range, member_filter, filter_member, any_member, member_any}
 use Rattle.static_matcher.specs.declared.types.Cond.{Cond}
 use Rattle.fdr_encoder.specs.Places.{Cover, places, first_place, stands_in}
-use Rattle.fdr_encoder.specs.Split.{is_looked_at}
+use Rattle.fdr_encoder.specs.Split.{is_looked_at, values_left, combinations, split}
 use Rattle.fdr_encoder.proofs.Placed.{place_is, stands_below}
 use Rattle.fdr_encoder.proofs.Rising.{range_increases, same_in_order}
 
@@ -46,3 +48,16 @@ module _ (cover : Cover) (literals : Cond ℕ) where
       let is = filter_member test (range_with_len 0 (length cover)) v in' in
       let w = any_member (λ w. eqb w v) vars (same v ∙ is.1) in
       subst (Contains vars) (eqb-true w.0 v w.2) w.1)
+
+-- where there are no literals, no variable is looked at, and there is one way
+pub nothing_split : (cover : Cover) (literals : Cond ℕ) → literals.positive ≡ [] → literals.negative ≡ [] → split cover literals ≡ [] ∷ []
+nothing_split cover literals wanted barred = ap (combinations (values_left cover literals)) (none (range_with_len 0 (length cover)))
+  where
+    out : (var : ℕ) → is_looked_at cover literals var ≡ false
+    out var =
+        ap (λ (facts : List ℕ). list_any (λ f. stands_in cover f var) facts || list_any (λ f. option_map_or (λ p. p.var == var) (first_place cover f) false) literals.negative) wanted
+        ∙ ap (λ (facts : List ℕ). list_any (λ f. option_map_or (λ p. p.var == var) (first_place cover f) false) facts) barred
+
+    none : (vars : List ℕ) → filter (is_looked_at cover literals) vars ≡ []
+    none [] = refl
+    none (var ∷ vars) = filter_no (is_looked_at cover literals) var vars (out var) ∙ none vars

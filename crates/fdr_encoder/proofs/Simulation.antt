@@ -9,7 +9,7 @@ use Rattle.std.proofs.lemmas.List.FromFn.{length-map-range_with_len, get_or-map-
 use Rattle.std.proofs.lemmas.List.Sorted.{Contains-permutation, IsPermutation-sym}
 use Rattle.std.proofs.lemmas.List.Sums.{prefix_len-le-length, passes_at_first}
 use Rattle.runs.specs.Runs.{Leads}
-use Rattle.runs.specs.Systems.{System, HasStep, IsFollowed}
+use Rattle.runs.specs.Systems.{HasStep, IsFollowed}
 use Rattle.runs.proofs.Systems.{reached_more, run_follows, state_follows}
 use Rattle.lists.specs.Members.{is_among}
 use Rattle.sas_task.specs.declared.parts.Pair.{Pair}

@@ -1,5 +1,5 @@
 -- An encoding is a valid task.
-use Rattle.std.proofs.Common.{◌≡◌, ℕ, suc, ◌+◌, ◌<◌, ◌≤◌, Bool, true, false, cond, not, eqb, max, List, [], ◌∷◌, ◌++◌, append-nil, map, length, get_or, Some, None, refl, sym, ap, ◌∙◌, subst, inl, inr, arith, length-append}
+use Rattle.std.proofs.Common.{◌≡◌, ℕ, suc, ◌+◌, ◌<◌, ◌≤◌, Bool, true, false, cond, not, eqb, max, List, [], ◌∷◌, append-nil, map, length, get_or, Some, None, refl, sym, ap, ◌∙◌, subst, inl, inr, arith, length-append}
 use Rattle.std.specs.Prelude.{◌^◌, IsSomeAnd, IsNone, IsSome, IfSome, fold}
 use Rattle.std.specs.List.{Contains, All, filter, flat_map, range_with_len, list_any, position_or_len}
 use Rattle.std.specs.Option.{option_map_or}
@@ -23,12 +23,11 @@ use Rattle.static_matcher.specs.declared.types.GoalRow.TheVariants as goals
 use Rattle.static_matcher.specs.Literals.{initial}
 use Rattle.relaxed_reach.specs.declared.types.Reached.{Reached}
 use Rattle.relaxed_reach.specs.declared.types.ReachedAction.{ReachedAction}
-use Rattle.relaxed_reach.specs.declared.types.ReachedAxiom.{ReachedAxiom}
 use Rattle.relaxed_reach.specs.ReachedTask.{is_derived, reached_task}
 use Rattle.fdr_encoder.specs.Places.{Cover, pair, set_of, first_place, stands_in, last_value, value_in}
 use Rattle.fdr_encoder.specs.Split.{is_looked_at, split}
 use Rattle.fdr_encoder.specs.Effects.{among, can_go, less_known, less_idle, effects_left, is_of_use, simplified, effects_of}
-use Rattle.relaxed_reach.specs.Lawful.{NamesFacts, IsLawfulEffect, IsLawfulAction, IsLawfulAxiom, IsLawfulGoal, IsLawful}
+use Rattle.relaxed_reach.specs.Lawful.{NamesFacts, IsLawfulEffect, IsLawfulAction, IsLawfulGoal, IsLawful}
 use Rattle.relaxed_reach.specs.Layers.{Names, AreLayers}
 use Rattle.fdr_encoder.specs.Encoding.{variable_over, goal_variable, goal_split, layer_above, group_of, groups_of, rule, GoalPart, IsEncoding}
 use Rattle.fdr_encoder.specs.Covers.{MakesVariables, IsBasicGroup}

@@ -1,5 +1,5 @@
 -- The values in a vector that shows a state show the state's full facts.
-use Rattle.std.proofs.Common.{◌≡◌, ℕ, suc, ◌<◌, ◌≤◌, Bool, true, false, cond, ◌&&◌, ◌||◌, eqb, ltb, List, [], ◌∷◌, append-nil, map, length, get_or, Some, None, refl, sym, ap, ◌∙◌, subst, inl, inr, arith}
+use Rattle.std.proofs.Common.{◌≡◌, ℕ, suc, ◌<◌, ◌≤◌, Bool, true, false, cond, ◌&&◌, ◌||◌, eqb, ltb, List, [], ◌∷◌, append-nil, map, length, get_or, Some, refl, sym, ap, ◌∙◌, subst, inl, inr, arith}
 use Rattle.std.specs.Cmp.{both_ways as same_tests}
 use Rattle.std.specs.List.{Contains, list_any, find, flat_map, range_with_len, position_or_len}
 use Rattle.std.specs.Option.{option_map_or}
@@ -21,10 +21,9 @@ use Rattle.static_matcher.specs.declared.types.GoalRow.TheVariants as goals
 use Rattle.static_matcher.specs.Literals.{holds, gives, initial, goal_holds, meaning}
 use Rattle.planning.specs.Task.{State, IsFull}
 use Rattle.relaxed_reach.specs.declared.types.Reached.{Reached}
-use Rattle.relaxed_reach.specs.declared.types.ReachedAxiom.{ReachedAxiom}
 use Rattle.relaxed_reach.specs.ReachedTask.{is_derived, axiom_row, reached_task}
 use Rattle.fdr_encoder.specs.Places.{Cover, set_of, value_in}
-use Rattle.relaxed_reach.specs.Lawful.{IsLawfulAxiom, IsLawfulGoal, IsLawful}
+use Rattle.relaxed_reach.specs.Lawful.{IsLawfulGoal, IsLawful}
 use Rattle.fdr_encoder.specs.Encoding.{rule, goal_split, layer_above, IsEncoding}
 use Rattle.fdr_encoder.specs.Covers.{MakesVariables}
 use Rattle.fdr_encoder.specs.Simulates.{Shows}

@@ -1,5 +1,5 @@
 -- What the encoding asks of the cover comes from the groups.
-use Rattle.std.proofs.Common.{◌<◌, ℕ, List, length, sym, ap, ◌∙◌, subst}
+use Rattle.std.proofs.Common.{◌<◌, List, length, sym, ap, ◌∙◌, subst}
 use Rattle.std.specs.List.{All}
 use Rattle.std.specs.List.Sorted.{IsStrictlyIncreasing}
 use Rattle.relaxed_reach.specs.declared.types.Fact.{Fact}
