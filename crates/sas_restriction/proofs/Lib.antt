@@ -2,6 +2,7 @@ mod Pairs
 mod Pieces
 mod Exact
 mod Places
+mod Rising
 mod Shape
 mod Completed
 mod Steps

@@ -1,5 +1,6 @@
-mod MarkTurns
-mod Searched
+mod RowSteps
+mod Searching
+mod KeptMoves
 mod Projected
 mod OneProjection
 mod Staying

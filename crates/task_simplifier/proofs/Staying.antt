@@ -1,9 +1,12 @@
 -- The variables that stay, and what the projection leaves, as the code holds it.
-use Rattle.std.proofs.Common.{◌≡◌, ℕ, ◌<◌, List, filter, length, Option, None, ap, ◌∙◌}
+use Rattle.std.proofs.Common.{◌≡◌, ℕ, ◌<◌, List, [], filter, length, Option, None, ap, ◌∙◌, subst}
 use Rattle.std.specs.List.{All, range_with_len}
+use Rattle.std.specs.List.Sorted.{IsStrictlyIncreasing}
+use Rattle.std.proofs.lemmas.List.Elements.{All-from_get_or}
 use Rattle.sas_task.specs.Task.{Task}
 use Rattle.lists.proofs.Members.{range_member, all_from_members, filter_member}
 use Rattle.sas_restriction.specs.Listed.{Listed, chosen}
+use Rattle.task_simplifier.specs.Kept.{AreKept}
 use Rattle.task_simplifier.specs.Projection.{stays, holder, values_in}
 
 abbrev pub staying : List (List ℕ) → ℕ → List ℕ
@@ -12,6 +15,10 @@ staying kept count = filter (stays (values_in kept)) (range_with_len 0 count)
 pub staying_below : (kept : List (List ℕ)) → All (λ v. v < length kept) (staying kept (length kept))
 staying_below kept =
     all_from_members (λ v. v < length kept) (staying kept (length kept)) (λ v in'. range_member (length kept) v (filter_member (stays (values_in kept)) (range_with_len 0 (length kept)) v in').0)
+
+-- the kept values rise
+pub each_rises : (T : Task) (kept : List (List ℕ)) → length kept ≡ length T.variables → AreKept T (values_in kept) → All IsStrictlyIncreasing kept
+each_rises T kept count are = All-from_get_or IsStrictlyIncreasing kept [] (λ var below. are.sorted var (subst (λ n. var < n) count below))
 
 abbrev pub listed : List ℕ → List (List ℕ) → Option ℕ → Listed
 listed vars kept start = record { vars = vars; values = kept; holder = start }

@@ -7,12 +7,15 @@ use Rattle.sas_restriction.specs.Choice.{IsChoice, is_busy}
 use Rattle.sas_restriction.specs.Restriction.{restriction}
 use Rattle.task_simplifier.specs.Projection.{values_in, projected, nothing_twice}
 use Rattle.task_simplifier.proofs.Projected.{choice}
-use Rattle.task_simplifier.proofs.Staying.{staying, staying_below, left_is}
+use Rattle.task_simplifier.proofs.Staying.{staying, staying_below, each_rises, left_is}
 use Rattle.task_simplifier.proofs.projection.simplify.Goals as goal
 
 pub new-requires : goal.new-requires
 new-requires c =
-    subst (All (λ v. v < length c.in_ok-kept.kept.items)) (sym (c.in_ok-vars.ensures ∙ ap (λ (k : List (List ℕ)). staying k (length k)) c.as_slice.ensures.value)) (staying_below c.in_ok-kept.kept.items)
+    record {
+      inside = subst (All (λ v. v < length c.in_ok-kept.kept.items)) (sym (c.in_ok-vars.ensures ∙ ap (λ (k : List (List ℕ)). staying k (length k)) c.as_slice.ensures.value)) (staying_below c.in_ok-kept.kept.items);
+      rising = each_rises c.args.task c.in_ok-kept.kept.items c.in_ok-kept.ensures.count c.in_ok-kept.ensures.are;
+    }
 
 pub restrict-requires : goal.restrict-requires
 restrict-requires c =

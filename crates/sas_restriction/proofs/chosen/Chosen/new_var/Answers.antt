@@ -10,7 +10,7 @@ use Rattle.sas_restriction.proofs.chosen.Chosen.new_var.Goals as goal
 pub returns-in-Some : goal.returns-in-Some
 returns-in-Some c =
     let slice = c.as_slice.ensures.value in
-    let table = c.self.invariant.1 in
+    let table = c.self.invariant.2 in
     let count = ap length table ∙ length-map-range_with_len (place c.self.inside.vars.items) 0 (length c.self.inside.values.items) in
     let low : c.args.var < length c.as_slice.result.now = ltb-true c.args.var (length c.as_slice.result.now) (sym c.in-Some.ensures.lookup.0) in
     let len = ap length slice in
@@ -21,7 +21,7 @@ returns-in-Some c =
 pub returns-in-None : goal.returns-in-None
 returns-in-None c =
     let slice = c.as_slice.ensures.value in
-    let table = c.self.invariant.1 in
+    let table = c.self.invariant.2 in
     let count = ap length table ∙ length-map-range_with_len (place c.self.inside.vars.items) 0 (length c.self.inside.values.items) in
     let high : length c.as_slice.result.now ≤ c.args.var = ltb-false c.args.var (length c.as_slice.result.now) (sym c.in-None.ensures.lookup.0) in
     let len = ap length slice in

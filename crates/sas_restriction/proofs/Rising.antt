@@ -1,0 +1,43 @@
+-- Numbers that rise: how many of them are below a number, and whether it is one of them, as searches find it.
+use Rattle.std.proofs.Common.{◌≡◌, ℕ, zero, suc, ◌≤◌, Bool, true, false, cond, eqb, List, [], ◌∷◌, filter, length, get_or, Result, Ok, Err, sym, ap, ◌∙◌, inl, inr, arith}
+use Rattle.std.specs.List.{list_any}
+use Rattle.std.specs.List.Sorted.{IsStrictlyIncreasing, IsNonDecreasing, IsPartitionPoint, IsBinarySearchResult}
+use Rattle.std.specs.Ordering.{nat_cmp}
+use Rattle.std.specs.Result.{is_ok}
+use Rattle.std.proofs.lemmas.Bool.{cases_eq, cases_lt, eq-eqb, ne_eqb}
+use Rattle.std.proofs.lemmas.List.Elements.{All-from_get_or}
+use Rattle.std.proofs.lemmas.List.Folds.{list_any_at, list_any_none}
+use Rattle.std.proofs.lemmas.List.Kept.{AllPairs-from_increasing}
+use Rattle.std.proofs.lemmas.List.Sorted.{searched}
+
+-- they don't fall
+pub never_falls : (xs : List ℕ) → IsStrictlyIncreasing xs → IsNonDecreasing xs
+never_falls xs rises i j d le low =
+    elim (cases_eq i j) [
+      | inl same ↦ let at = ap (λ k. get_or xs k d) same in omega (arith, at)
+      | inr other ↦ let less = AllPairs-from_increasing xs rises i j d (omega arith) low in omega (arith, less)
+    ]
+
+-- as many pass a test as stand before the point up to which all pass it and from which on none does
+pub pass_before : {X : Type 0} (test : X → Bool) (xs : List X) (point : ℕ) → point ≤ length xs → IsPartitionPoint (λ x. test x ≡ true) (λ x. test x ≡ false) xs point → length (filter test xs) ≡ point
+pass_before test [] point within parted = omega arith
+pass_before test (x ∷ xs) zero within parted =
+    ap (λ passes. length (cond passes (x ∷ filter test xs) (filter test xs))) (parted.1 0 x (omega arith) (omega arith))
+    ∙ pass_before test xs 0 (omega arith) (λ k d from to. absurd (omega arith), λ k d from to. parted.1 (suc k) d (omega arith) (omega arith))
+pass_before test (x ∷ xs) (suc point) within parted =
+    ap (λ passes. length (cond passes (x ∷ filter test xs) (filter test xs))) (parted.0 0 x (omega arith) (omega arith))
+    ∙ ap suc (pass_before test xs point (omega arith) (λ k d from to. parted.0 (suc k) d (omega arith) (omega arith), λ k d from to. parted.1 (suc k) d (omega arith) (omega arith)))
+
+-- a binary search finds a number that is one of them, and no other
+pub finds : (xs : List ℕ) (x : ℕ) (found : Result ℕ ℕ) → IsStrictlyIncreasing xs → IsBinarySearchResult (λ y. nat_cmp y x) xs found → is_ok found ≡ list_any (λ v. eqb v x) xs
+finds xs x (Ok i) rises answer =
+    let at = searched xs x (Ok i) answer (λ a b le low. never_falls xs rises a b 0 le low) in
+    sym (list_any_at (λ v. eqb v x) xs i 0 at.0 (eq-eqb (get_or xs i 0) x at.1))
+finds xs x (Err i) rises answer =
+    let at = searched xs x (Err i) answer (λ a b le low. never_falls xs rises a b 0 le low) in
+    sym (list_any_none (λ v. eqb v x) xs (All-from_get_or (λ v. eqb v x ≡ false) xs 0 (λ k low.
+    ne_eqb (get_or xs k 0) x (λ same.
+    elim (cases_lt k i) [
+      | inl lt ↦ let less = at.1 k lt in absurd (omega (arith, less, same))
+      | inr ge ↦ let more = at.2 k ge low in absurd (omega (arith, more, same))
+    ]))))
