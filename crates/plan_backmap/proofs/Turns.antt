@@ -1,0 +1,80 @@
+-- What the loop over the lines of a plan file keeps.
+use Rattle.std.proofs.Common.{◌≡◌, ℕ, ◌+◌, ◌*◌, ◌≤◌, List, [], ◌∷◌, ◌++◌, length, Option, Some, None, sym, ap, ◌∙◌, arith, append_assoc, append-nil}
+use Rattle.std.specs.Prelude.{IfSome}
+use Rattle.std.specs.List.{cons_option}
+use Rattle.std.specs.Option.{option_to_list}
+use Rattle.std.proofs.lemmas.List.Sums.{sum_by-append}
+use Rattle.plan_backmap.proofs.Cuts.{next_line, shorter}
+use Rattle.plan_backmap.specs.declared.plan.MapEnd.{MapEnd}
+use Rattle.plan_backmap.specs.declared.plan.MapEnd.TheVariants.{BadLine, UnknownStep, NoMemory}
+use Rattle.plan_backmap.specs.Lines.{plan_lines, trimmed}
+use Rattle.plan_backmap.specs.FirstLine.{first_line, after_line}
+use Rattle.plan_backmap.specs.Plans as spec
+use Rattle.plan_backmap.specs.declared.plan.Step.{Step}
+use Rattle.sas_task.specs.declared.parts.Operator.{Operator}
+
+-- so many lines of a text are passed without a fault, and gave these steps; the rest is left
+pub record Passed (operators : List Operator) (text : List ℕ) (number : ℕ) (steps : List Step) (total : ℕ) (rest : List ℕ) : Type 0 where
+  pub taken : spec.steps operators (plan_lines text) ≡ steps ++ spec.steps operators (plan_lines rest)
+  pub faultless : spec.faults operators (plan_lines text) ≡ spec.faults_from (number + 1) operators (plan_lines rest)
+  pub cost : total ≡ spec.total steps
+  pub small : total ≤ 2147483647 * number
+  pub room : number + length rest ≤ length text
+
+-- a step that was found stands behind those before it
+found_behind : (before after : List Step) (found : Option Step) → before ++ cons_option found after ≡ (before ++ option_to_list found) ++ after
+found_behind before after None = ap (λ steps. steps ++ after) (sym (append-nil before))
+found_behind before after (Some step) = sym (append_assoc before (step ∷ []) after)
+
+small_found : (found : Option Step) → IfSome found (λ step. step.cost ≤ 2147483647) → spec.total (option_to_list found) ≤ 2147483647
+small_found None low = omega arith
+small_found (Some step) low = let bound : 0 + step.cost ≤ 2147483647 = omega (arith, low) in bound
+
+module _ (operators : List Operator) (text : List ℕ) (number : ℕ) (steps : List Step) (total : ℕ) (rest : List ℕ) (p : Passed operators text number steps total rest) (some : 1 ≤ length rest)
+    (line : List ℕ) (line_is : line ≡ trimmed (first_line rest)) where
+  -- the fault of this line stands before those of the lines after it
+  faults_split : spec.faults operators (plan_lines text) ≡ cons_option (spec.fault_of operators (number + 1) line) (spec.faults_from (number + 1 + 1) operators (plan_lines (after_line rest)))
+  faults_split =
+      p.faultless ∙ ap (spec.faults_from (number + 1) operators) (next_line rest some)
+      ∙ ap (λ l. cons_option (spec.fault_of operators (number + 1) l) (spec.faults_from (number + 1 + 1) operators (plan_lines (after_line rest)))) (sym line_is)
+
+  -- the step of this line stands between those before it and those after it
+  steps_split : spec.steps operators (plan_lines text) ≡ steps ++ cons_option (spec.step_of operators line) (spec.steps operators (plan_lines (after_line rest)))
+  steps_split =
+      p.taken ∙ ap (λ ls. steps ++ spec.steps operators ls) (next_line rest some)
+      ∙ ap (λ l. steps ++ cons_option (spec.step_of operators l) (spec.steps operators (plan_lines (after_line rest)))) (sym line_is)
+
+  first_here : (fault : MapEnd) → spec.fault_of operators (number + 1) line ≡ Some fault → spec.IsFirst (spec.faults operators (plan_lines text)) fault
+  first_here fault here =
+      let after = spec.faults_from (number + 1 + 1) operators (plan_lines (after_line rest)) in
+      (after, faults_split ∙ ap (λ found. cons_option found after) here)
+
+  -- a fault that is found here is the first
+  pub fault_here : (end : MapEnd) → spec.IfFault end (λ fault. spec.fault_of operators (number + 1) line ≡ Some fault) → spec.IfFault end (λ fault. spec.IsFirst (spec.faults operators (plan_lines text)) fault)
+  fault_here (BadLine n) here = first_here _ here
+  fault_here (UnknownStep n) here = first_here _ here
+  fault_here NoMemory here = tt
+
+  -- one line more
+  pub passed_line : (after : List ℕ) → after ≡ after_line rest → spec.fault_of operators (number + 1) line ≡ None →
+      (found : Option Step) → found ≡ spec.step_of operators line → IfSome found (λ step. step.cost ≤ 2147483647) →
+      (new_steps : List Step) (new_total : ℕ) → new_steps ≡ steps ++ option_to_list found → new_total ≡ total + spec.total (option_to_list found) →
+      Passed operators text (number + 1) new_steps new_total after
+  passed_line after after_is none found found_is low new_steps new_total steps_are total_is = record {
+    taken =
+        steps_split
+        ∙ ap (λ s. steps ++ cons_option s (spec.steps operators (plan_lines (after_line rest)))) (sym found_is)
+        ∙ found_behind steps (spec.steps operators (plan_lines (after_line rest))) found
+        ∙ ap (λ ss. ss ++ spec.steps operators (plan_lines (after_line rest))) (sym steps_are)
+        ∙ ap (λ t. new_steps ++ spec.steps operators (plan_lines t)) (sym after_is);
+    faultless =
+        faults_split
+        ∙ ap (λ found. cons_option found (spec.faults_from (number + 1 + 1) operators (plan_lines (after_line rest)))) none
+        ∙ ap (λ t. spec.faults_from (number + 1 + 1) operators (plan_lines t)) (sym after_is);
+    cost =
+        total_is ∙ ap (λ n. n + spec.total (option_to_list found)) p.cost
+        ∙ sym (sum_by-append (λ (step : Step). step.cost) steps (option_to_list found))
+        ∙ ap spec.total (sym steps_are);
+    small = omega (arith, p.small, total_is, small_found found low);
+    room = omega (arith, p.room, shorter rest some, ap length after_is);
+  }

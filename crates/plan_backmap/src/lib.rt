@@ -1,0 +1,12 @@
+//! Plan files read back: which operators of a task their steps name, and what they cost.
+#![tactic(auto)]
+
+mod costs;
+mod laws;
+mod lines;
+mod mapping;
+mod plan;
+
+pub use laws::{solutions_cost_the_total, worked_lines, worked_plans};
+pub use mapping::map_plan;
+pub use plan::{MapEnd, Mapped, Step};

@@ -1,0 +1,136 @@
+//! Tables of plan files: what each comes to beside a small task.
+
+use plan_backmap::{MapEnd, Mapped, Step, map_plan};
+use sas_task::{SasTask, examples};
+use std::alloc::{AllocError, Global};
+use std::process::Abort;
+use std::test::*;
+
+// Each plan beside the switch, whose one operator is `flip` at cost 1: how often it flips, or its first faulty line.
+static SWITCH_PLANS: [(&[u8], Result<u64, MapEnd>); 41] = [
+    (b"(flip)\n", Ok(1)),
+    (b"(flip)\n(FLIP )\n; cost = 2 (unit cost)\n", Ok(2)),
+    (b"(flip)", Ok(1)),
+    (b"(flip)\n(flip)", Ok(2)),
+    (b"(flip)\r\n(flip)\r\n", Ok(2)),
+    (b"(flip)\r\r\n", Ok(1)),
+    (b"(\tflip\t)\n", Ok(1)),
+    (b"(  flip   )\n", Ok(1)),
+    (b" \t\r(flip)\t \n", Ok(1)),
+    (b"(Flip)\n", Ok(1)),
+    (b"", Ok(0)),
+    (b"\n", Ok(0)),
+    (b"; cost = 0 (unit cost)\n", Ok(0)),
+    (b"; a\n\n ;b\r\n\t\n;", Ok(0)),
+    (b";\xc3\xa9\n(flip)", Ok(1)),
+    (b"\n;(flop\n\n(flip)\n\n", Ok(1)),
+    (b"flip", Err(MapEnd::BadLine(1))),
+    (b"(flip) ; once", Err(MapEnd::BadLine(1))),
+    (b"((flip))", Err(MapEnd::BadLine(1))),
+    (b"()", Err(MapEnd::BadLine(1))),
+    (b"( )", Err(MapEnd::BadLine(1))),
+    (b"(\t)", Err(MapEnd::BadLine(1))),
+    (b"(", Err(MapEnd::BadLine(1))),
+    (b")", Err(MapEnd::BadLine(1))),
+    (b")(", Err(MapEnd::BadLine(1))),
+    (b"(flip", Err(MapEnd::BadLine(1))),
+    (b"(fl;ip)", Err(MapEnd::BadLine(1))),
+    (b"(fl\xc3\xa9ip)", Err(MapEnd::BadLine(1))),
+    (b"(fl\x7fip)", Err(MapEnd::BadLine(1))),
+    (b"(flip\r)", Err(MapEnd::BadLine(1))),
+    (b"(flip\x0c)", Err(MapEnd::BadLine(1))),
+    (b"(flip)\x0c", Err(MapEnd::BadLine(1))),
+    (b"(flip)(flip)", Err(MapEnd::BadLine(1))),
+    (b"(flip)\n\n;\n(flip", Err(MapEnd::BadLine(4))),
+    (
+        b"(flip)\n; cost = 1 (unit cost)\n(flop)\n",
+        Err(MapEnd::UnknownStep(3)),
+    ),
+    (b"(flip)\n(flop)\nflip\n", Err(MapEnd::UnknownStep(2))),
+    (b"flip\n(flop)\n", Err(MapEnd::BadLine(1))),
+    (b"(fli)", Err(MapEnd::UnknownStep(1))),
+    (b"(flip flip)", Err(MapEnd::UnknownStep(1))),
+    (b"(fl ip)", Err(MapEnd::UnknownStep(1))),
+    (b"(flip?)", Err(MapEnd::UnknownStep(1))),
+];
+
+// A plan for the room, whose operators are `enter room` at cost 3, `press` at no cost and `toggle` at cost 10.
+static ROOM_PLAN: &[u8] =
+    b"( ENTER\troom)\n(press)\n(toggle)\n(enter   room )\n; cost = 16 (general cost)\n";
+
+static ROOM_STEPS: [(&[&[u8]], u64); 4] = [
+    (&[b"enter", b"room"], 3),
+    (&[b"press"], 0),
+    (&[b"toggle"], 10),
+    (&[b"enter", b"room"], 3),
+];
+
+/// Whether the step has these words and this cost.
+fn is_step(step: &Step, words: &[&[u8]], cost: u64) -> bool {
+    let found = step.words.as_slice();
+    step.cost == cost
+        && found.len() == words.len()
+        && found
+            .iter()
+            .zip(words)
+            .all(|(word, expected)| word.as_slice() == *expected)
+}
+
+/// Whether the plan flips the switch so often, and does nothing else.
+fn are_flips(mapped: &Mapped, flips: u64) -> bool {
+    let steps = mapped.steps.as_slice();
+    steps.len() as u64 == flips
+        && mapped.total == flips
+        && steps.iter().all(|step| is_step(step, &[b"flip"], 1))
+}
+
+/// Whether the plan is that for the room.
+fn is_room_plan(mapped: &Mapped) -> bool {
+    let steps = mapped.steps.as_slice();
+    steps.len() == ROOM_STEPS.len()
+        && mapped.total == 16
+        && steps
+            .iter()
+            .zip(&ROOM_STEPS)
+            .all(|(step, row)| is_step(step, row.0, row.1))
+}
+
+/// Whether this comes of a plan.
+fn comes_to(found: &Result<Mapped, MapEnd>, expected: Result<u64, MapEnd>) -> bool {
+    match (found, expected) {
+        (Ok(mapped), Ok(flips)) => are_flips(mapped, flips),
+        (Err(end), Err(other)) => *end == other,
+        _ => false,
+    }
+}
+
+// Each test owns its task, and a function that is handed it asserts, so that the task is let go at one place.
+
+fn assert_switch_plans(rt: &impl Abort, alloc: Global, task: &SasTask) {
+    for row in &SWITCH_PLANS {
+        let (text, expected) = *row;
+        assert!(rt; text.len() < 1000);
+        let found = map_plan(alloc, task, text);
+        assert!(rt; comes_to(&found, expected), "{text:?}");
+    }
+}
+
+#[test]
+fn each_plan_gives_its_steps_or_its_first_faulty_line(rt: HostRuntime) -> Result<(), AllocError> {
+    let task = examples::switch(rt.alloc())?;
+    assert_switch_plans(&rt, rt.alloc(), &task);
+    Ok(())
+}
+
+fn assert_room_plan(rt: &impl Abort, alloc: Global, task: &SasTask) {
+    assert!(rt; ROOM_PLAN.len() < 1000);
+    let found = map_plan(alloc, task, ROOM_PLAN);
+    assert!(rt; matches!(&found, Ok(mapped) if is_room_plan(mapped)));
+}
+
+#[test]
+fn steps_have_their_words_and_costs(rt: HostRuntime) -> Result<(), AllocError> {
+    let task = examples::room(rt.alloc())?;
+    assert_room_plan(&rt, rt.alloc(), &task);
+    Ok(())
+}
