@@ -1,18 +1,18 @@
 -- The definition computes at words that are written out.
 use Rattle.std.proofs.Common.{◌≡◌, [], ◌∷◌, Some, None, refl, codes}
 use Rattle.clap.proofs.OnLiterals.{clap_on_literals}
-use Rattle.command_line.specs.Accepted.{accepted}
+use Rattle.command_line.specs.Accepted.{Files, accepted}
 
-named : accepted (codes "translate" ∷ codes "d" ∷ codes "--sas-file=o" ∷ codes "p" ∷ []) ≡ Some record { domain = codes "d"; problem = codes "p"; output = codes "o"; max_candidates = 100000 }
+named : accepted (codes "translate" ∷ codes "d" ∷ codes "--sas-file=o" ∷ codes "p" ∷ []) ≡ Some record { source = Files (codes "d") (codes "p"); settings = record { max_candidates = 100000 }; output = codes "o" }
 unfolding clap_on_literals accepted
 named = refl
 
 numbered : accepted (codes "translate" ∷ codes "d" ∷ codes "p" ∷ codes "--invariant-generation-max-candidates" ∷ codes "007" ∷ [])
-    ≡ Some record { domain = codes "d"; problem = codes "p"; output = codes "output.sas"; max_candidates = 7 }
+    ≡ Some record { source = Files (codes "d") (codes "p"); settings = record { max_candidates = 7 }; output = codes "output.sas" }
 unfolding clap_on_literals accepted
 numbered = refl
 
-after_two_hyphens : accepted (codes "translate" ∷ codes "--" ∷ codes "-d" ∷ codes "-" ∷ []) ≡ Some record { domain = codes "-d"; problem = codes "-"; output = codes "output.sas"; max_candidates = 100000 }
+after_two_hyphens : accepted (codes "translate" ∷ codes "--" ∷ codes "-d" ∷ codes "-" ∷ []) ≡ Some record { source = Files (codes "-d") (codes "-"); settings = record { max_candidates = 100000 }; output = codes "output.sas" }
 unfolding clap_on_literals accepted
 after_two_hyphens = refl
 

@@ -7,16 +7,24 @@ use Rattle.clap.specs.Words.{Row, Text, fault_of, first_of, matches_of}
 use Rattle.clap.specs.Kinds.{Kinds}
 use Rattle.command_line.specs.Command.{command}
 use Rattle.command_line.specs.declared.accepted.Accepted.{Accepted}
+use Rattle.command_line.specs.declared.accepted.Settings.{Settings}
+use Rattle.command_line.specs.declared.accepted.Source.{Source as GivenSource}
 
--- what accepted words ask for: the names of three files, and the greatest number of candidates that are tried
+-- where a task comes from: a domain file and a problem file of these names
+pub data Source : Type 0 where
+  Files : (domain problem : Text) → Source
+
+-- What accepted words ask for: where the task comes from, how it is made, and the name of the output file.
 pub record Asked : Type 0 where
-  pub domain : Text
-  pub problem : Text
+  pub source : Source
+  pub settings : Settings
   pub output : Text
-  pub max_candidates : ℕ
+
+abbrev pub source_by : GivenSource → Source
+source_by s = Files s.domain.now s.problem.now
 
 abbrev pub asked_by : Accepted → Asked
-asked_by a = record { domain = a.domain.now; problem = a.problem.now; output = a.output.now; max_candidates = a.max_candidates }
+asked_by a = record { source = source_by a.source; settings = a.settings; output = a.output.now }
 
 abbrev pub number_if : Bool → ℕ → Option ℕ
 number_if holds n = if holds then Some n else None
@@ -34,7 +42,7 @@ candidates_of (Some text) = number_up_to 2147483647 text
 -- both input files are named, and the number is one
 abbrev pub asked_with : Text → Option Text → Option Text → Option ℕ → Option Asked
 asked_with output (Some domain) (Some problem) (Some candidates) =
-    Some record { domain = domain; problem = problem; output = output; max_candidates = candidates }
+    Some record { source = Files domain problem; settings = record { max_candidates = candidates }; output = output }
 asked_with output domain problem candidates = None
 
 -- what the matches ask for, where the rules on them hold

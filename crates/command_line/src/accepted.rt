@@ -11,13 +11,27 @@ use clap::ArgMatches;
 use clap::error::ErrorKind;
 use std::alloc::{AllocError, Global};
 
-/// The words that were accepted: the names of the files, and the greatest number of candidates.
+/// Where a task comes from: the names of a domain file and of a problem file.
 #[derive(Clone, Copy, PartialEq, Eq)]
-pub struct Accepted<'a> {
+pub struct Source<'a> {
     pub domain: &'a str,
     pub problem: &'a str,
-    pub output: &'a str,
+}
+
+/// How a task is made.
+#[derive(Clone, Copy, PartialEq, Eq)]
+pub struct Settings {
+    /// The greatest number of candidates for invariants that are tried.
     pub max_candidates: u32,
+}
+
+/// What the words ask for, where they are accepted.
+#[derive(Clone, Copy, PartialEq, Eq)]
+pub struct Accepted<'a> {
+    pub source: Source<'a>,
+    pub settings: Settings,
+    /// The name of the output file.
+    pub output: &'a str,
 }
 
 /// Reads the words of a command line, the program's name first: `None` where they are refused.
@@ -48,10 +62,9 @@ fn asked<'a>(matches: &ArgMatches<'a>) -> Option<Accepted<'a>>
         None => 100_000,
     };
     Some(Accepted {
-        domain,
-        problem,
+        source: Source { domain, problem },
+        settings: Settings { max_candidates },
         output,
-        max_candidates,
     })
 }
 

@@ -1,6 +1,6 @@
 //! The words of many command lines. Each line is cut at blanks, and `''` in it is the empty word.
 
-use crate::{Accepted, read_words};
+use crate::{Accepted, Settings, Source, read_words};
 use std::alloc::{AllocError, Global};
 
 /// Lines that are refused.
@@ -136,10 +136,11 @@ fn refuses_numbers(rt: HostRuntime) -> Result<(), AllocError> {
 fn accepts(rt: HostRuntime) -> Result<(), AllocError> {
     for (line, domain, problem, output) in ACCEPTED {
         let wanted = Accepted {
-            domain,
-            problem,
+            source: Source { domain, problem },
+            settings: Settings {
+                max_candidates: 100_000,
+            },
             output,
-            max_candidates: 100_000,
         };
         assert!(rt; reads(rt.alloc(), line, Some(wanted))?, "{line}");
     }
@@ -150,10 +151,12 @@ fn accepts(rt: HostRuntime) -> Result<(), AllocError> {
 fn accepts_numbers(rt: HostRuntime) -> Result<(), AllocError> {
     for (digits, max_candidates) in ACCEPTED_NUMBERS {
         let wanted = Accepted {
-            domain: "d",
-            problem: "p",
+            source: Source {
+                domain: "d",
+                problem: "p",
+            },
+            settings: Settings { max_candidates },
             output: "output.sas",
-            max_candidates,
         };
         assert!(rt; reads_number(rt.alloc(), digits, Some(wanted))?, "{digits}");
     }

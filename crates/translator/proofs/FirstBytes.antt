@@ -4,13 +4,10 @@ use Rattle.std.specs.declared.option.Option.{Option}
 use Rattle.std.specs.declared.option.Option.TheVariants.{Some, None}
 use Rattle.std.specs.Io.KnownBytes.{append_known}
 use Rattle.std.proofs.lemmas.List.{append_cancel_left}
-use Rattle.translator.specs.declared.outcome.Status.TheVariants as statuses
+use Rattle.translator.specs.declared.outcome.Message.{Message}
+use Rattle.translator.specs.declared.outcome.Message.TheVariants as messages
 use Rattle.translator.specs.declared.outcome.Summary.{Summary}
-use Rattle.std.specs.Prelude.{Ok, Err}
-use Rattle.translator.specs.declared.outcome.End.TheVariants.{NoMemory, CannotRead, CannotWrite, Faulty}
-use Rattle.translator.specs.Outcome.{Outcome, status_of}
-use Rattle.command_line.specs.Accepted.{Asked}
-use Rattle.translator.specs.Messages.{usage_line, memory_line, unreadable_line, unwritable_line, fault_line, summary_lines, line_of}
+use Rattle.translator.specs.Messages.{usage_line, memory_line, unreadable_line, unwritable_line, fault_line, refusal_line, summary_lines}
 
 -- T
 abbrev pub capital : ℕ
@@ -32,27 +29,39 @@ memory_first : first memory_line ≡ 116
 unfolding memory_line first
 memory_first = refl
 
-line_first : (outcome : Outcome) (asked : Asked) → status_of outcome ≢ statuses.Done → first (line_of outcome asked) ≡ 116
-unfolding memory_line unreadable_line unwritable_line fault_line first
-line_first (Ok summary) asked other = absurd (other refl)
-line_first (Err NoMemory) asked other = refl
-line_first (Err (CannotRead side)) asked other = refl
-line_first (Err CannotWrite) asked other = refl
-line_first (Err (Faulty side fault)) asked other = refl
+unreadable_first : (name : List ℕ) → first (unreadable_line name) ≡ 116
+unfolding unreadable_line first
+unreadable_first name = refl
+
+unwritable_first : (name : List ℕ) → first (unwritable_line name) ≡ 116
+unfolding unwritable_line first
+unwritable_first name = refl
+
+refusal_first : (name : List ℕ) (message : Message) → first (refusal_line name message) ≡ 116
+unfolding fault_line first
+refusal_first name (messages.Fault fault) = refl
 
 summary_first : (summary : Summary) → first (summary_lines summary) ≡ 84
 unfolding summary_lines first
 summary_first summary = refl
 
+small : (bytes rest : List ℕ) (byte : ℕ) → first bytes ≡ byte → byte ≢ 84 → bytes ≢ capital ∷ rest
+small bytes rest byte is other begins_so = other (sym is ∙ begins bytes rest begins_so)
+
 pub usage_small : (rest : List ℕ) → usage_line ≢ capital ∷ rest
-usage_small rest is = let a = usage_first in let b = begins usage_line rest is in omega (arith, a, b)
+usage_small rest = small usage_line rest 117 usage_first (λ e. omega (arith, e))
 
 pub memory_small : (rest : List ℕ) → memory_line ≢ capital ∷ rest
-memory_small rest is = let a = memory_first in let b = begins memory_line rest is in omega (arith, a, b)
+memory_small rest = small memory_line rest 116 memory_first (λ e. omega (arith, e))
 
-pub line_small : (outcome : Outcome) (asked : Asked) → status_of outcome ≢ statuses.Done → (rest : List ℕ) → line_of outcome asked ≢ capital ∷ rest
-line_small outcome asked other rest is =
-    let a = line_first outcome asked other in let b = begins (line_of outcome asked) rest is in omega (arith, a, b)
+pub unreadable_small : (name rest : List ℕ) → unreadable_line name ≢ capital ∷ rest
+unreadable_small name rest = small (unreadable_line name) rest 116 (unreadable_first name) (λ e. omega (arith, e))
+
+pub unwritable_small : (name rest : List ℕ) → unwritable_line name ≢ capital ∷ rest
+unwritable_small name rest = small (unwritable_line name) rest 116 (unwritable_first name) (λ e. omega (arith, e))
+
+pub refusal_small : (name : List ℕ) (message : Message) (rest : List ℕ) → refusal_line name message ≢ capital ∷ rest
+refusal_small name message rest = small (refusal_line name message) rest 116 (refusal_first name message) (λ e. omega (arith, e))
 
 pub begins_capital : (summary : Summary) (byte : ℕ) (rest : List ℕ) → summary_lines summary ≡ byte ∷ rest → byte ≡ capital
 unfolding first

@@ -1,6 +1,6 @@
 -- The task that the passes make of a domain and a problem translates them: the laws of the passes, one after another.
-use Rattle.std.proofs.Common.{◌≡◌, ℕ, ◌<◌, true, false, List, length, sym, subst}
-use Rattle.std.specs.Prelude.{◌^◌, Result, Ok, Err, IfOk, IfErr, All}
+use Rattle.std.proofs.Common.{◌≡◌, ℕ, ◌<◌, true, false, List, length, subst}
+use Rattle.std.specs.Prelude.{◌^◌, Result, Ok, Err, IfOk, All}
 use Rattle.std.specs.List.{list_all}
 use Rattle.lists.proofs.Members.{all_from_members}
 use Rattle.runs.specs.Systems.{Through}
@@ -16,11 +16,9 @@ use Rattle.pddl_parser.specs.Words.{Name}
 use Rattle.pddl_parser.specs.Holds.{GroundAtom}
 use Rattle.pddl_parser.specs.Plan.{pddl_task, HasPlan, HasBusyPlan}
 use Rattle.normal_task.specs.declared.task.Normal.{Normal}
-use Rattle.normal_task.specs.Normalised.{normal}
 use Rattle.invariant_check.specs.declared.types.Candidate.{Candidate}
 use Rattle.invariant_check.specs.WellFormed.{is_well_formed}
 use Rattle.invariant_guess.specs.declared.types.Found.{Found}
-use Rattle.invariant_guess.specs.Trial.{IsFound}
 use Rattle.static_matcher.specs.declared.types.Ground.{Ground}
 use Rattle.static_matcher.specs.Instances.{IsGroundTask}
 use Rattle.static_matcher.specs.Literals.{meaning}
@@ -34,18 +32,11 @@ use Rattle.group_cover.specs.Cover.{IsCover}
 use Rattle.fdr_encoder.specs.Covers.{IsBasicGroup}
 use Rattle.fdr_encoder.specs.Encoding.{IsEncoding}
 use Rattle.fdr_encoder.specs.Simulates.{Correspond, Simulates}
-use Rattle.task_simplifier.specs.Projection.{IsProjection}
 use Rattle.sas_task.specs.Task.{Task}
 use Rattle.sas_task.specs.Solution.{HasSolution, system as solutions}
 use Rattle.sas_task.specs.Keeps.{HasShorterSolution, Keeps, KeepsChanging}
-use Rattle.translator.specs.declared.outcome.End.{End}
-use Rattle.translator.specs.declared.outcome.End.TheVariants.{NoMemory}
-use Rattle.translator.specs.declared.translation.Translation.{Translation}
-use Rattle.translator.specs.Run.{Ending, Translated}
-use Rattle.translator.specs.RunTask.{IsRunEncoding, IsRunTask}
+use Rattle.translator.specs.RunTask.{IsRunEncoding}
 use Rattle.translator.specs.Theorem.{Translates}
-use Rattle.translator.specs.Written.{IsWritten, IsTextWhere, StopsWhere}
-use Rattle.translator.proofs.Texts.{memory_stops}
 
 -- the groups of well formed candidates are sorted and have basic facts
 pub sorted_groups : (made : Normal) (candidates : List Candidate) (reached : Reached) (groups : List (List ℕ)) →
@@ -113,22 +104,3 @@ encoding_of_run made found reached layers layers' groups sets facts (Ok encoded)
       encodes = subst (λ (l : List ℕ). IsEncoding sets groups l reached encoded) same encodes;
     }
 encoding_of_run made found reached layers layers' groups sets facts (Err end) is_reached are same are_groups all few is_cover encodes = tt
-
--- the projection of the encoding of the run is the task of the run
-pub run_task_of : {E : Type 0} (made : Normal) (found : Found) (encoded : Task) (result : Result Task E) → IsRunEncoding made found encoded → IfOk result (IsProjection encoded) → IfOk result (IsRunTask made found)
-run_task_of made found encoded (Ok task) encoding projection = record { encoded = encoded; encoding = encoding; projection = projection }
-run_task_of made found encoded (Err end) encoding projection = tt
-
--- the text of the task of a run is what the run is to write
-pub text_of_run : (e : Ending) (domain : Domain) (problem : Problem) (max_candidates : ℕ) (found : Found) (task : Task) (result : Result Translation End) → e ≡ Translated domain problem
-    → IsFound (normal domain problem) max_candidates found → IsRunTask (normal domain problem) found task
-    → Translates domain problem task → IfOk result (λ t. IsWritten found task t.text.items t.summary) → IfOk result (λ t. IsTextWhere e max_candidates t.text.items t.summary)
-text_of_run e domain problem max_candidates found task (Ok t) is is_found run law written =
-    subst (λ (x : Ending). IsTextWhere x max_candidates t.text.items t.summary) (sym is)
-    (record { task = task; found = found; is_found = is_found; written = written; is_run_task = run; translates = law })
-text_of_run e domain problem max_candidates found task (Err why) is is_found run law written = tt
-
--- a text isn't written only for want of memory
-pub unwritten : (e : Ending) (result : Result Translation End) → IfErr result (λ why. why ≡ NoMemory) → IfErr result (StopsWhere e)
-unwritten e (Ok t) memory = tt
-unwritten e (Err why) memory = memory_stops e why memory

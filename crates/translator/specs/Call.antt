@@ -1,90 +1,68 @@
 -- What a call of the translator comes to, prints and leaves.
-use Rattle.std.specs.Prelude.{◌≡◌, ℕ, List}
+use Rattle.std.specs.Prelude.{◌≡◌, ◌⊎◌, ℕ, ◌≤◌, List, Contains, IfSome, IsSomeAnd}
 use Rattle.std.specs.declared.option.Option.{Option}
 use Rattle.std.specs.declared.option.Option.TheVariants.{Some, None}
 use Rattle.std.specs.Io.KnownBytes.{append_known}
-use Rattle.tl_device.specs.Contents.{Contents, GrownInPart, OthersStay, PrintedInPart, emptied}
+use Rattle.tl_device.specs.Contents.{Contents, IsAskedFor, GrownInPart, PrintedInPart, emptied, grown}
 use Rattle.tl_device.specs.Causes.{Rose}
-use Rattle.pddl_lexer.specs.declared.fault.Fault.{Fault}
-use Rattle.pddl_parser.specs.declared.types.Domain.{Domain}
-use Rattle.pddl_parser.specs.declared.types.Problem.{Problem}
-use Rattle.type_checker.specs.declared.end.Side.{Side}
+use Rattle.command_line.specs.Accepted.{Asked}
+use Rattle.translator.specs.declared.outcome.Message.{Message}
 use Rattle.translator.specs.declared.outcome.Status.{Status}
 use Rattle.translator.specs.declared.outcome.Status.TheVariants as statuses
-use Rattle.translator.specs.declared.outcome.Summary.{Summary}
-use Rattle.translator.specs.Outcome.{Outcome, status_of}
-use Rattle.translator.specs.Messages.{usage_line, memory_line, summary_lines, line_of}
-use Rattle.translator.specs.Run.{Absent, Refused, Translated, ComesTo}
-use Rattle.command_line.specs.Accepted.{Asked}
-use Rattle.translator.specs.Written.{Work, IsUntouched, WorkEnds, IsTextOfFiles, IsWhole}
+use Rattle.translator.specs.Ending.{Gives, Absent, Refused}
+use Rattle.translator.specs.RunTask.{Output}
+use Rattle.translator.specs.Run.{ComesTo, inputs}
+use Rattle.translator.specs.Store.{Store, IsUntouched, Screen}
+use Rattle.translator.specs.Messages.{usage_line, memory_line, unreadable_line, unwritable_line, refusal_line, summary_lines}
 
--- the words are accepted, the files are told, and an input file is absent when the run comes to it
-abbrev pub IsAbsentInput : Option Contents → Option Asked → Type 0
-IsAbsentInput files None = ⊥
-IsAbsentInput files (Some asked) = (side : Side) × ComesTo files asked.domain asked.problem (Absent side)
+-- The file of this name, which is one of these, can't be read: it was asked for last, and reading failed, or, where the files are told, it is absent.
+pub record IsUnread (before now : Store) (names : List (List ℕ)) (name : List ℕ) (IsAbsent : Contents → Type 0) : Type 0 where
+  pub input : Contains names name
+  pub last : IsAskedFor now.asked name
+  pub later : before.reads ≤ now.reads
+  pub cause : Rose before.reads now.reads ⊎ IsSomeAnd before.files IsAbsent
 
--- the words are accepted, the files are told, and the run has a fault
-abbrev pub IsRefusedInput : Option Contents → Option Asked → Type 0
-IsRefusedInput files None = ⊥
-IsRefusedInput files (Some asked) = (side : Side) × ((fault : Fault) × ComesTo files asked.domain asked.problem (Refused side fault))
+-- The file of this name, which is one of these, is refused, and where the files are told it has to be.
+pub record IsRefused (before now : Store) (names : List (List ℕ)) (name : List ℕ) (HasFault : Contents → Type 0) : Type 0 where
+  pub input : Contains names name
+  pub reads : now.reads ≡ before.reads
+  pub told : IfSome before.files HasFault
 
--- the words are accepted, the files are told, and the run comes to a domain and a problem that are translated
-abbrev pub IsTranslatedInput : Option Contents → Option Asked → Type 0
-IsTranslatedInput files None = ⊥
-IsTranslatedInput files (Some asked) = (d : Domain) × ((p : Problem) × ComesTo files asked.domain asked.problem (Translated d p))
+-- The output file holds the text of what the run comes to, and each other file what it held.
+pub record IsWritten (files files_now : Option Contents) (asked : Asked) (output : Output) : Type 0 where
+  pub comes : IfSome files (λ held. ComesTo held asked (Gives output))
+  pub whole : files_now ≡ grown (emptied files asked.output) asked.output output.text
 
--- What is written and printed at the end: the text of the task of the files, and the lines on it and on the invariants that were found.
-pub record IsAllDone (files files_now : Option Contents) (printed printed_now : Option (List ℕ)) (asked : Asked) : Type 0 where
-  pub text : List ℕ
-  pub summary : Summary
-  pub is_text : IsTextOfFiles files asked text summary
-  pub written : IsWhole asked.output files files_now text
-  pub said : printed_now ≡ append_known printed (summary_lines summary)
+-- It holds a front of the text.
+pub record IsWrittenInPart (files files_now : Option Contents) (asked : Asked) (output : Output) : Type 0 where
+  pub comes : IfSome files (λ held. ComesTo held asked (Gives output))
+  pub part : GrownInPart (emptied files asked.output) files_now asked.output output.text
 
-abbrev pub IsDoneInput : Option Contents → Option Contents → Option (List ℕ) → Option (List ℕ) → Option Asked → Type 0
-IsDoneInput files files_now printed printed_now None = ⊥
-IsDoneInput files files_now printed printed_now (Some asked) = IsAllDone files files_now printed printed_now asked
+-- Writing failed: all files are as before, or the output file holds a front of the text.
+pub record IsUnwritten (before now : Store) (asked : Asked) (output : Output) : Type 0 where
+  pub comes : IfSome before.files (λ held. ComesTo held asked (Gives output))
+  pub part : (now.files ≡ before.files) ⊎ GrownInPart (emptied before.files asked.output) now.files asked.output output.text
+  pub reads : now.reads ≡ before.reads
+  pub later : before.writes ≤ now.writes
+  pub rose : Rose before.writes now.writes
 
--- The output file holds a front of the text of the files' task, and each other file what it held.
-pub record IsWrittenInPart (files files_now : Option Contents) (asked : Asked) : Type 0 where
-  pub text : List ℕ
-  pub summary : Summary
-  pub is_text : IsTextOfFiles files asked text summary
-  pub part : GrownInPart (emptied files asked.output) files_now asked.output text
-
-abbrev pub IsPartlyWritten : Option Contents → Option Contents → Option Asked → Type 0
-IsPartlyWritten files files_now None = ⊥
-IsPartlyWritten files files_now (Some asked) = IsWrittenInPart files files_now asked
-
--- The output file holds the whole text of the files' task, and each other file what it held.
-pub record IsWrittenWhole (files files_now : Option Contents) (asked : Asked) : Type 0 where
-  pub text : List ℕ
-  pub summary : Summary
-  pub is_text : IsTextOfFiles files asked text summary
-  pub written : IsWhole asked.output files files_now text
-
-abbrev pub IsWhollyWritten : Option Contents → Option Contents → Option Asked → Type 0
-IsWhollyWritten files files_now None = ⊥
-IsWhollyWritten files files_now (Some asked) = IsWrittenWhole files files_now asked
-
--- all files but the output file hold what they held, and where the words are refused all files
-abbrev pub OnlyOutputChanges : Option Contents → Option Contents → Option Asked → Type 0
-OnlyOutputChanges files files_now None = files_now ≡ files
-OnlyOutputChanges files files_now (Some asked) = OthersStay files files_now asked.output
-
--- What is printed where a run ends in this way, and the status that it then answers. Reading the words can want memory,
--- whether they are to be accepted or refused.
-pub data Says (work : Work) (words : Option Asked) : Status → List ℕ → Type 0 where
-  refused : words ≡ None → IsUntouched work → work.reads_now ≡ work.reads → Says work words statuses.Usage usage_line
-  words_unread : IsUntouched work → work.reads_now ≡ work.reads → Says work words statuses.NoMemory memory_line
-  ended : (asked : Asked) (outcome : Outcome) → words ≡ Some asked → WorkEnds work asked outcome → Says work words (status_of outcome) (line_of outcome asked)
+-- How the work on what the words ask for ends: the status that it means, and what is to be printed. Memory can run out wherever nothing is written yet.
+pub data Ends (before now : Store) (words : Option Asked) : Status → List ℕ → Type 0 where
+  misused : words ≡ None → IsUntouched before now → now.reads ≡ before.reads → Ends before now words statuses.Usage usage_line
+  starved : IsUntouched before now → now.reads ≡ before.reads → Ends before now words statuses.NoMemory memory_line
+  unread : (asked : Asked) (name : List ℕ) → words ≡ Some asked → IsUntouched before now
+      → IsUnread before now (inputs asked.source) name (λ held. ComesTo held asked (Absent name)) → Ends before now words statuses.Device (unreadable_line name)
+  refused : (asked : Asked) (name : List ℕ) (message : Message) → words ≡ Some asked → IsUntouched before now
+      → IsRefused before now (inputs asked.source) name (λ held. ComesTo held asked (Refused name message)) → Ends before now words statuses.InputFault (refusal_line name message)
+  unwritten : (asked : Asked) (output : Output) → words ≡ Some asked → IsUnwritten before now asked output → Ends before now words statuses.Device (unwritable_line asked.output)
+  written : (asked : Asked) (output : Output) → words ≡ Some asked → IsWritten before.files now.files asked output
+      → now.reads ≡ before.reads → now.writes ≡ before.writes → Ends before now words statuses.Done (summary_lines output.summary)
 
 -- What was printed. The console took the whole text, or it failed after a front of it.
-pub data Printed (work : Work) (words : Option Asked) (faults faults_now : ℕ) (printed printed_now : Option (List ℕ)) : Status → Type 0 where
-  whole : (status : Status) (text : List ℕ) → Says work words status text → printed_now ≡ append_known printed text → faults_now ≡ faults → Printed work words faults faults_now printed printed_now status
-  part : (meant : Status) (text : List ℕ) → Says work words meant text → PrintedInPart printed printed_now text → Rose faults faults_now → Printed work words faults faults_now printed printed_now statuses.Device
+pub data Printed (text : List ℕ) (meant : Status) (before now : Screen) : Status → Type 0 where
+  whole : now.printed ≡ append_known before.printed text → now.faults ≡ before.faults → Printed text meant before now meant
+  part : PrintedInPart before.printed now.printed text → Rose before.faults now.faults → Printed text meant before now statuses.Device
 
--- The console took the whole line, or it failed after a front of it.
-pub data SaysLine (line : List ℕ) (meant : Status) (faults faults_now : ℕ) (printed printed_now : Option (List ℕ)) : Status → Type 0 where
-  all_said : printed_now ≡ append_known printed line → faults_now ≡ faults → SaysLine line meant faults faults_now printed printed_now meant
-  said_in_part : PrintedInPart printed printed_now line → Rose faults faults_now → SaysLine line meant faults faults_now printed printed_now statuses.Device
+-- The work ended in one of these ways, and the text of that was printed.
+pub data Called (before now : Store) (words : Option Asked) (screen screen_now : Screen) (status : Status) : Type 0 where
+  called : (meant : Status) (text : List ℕ) → Ends before now words meant text → Printed text meant screen screen_now status → Called before now words screen screen_now status

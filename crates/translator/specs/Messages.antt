@@ -1,12 +1,10 @@
 -- What is printed at the end of a run.
-use Rattle.std.specs.Prelude.{ℕ, List, ◌++◌, codes, decimal, Ok, Err}
+use Rattle.std.specs.Prelude.{ℕ, List, ◌++◌, codes, decimal}
 use Rattle.pddl_lexer.specs.Kinds.{text}
 use Rattle.pddl_lexer.specs.declared.fault.Fault.{Fault}
 use Rattle.translator.specs.declared.outcome.Summary.{Summary}
-use Rattle.translator.specs.declared.outcome.End.TheVariants.{NoMemory, CannotRead, CannotWrite, Faulty}
-use Rattle.translator.specs.Outcome.{Outcome}
-use Rattle.translator.specs.Run.{name_of}
-use Rattle.command_line.specs.Accepted.{Asked}
+use Rattle.translator.specs.declared.outcome.Message.{Message}
+use Rattle.translator.specs.declared.outcome.Message.TheVariants as messages
 
 -- the line that refuses the words
 unfoldable pub usage_line : List ℕ
@@ -32,6 +30,10 @@ unwritable_line name = named_line (codes "translate: cannot write ") name
 unfoldable pub fault_line : List ℕ → Fault → List ℕ
 fault_line name fault = codes "translate: " ++ name ++ codes ":" ++ decimal fault.line ++ codes ": " ++ text fault.kind ++ codes "\n"
 
+-- the line on a file that is refused
+abbrev pub refusal_line : List ℕ → Message → List ℕ
+refusal_line name (messages.Fault fault) = fault_line name fault
+
 -- the seven lines on the search for invariants and on the written task
 unfoldable pub summary_lines : Summary → List ℕ
 summary_lines summary =
@@ -39,11 +41,3 @@ summary_lines summary =
     ++ codes "\nTranslator variables: " ++ decimal summary.variables ++ codes "\nTranslator facts: " ++ decimal summary.facts
     ++ codes "\nTranslator mutex groups: " ++ decimal summary.mutex_groups ++ codes "\nTranslator operators: " ++ decimal summary.operators
     ++ codes "\nTranslator axioms: " ++ decimal summary.axioms ++ codes "\n"
-
--- what is printed after the work on what the words asked for
-abbrev pub line_of : Outcome → Asked → List ℕ
-line_of (Ok summary) asked = summary_lines summary
-line_of (Err NoMemory) asked = memory_line
-line_of (Err (CannotRead side)) asked = unreadable_line (name_of side asked.domain asked.problem)
-line_of (Err CannotWrite) asked = unwritable_line asked.output
-line_of (Err (Faulty side fault)) asked = fault_line (name_of side asked.domain asked.problem) fault

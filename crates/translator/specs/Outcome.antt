@@ -1,16 +1,11 @@
--- How the work on the files ends, and the end of a run as an exit status.
-use Rattle.std.specs.Prelude.{ℕ, Result, Ok, Err}
-use Rattle.type_checker.specs.declared.end.CheckEnd.{CheckEnd}
-use Rattle.type_checker.specs.declared.end.CheckEnd.TheVariants as check_ends
+-- How the work on the files ends in the code, as an exit status and as what is printed.
+use Rattle.std.specs.Prelude.{ℕ, List, Result, Ok, Err}
 use Rattle.translator.specs.declared.outcome.Status.{Status}
 use Rattle.translator.specs.declared.outcome.Status.TheVariants as statuses
 use Rattle.translator.specs.declared.outcome.Summary.{Summary}
 use Rattle.translator.specs.declared.outcome.End.{End}
-use Rattle.translator.specs.declared.outcome.End.TheVariants.{NoMemory, CannotRead, CannotWrite, Faulty}
-
--- the sizes of the written task, or why none is written
-abbrev pub Outcome : Type 0
-Outcome = Result Summary End
+use Rattle.translator.specs.declared.outcome.End.TheVariants as ends
+use Rattle.translator.specs.Messages.{usage_line, memory_line, unreadable_line, unwritable_line, refusal_line, summary_lines}
 
 abbrev pub code_of : Status → ℕ
 code_of statuses.Done = 0
@@ -19,14 +14,22 @@ code_of statuses.NoMemory = 20
 code_of statuses.Device = 30
 code_of statuses.InputFault = 31
 
+-- the numbers that are printed, or why no task is written
+abbrev pub Outcome : Type 0
+Outcome = Result Summary End
+
 abbrev pub status_of : Outcome → Status
 status_of (Ok summary) = statuses.Done
-status_of (Err NoMemory) = statuses.NoMemory
-status_of (Err (CannotRead side)) = statuses.Device
-status_of (Err CannotWrite) = statuses.Device
-status_of (Err (Faulty side fault)) = statuses.InputFault
+status_of (Err ends.Usage) = statuses.Usage
+status_of (Err ends.NoMemory) = statuses.NoMemory
+status_of (Err (ends.CannotRead name)) = statuses.Device
+status_of (Err (ends.CannotWrite name)) = statuses.Device
+status_of (Err (ends.Refused name message)) = statuses.InputFault
 
--- the end of a check as one of the work
-abbrev pub of_check : CheckEnd → End
-of_check (check_ends.Fault side fault) = Faulty side fault
-of_check check_ends.NoMemory = NoMemory
+abbrev pub line_of : Outcome → List ℕ
+line_of (Ok summary) = summary_lines summary
+line_of (Err ends.Usage) = usage_line
+line_of (Err ends.NoMemory) = memory_line
+line_of (Err (ends.CannotRead name)) = unreadable_line name.now
+line_of (Err (ends.CannotWrite name)) = unwritable_line name.now
+line_of (Err (ends.Refused name message)) = refusal_line name.now message

@@ -1,22 +1,22 @@
 //! The top call.
 
-ghost use Rattle.std.specs.Prelude.{◌≡◌, ◌≢◌, ◌⊎◌, ◌++◌, ◌∷◌, ℕ, List, None, Some};
+ghost use Rattle.std.specs.Prelude.{◌≡◌, ◌≢◌, ◌⊎◌, ◌++◌, ◌∷◌, ℕ, List, None, Some, IsSome, IfSome, IsSomeAnd};
 ghost use Rattle.std.specs.Io.KnownBytes.{append_known};
-ghost use Rattle.command_line.specs.Accepted.{Asked, asked_by};
-ghost use Rattle.pddl_lexer.specs.declared.fault.Fault.{Fault};
-ghost use Rattle.type_checker.specs.declared.end.Side.{Side};
 ghost use Rattle.tl_device.specs.Causes.{Rose};
-ghost use Rattle.tl_device.specs.Contents.{IsTold};
+ghost use Rattle.tl_device.specs.Contents.{IsTold, OthersStay};
+ghost use Rattle.translator.specs.declared.outcome.Message.{Message};
 ghost use Rattle.translator.specs.declared.outcome.Summary.{Summary};
-ghost use Rattle.translator.specs.Messages.{summary_lines, fault_line, unreadable_line, usage_line, memory_line};
-ghost use Rattle.translator.specs.Run.{Absent, Refused, ComesTo, asked_by_words, name_of};
-ghost use Rattle.translator.specs.Written.{IsUntouched, work_of};
-ghost use Rattle.translator.specs.Call.{IsAbsentInput, IsRefusedInput, IsTranslatedInput, IsDoneInput, IsPartlyWritten, IsWhollyWritten, OnlyOutputChanges, Printed, SaysLine};
+ghost use Rattle.translator.specs.Ending.{Absent, Refused};
+ghost use Rattle.translator.specs.Run.{RunsTo, LacksFile, HasFault, asked_by_words};
+ghost use Rattle.translator.specs.RunTask.{Output};
+ghost use Rattle.translator.specs.Store.{store, screen, IsUntouched};
+ghost use Rattle.translator.specs.Messages.{summary_lines, refusal_line, unreadable_line, usage_line, memory_line};
+ghost use Rattle.translator.specs.Call.{Called, Printed, IsWritten, IsWrittenInPart};
+ghost use Rattle.translator.specs.Outcome.{status_of, line_of};
 
-use crate::message::{say_no_memory, say_outcome, say_usage};
-use crate::outcome::Status;
+use crate::message::say_outcome;
+use crate::outcome::{End, Status, Summary};
 use crate::work::work;
-use command_line::{Accepted, read_words};
 use std::alloc::Global;
 use std::io::ErrorKind;
 use tl_device::{Console, Files};
@@ -40,120 +40,88 @@ pub fn translate<F: Files, C: Console>(
     ensures device { result ≡ Status.Device
         → Rose (F.read_faults files.old) (F.read_faults files.new)
         ⊎ (Rose (F.write_faults files.old) (F.write_faults files.new)
-        ⊎ (Rose (C.faults console.old) (C.faults console.new) ⊎ IsAbsentInput (F.files files.old) (asked_by_words words.items))) }
+        ⊎ (Rose (C.faults console.old) (C.faults console.new) ⊎ LacksFile (F.files files.old) (asked_by_words words.items))) }
     ensures reads { result ≢ Status.Device → F.read_faults files.new ≡ F.read_faults files.old }
     ensures writes { result ≢ Status.Device → F.write_faults files.new ≡ F.write_faults files.old }
     ensures faults { result ≢ Status.Device → C.faults console.new ≡ C.faults console.old }
-    ensures absent { IsAbsentInput (F.files files.old) (asked_by_words words.items) → (result ≡ Status.Device) ⊎ (result ≡ Status.NoMemory) }
+    ensures absent { LacksFile (F.files files.old) (asked_by_words words.items) → (result ≡ Status.Device) ⊎ (result ≡ Status.NoMemory) }
 
     // InputFault comes exactly where the run has a fault, if nothing fails and memory suffices.
-    ensures input_fault { result ≡ Status.InputFault → IsTold (F.files files.old) → IsRefusedInput (F.files files.old) (asked_by_words words.items) }
-    ensures refused_input { IsRefusedInput (F.files files.old) (asked_by_words words.items)
+    ensures input_fault { result ≡ Status.InputFault → IsTold (F.files files.old) → HasFault (F.files files.old) (asked_by_words words.items) }
+    ensures refused_input { HasFault (F.files files.old) (asked_by_words words.items)
         → (result ≡ Status.InputFault) ⊎ ((result ≡ Status.NoMemory)
         ⊎ ((result ≡ Status.Device) × (Rose (F.read_faults files.old) (F.read_faults files.new) ⊎ Rose (C.faults console.old) (C.faults console.new)))) }
 
-    // A domain and a problem without fault are translated, if nothing fails and memory suffices.
-    ensures complete { IsTranslatedInput (F.files files.old) (asked_by_words words.items)
+    // Where no file is absent and the run has no fault, a task is written, if nothing fails and memory suffices.
+    ensures complete { IsTold (F.files files.old) → IsSome (asked_by_words words.items) → ¬ LacksFile (F.files files.old) (asked_by_words words.items) → ¬ HasFault (F.files files.old) (asked_by_words words.items)
         → (result ≡ Status.Done) ⊎ ((result ≡ Status.NoMemory)
         ⊎ ((result ≡ Status.Device) × (Rose (F.read_faults files.old) (F.read_faults files.new)
         ⊎ (Rose (F.write_faults files.old) (F.write_faults files.new) ⊎ Rose (C.faults console.old) (C.faults console.new))))) }
-    ensures done { result ≡ Status.Done
-        → IsDoneInput (F.files files.old) (F.files files.new) (C.printed console.old) (C.printed console.new) (asked_by_words words.items) }
+    ensures done { result ≡ Status.Done → IsSomeAnd (asked_by_words words.items) (λ asked. (output : Output)
+        × (IsWritten (F.files files.old) (F.files files.new) asked output × (C.printed console.new ≡ append_known (C.printed console.old) (summary_lines output.summary)))) }
 
     // What stands afterwards.
-    ensures untouched { result ≢ Status.Done → result ≢ Status.Device → IsUntouched (work_of F.Files files.old files.new) }
+    ensures untouched { result ≢ Status.Done → result ≢ Status.Device → IsUntouched (store F.Files files.old) (store F.Files files.new) }
     // So it is, whatever the answer, where the words were refused, a read failed, a file is absent or there is a fault.
     ensures left { (asked_by_words words.items ≡ None) ⊎ ((F.read_faults files.new ≢ F.read_faults files.old)
-        ⊎ (IsAbsentInput (F.files files.old) (asked_by_words words.items) ⊎ IsRefusedInput (F.files files.old) (asked_by_words words.items)))
-        → IsUntouched (work_of F.Files files.old files.new) }
+        ⊎ (LacksFile (F.files files.old) (asked_by_words words.items) ⊎ HasFault (F.files files.old) (asked_by_words words.items)))
+        → IsUntouched (store F.Files files.old) (store F.Files files.new) }
     // The output file is as before, or holds a front of the text.
-    ensures in_part { (F.files files.new ≡ F.files files.old) ⊎ IsPartlyWritten (F.files files.old) (F.files files.new) (asked_by_words words.items) }
-    ensures others { OnlyOutputChanges (F.files files.old) (F.files files.new) (asked_by_words words.items) }
+    ensures in_part { (F.files files.new ≡ F.files files.old)
+        ⊎ IsSomeAnd (asked_by_words words.items) (λ asked. (output : Output) × IsWrittenInPart (F.files files.old) (F.files files.new) asked output) }
+    ensures others { IfSome (asked_by_words words.items) (λ asked. OthersStay (F.files files.old) (F.files files.new) asked.output) }
 
     // What is printed: the text of the answer, or a front of the text of some answer where the console failed.
-    ensures printed { Printed (work_of F.Files files.old files.new) (asked_by_words words.items) (C.faults console.old) (C.faults console.new) (C.printed console.old) (C.printed console.new) result }
+    ensures printed { Called (store F.Files files.old) (store F.Files files.new) (asked_by_words words.items) (screen C.Console console.old) (screen C.Console console.new) result }
     // The first fault is printed with its file and its line.
-    ensures fault_printed { (asked : Asked) (side : Side) (fault : Fault) → asked_by_words words.items ≡ Some asked
-        → ComesTo (F.files files.old) asked.domain asked.problem (Refused side fault) → result ≡ Status.InputFault
-        → C.printed console.new ≡ append_known (C.printed console.old) (fault_line (name_of side asked.domain asked.problem) fault) }
+    ensures fault_printed { (name : List ℕ) (message : Message) → RunsTo (F.files files.old) (asked_by_words words.items) (Refused name message)
+        → result ≡ Status.InputFault → C.printed console.new ≡ append_known (C.printed console.old) (refusal_line name message) }
     // `cannot read` names the file that was asked for last, and where no read failed the file that is absent.
     ensures unread_printed { (name : List ℕ) → F.asked files.new ≡ Some name → result ≡ Status.Device
         → ¬ Rose (F.write_faults files.old) (F.write_faults files.new) → ¬ Rose (C.faults console.old) (C.faults console.new)
         → C.printed console.new ≡ append_known (C.printed console.old) (unreadable_line name) }
-    ensures absent_printed { (asked : Asked) (side : Side) → asked_by_words words.items ≡ Some asked
-        → ComesTo (F.files files.old) asked.domain asked.problem (Absent side) → result ≡ Status.Device
+    ensures absent_printed { (name : List ℕ) → RunsTo (F.files files.old) (asked_by_words words.items) (Absent name) → result ≡ Status.Device
         → ¬ Rose (F.read_faults files.old) (F.read_faults files.new) → ¬ Rose (C.faults console.old) (C.faults console.new)
-        → C.printed console.new ≡ append_known (C.printed console.old) (unreadable_line (name_of side asked.domain asked.problem)) }
+        → C.printed console.new ≡ append_known (C.printed console.old) (unreadable_line name) }
     // Where something was printed, and it is a front of the lines on a task, the output file is whole.
     ensures begun { (summary : Summary) (before front rest : List ℕ) (byte : ℕ) → C.printed console.old ≡ Some before
         → C.printed console.new ≡ Some (before ++ byte ∷ front) → summary_lines summary ≡ (byte ∷ front) ++ rest
-        → IsWhollyWritten (F.files files.old) (F.files files.new) (asked_by_words words.items) }
+        → IsSomeAnd (asked_by_words words.items) (λ asked. (output : Output) × IsWritten (F.files files.old) (F.files files.new) asked output) }
 {
-    called(alloc, words, files, console)
+    called(alloc, &words, files, console)
 }
 
 /// The same, by how the work ended and what was printed: every other clause of the call follows from that.
 fn called<F: Files, C: Console>(
     alloc: Global,
-    words: Vec<String>,
+    words: &Vec<String>,
     files: &mut F,
     console: &mut C,
 ) -> Status
-    ensures { Printed (work_of F.Files files.old files.new) (asked_by_words words.items) (C.faults console.old) (C.faults console.new) (C.printed console.old) (C.printed console.new) result }
+    ensures { Called (store F.Files files.old) (store F.Files files.new) (asked_by_words words.now.items) (screen C.Console console.old) (screen C.Console console.new) result }
 {
-    match read_words(alloc, &words) {
-        Ok(Some(accepted)) => translate_files(alloc, &accepted, files, console),
-        Ok(None) => refuse(console),
-        Err(_) => tell_no_memory(console),
-    }
+    let outcome = work(alloc, words, files);
+    told(console, &outcome)
 }
 
-/// Does what the words ask for, and says how that ended.
-fn translate_files<F: Files, C: Console>(
-    alloc: Global,
-    accepted: &Accepted<'_>,
-    files: &mut F,
-    console: &mut C,
-) -> Status
-    ensures { Printed (work_of F.Files files.old files.new) (Some (asked_by accepted.now)) (C.faults console.old) (C.faults console.new) (C.printed console.old) (C.printed console.new) result }
+/// Says how the work ended, and answers with that status if the console takes it.
+fn told<C: Console>(console: &mut C, outcome: &Result<Summary, End<'_>>) -> Status
+    ensures { Printed (line_of outcome.now) (status_of outcome.now) (screen C.Console console.old) (screen C.Console console.new) result }
 {
-    let outcome = work(alloc, accepted, files);
-    match say_outcome(console, &outcome, accepted) {
-        Ok(()) => Status::of(&outcome),
-        Err(_) => Status::Device,
-    }
-}
-
-/// Says how the command is used.
-fn refuse<C: Console>(console: &mut C) -> Status
-    ensures { SaysLine usage_line Status.Usage (C.faults console.old) (C.faults console.new) (C.printed console.old) (C.printed console.new) result }
-{
-    match say_usage(console) {
-        Ok(()) => Status::Usage,
-        Err(_) => Status::Device,
-    }
-}
-
-/// Says that memory ran out.
-fn tell_no_memory<C: Console>(console: &mut C) -> Status
-    ensures { SaysLine memory_line Status.NoMemory (C.faults console.old) (C.faults console.new) (C.printed console.old) (C.printed console.new) result }
-{
-    match say_no_memory(console) {
-        Ok(()) => Status::NoMemory,
+    match say_outcome(console, outcome) {
+        Ok(()) => Status::of(outcome),
         Err(_) => Status::Device,
     }
 }
 
 /// Says that there was no memory for the words of the command line, or refuses words that aren't UTF-8.
 pub fn without_words<C: Console>(console: &mut C, kind: ErrorKind) -> Status
-    ensures memory { kind ≡ ErrorKind.OutOfMemory → SaysLine memory_line Status.NoMemory
-        (C.faults console.old) (C.faults console.new) (C.printed console.old) (C.printed console.new) result }
-    ensures usage { kind ≢ ErrorKind.OutOfMemory → SaysLine usage_line Status.Usage
-        (C.faults console.old) (C.faults console.new) (C.printed console.old) (C.printed console.new) result }
+    ensures memory { kind ≡ ErrorKind.OutOfMemory → Printed memory_line Status.NoMemory (screen C.Console console.old) (screen C.Console console.new) result }
+    ensures usage { kind ≢ ErrorKind.OutOfMemory → Printed usage_line Status.Usage (screen C.Console console.old) (screen C.Console console.new) result }
 {
     if kind == ErrorKind::OutOfMemory {
-        tell_no_memory(console)
+        told(console, &Err(End::NoMemory))
     } else {
-        refuse(console)
+        told(console, &Err(End::Usage))
     }
 }

@@ -1,13 +1,12 @@
 //! The law over all passes. The function does nothing: its clauses are the law.
 
-ghost use Rattle.std.specs.Prelude.{ℕ};
+ghost use Rattle.command_line.specs.declared.accepted.Settings.{Settings};
 ghost use Rattle.type_checker.specs.Checked.{Pair, IsChecked};
 ghost use Rattle.normal_task.specs.Normalised.{normal};
 ghost use Rattle.invariant_guess.specs.declared.types.Found.{Found};
 ghost use Rattle.invariant_guess.specs.Trial.{IsFound};
 ghost use Rattle.sas_task.specs.Task.{Task};
-ghost use Rattle.translator.specs.RunTask.{IsRunTask};
-ghost use Rattle.translator.specs.Theorem.{Translates};
+ghost use Rattle.translator.specs.RunTask.{IsRunTask, IsTaskOf};
 
 use fdr_encoder::laws::{covers, exclusive_covers, simulation, validity};
 use invariant_guess::laws::finds;
@@ -16,10 +15,10 @@ use normal_task::laws::same_task;
 use pddl_parser::laws::idle_steps;
 use task_simplifier::laws::projection_keeps;
 
-/// The task that the passes make of a pair without faults translates the pair.
+/// The task that the passes make of a pair without faults is valid, and translates the pair.
 pub(crate) fn run_task_translates()
-    ensures { (pair : Pair) (most : ℕ) (found : Found) (task : Task) → IsChecked pair → IsFound (normal pair.domain pair.problem) most found →
-        IsRunTask (normal pair.domain pair.problem) found task → Translates pair.domain pair.problem task }
+    ensures { (pair : Pair) (settings : Settings) (found : Found) (task : Task) → IsChecked pair → IsFound (normal pair.domain pair.problem) settings.max_candidates found →
+        IsRunTask (normal pair.domain pair.problem) found task → IsTaskOf pair settings found task }
 {
     idle_steps();
     same_task();

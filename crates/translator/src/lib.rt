@@ -10,5 +10,5 @@ mod translation;
 mod work;
 
 pub use command::{translate, without_words};
-pub use outcome::{End, Status, Summary};
+pub use outcome::{Message, Status, Summary};
 pub use process::{Ended, run};

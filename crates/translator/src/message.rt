@@ -5,17 +5,14 @@ ghost use Rattle.std.specs.List.{flat_map};
 ghost use Rattle.std.specs.Io.KnownBytes.{append_known};
 ghost use Rattle.tl_device.specs.Causes.{HasCause};
 ghost use Rattle.tl_device.specs.Contents.{PrintedInPart};
-ghost use Rattle.translator.specs.Messages.{usage_line, memory_line, named_line, fault_line, summary_lines, line_of};
+ghost use Rattle.translator.specs.Messages.{named_line, fault_line, summary_lines};
+ghost use Rattle.translator.specs.Outcome.{line_of};
 ghost use Rattle.translator.specs.Pieces.{bytes_of, piece_bytes};
-ghost use Rattle.translator.specs.Run.{name_of};
-ghost use Rattle.command_line.specs.Accepted.{asked_by};
 
-use crate::outcome::{End, Summary};
-use command_line::Accepted;
+use crate::outcome::{End, Message, Summary};
 use itoa::Buffer;
 use pddl_lexer::Fault;
 use tl_device::{Console, Failed, say_all};
-use type_checker::Side;
 
 /// A fixed part of what is printed.
 #[derive(Clone, Copy, PartialEq, Eq)]
@@ -101,36 +98,6 @@ fn say_phrase<C: Console>(console: &mut C, phrase: Phrase) -> Result<(), Failed>
     say_all(console, phrase.bytes())
 }
 
-/// Says how the command is used.
-#[tactic(auto, unfolding(crate::specs::Pieces::bytes_of))]
-pub(crate) fn say_usage<C: Console>(console: &mut C) -> Result<(), Failed>
-    ensures ok { OnOk result (C.printed console.new ≡ append_known (C.printed console.old) usage_line) }
-    ensures err { OnErr result (PrintedInPart (C.printed console.old) (C.printed console.new) usage_line) }
-    ensures cause { HasCause (C.faults console.old) (C.faults console.new) result }
-{
-    say_phrase(console, Phrase::Usage)
-}
-
-/// Says that memory ran out.
-#[tactic(auto, unfolding(crate::specs::Pieces::bytes_of))]
-pub(crate) fn say_no_memory<C: Console>(console: &mut C) -> Result<(), Failed>
-    ensures ok { OnOk result (C.printed console.new ≡ append_known (C.printed console.old) memory_line) }
-    ensures err { OnErr result (PrintedInPart (C.printed console.old) (C.printed console.new) memory_line) }
-    ensures cause { HasCause (C.faults console.old) (C.faults console.new) result }
-{
-    say_phrase(console, Phrase::OutOfMemory)
-}
-
-/// The name of the file on this side.
-fn name_of<'a>(side: Side, domain: &'a str, problem: &'a str) -> &'a str
-    ensures { result.now ≡ name_of side domain.now problem.now }
-{
-    match side {
-        Side::Domain => domain,
-        Side::Problem => problem,
-    }
-}
-
 fn say_summary<C: Console>(console: &mut C, summary: &Summary) -> Result<(), Failed>
     ensures ok { OnOk result (C.printed console.new ≡ append_known (C.printed console.old) (summary_lines summary.now)) }
     ensures err { OnErr result (PrintedInPart (C.printed console.old) (C.printed console.new) (summary_lines summary.now)) }
@@ -187,30 +154,22 @@ fn say_fault<C: Console>(console: &mut C, name: &str, fault: Fault) -> Result<()
     say_pieces(console, &pieces)
 }
 
-/// Says how the work ended on what the words asked for.
-#[tactic(auto, using(crate::proofs::Lines::unreadable_is, crate::proofs::Lines::unwritable_is))]
+/// Says how the work ended.
+#[tactic(auto, using(crate::proofs::Lines::usage_is, crate::proofs::Lines::memory_is, crate::proofs::Lines::unreadable_is, crate::proofs::Lines::unwritable_is))]
 pub(crate) fn say_outcome<C: Console>(
     console: &mut C,
-    outcome: &Result<Summary, End>,
-    accepted: &Accepted<'_>,
+    outcome: &Result<Summary, End<'_>>,
 ) -> Result<(), Failed>
-    ensures ok { OnOk result (C.printed console.new ≡ append_known (C.printed console.old) (line_of outcome.now (asked_by accepted.now))) }
-    ensures err { OnErr result (PrintedInPart (C.printed console.old) (C.printed console.new) (line_of outcome.now (asked_by accepted.now))) }
+    ensures ok { OnOk result (C.printed console.new ≡ append_known (C.printed console.old) (line_of outcome.now)) }
+    ensures err { OnErr result (PrintedInPart (C.printed console.old) (C.printed console.new) (line_of outcome.now)) }
     ensures cause { HasCause (C.faults console.old) (C.faults console.new) result }
 {
     match outcome {
         Ok(summary) => say_summary(console, summary),
-        Err(End::NoMemory) => say_no_memory(console),
-        Err(End::CannotRead(side)) => say_named(
-            console,
-            Phrase::CannotRead,
-            name_of(*side, accepted.domain, accepted.problem),
-        ),
-        Err(End::CannotWrite) => say_named(console, Phrase::CannotWrite, accepted.output),
-        Err(End::Faulty(side, fault)) => say_fault(
-            console,
-            name_of(*side, accepted.domain, accepted.problem),
-            *fault,
-        ),
+        Err(End::Usage) => say_phrase(console, Phrase::Usage),
+        Err(End::NoMemory) => say_phrase(console, Phrase::OutOfMemory),
+        Err(End::CannotRead(name)) => say_named(console, Phrase::CannotRead, name),
+        Err(End::CannotWrite(name)) => say_named(console, Phrase::CannotWrite, name),
+        Err(End::Refused(name, Message::Fault(fault))) => say_fault(console, name, *fault),
     }
 }

@@ -2,13 +2,12 @@
 
 ghost use Rattle.std.specs.Prelude.{◌≡◌};
 ghost use Rattle.std.specs.Process.{exit_status};
-ghost use Rattle.translator.specs.Outcome.{code_of, status_of, of_check};
+ghost use Rattle.translator.specs.Outcome.{code_of, status_of};
 ghost use Rattle.translator.specs.declared.outcome.End.TheVariants.{NoMemory};
 
 use pddl_lexer::Fault;
 use std::alloc::AllocError;
 use std::process::ExitCode;
-use type_checker::{CheckEnd, Side};
 
 /// What the process answers.
 #[derive(Clone, Copy, PartialEq, Eq)]
@@ -40,14 +39,15 @@ impl Status {
     }
 
     /// What the process answers after this end of the work, where the console takes what is said.
-    pub(crate) fn of(outcome: &Result<Summary, End>) -> Status
+    pub(crate) fn of(outcome: &Result<Summary, End<'_>>) -> Status
         ensures { result ≡ status_of outcome.now }
     {
         match outcome {
             Ok(_) => Status::Done,
+            Err(End::Usage) => Status::Usage,
             Err(End::NoMemory) => Status::NoMemory,
-            Err(End::CannotRead(_)) | Err(End::CannotWrite) => Status::Device,
-            Err(End::Faulty(_, _)) => Status::InputFault,
+            Err(End::CannotRead(_)) | Err(End::CannotWrite(_)) => Status::Device,
+            Err(End::Refused(_, _)) => Status::InputFault,
         }
     }
 }
@@ -76,30 +76,27 @@ pub struct Summary {
     pub axioms: u64,
 }
 
-/// Why no task is written.
+/// What is said of a file that is refused.
 #[derive(Clone, Copy, PartialEq, Eq)]
-pub enum End {
-    NoMemory,
-    CannotRead(Side),
-    CannotWrite,
-    Faulty(Side, Fault),
+pub enum Message {
+    /// A fault of its text.
+    Fault(Fault),
 }
 
-impl From<AllocError> for End {
+/// Why no task is written. A file is told by its name.
+#[derive(Clone, Copy)]
+pub(crate) enum End<'a> {
+    Usage,
+    NoMemory,
+    CannotRead(&'a str),
+    CannotWrite(&'a str),
+    Refused(&'a str, Message),
+}
+
+impl<'a> From<AllocError> for End<'a> {
     ghost from_gives = { λ _ end. end ≡ NoMemory };
 
-    fn from(_: AllocError) -> End {
+    fn from(_: AllocError) -> End<'a> {
         End::NoMemory
-    }
-}
-
-impl From<CheckEnd> for End {
-    ghost from_gives = { λ check end. end ≡ of_check check };
-
-    fn from(end: CheckEnd) -> End {
-        match end {
-            CheckEnd::Fault(side, fault) => End::Faulty(side, fault),
-            CheckEnd::NoMemory => End::NoMemory,
-        }
     }
 }

@@ -1,29 +1,25 @@
-//! From two texts to the text of a task.
+//! From two texts to the task.
 
-ghost use Rattle.std.specs.Prelude.{◌≡◌, ◌<◌, [], true, IfOk, IfErr, length, sum_by};
+ghost use Rattle.std.specs.Prelude.{◌≡◌, ◌<◌, true, IfOk, IfErr, length, sum_by};
 ghost use Rattle.std.specs.List.{list_all};
-ghost use Rattle.pddl_lexer.specs.Nested.{tree};
-ghost use Rattle.pddl_lexer.specs.Faults.{tree_faults};
-ghost use Rattle.pddl_parser.specs.Outcome.{Reads, faults_of};
 ghost use Rattle.pddl_parser.specs.Reading.{domain_reading, problem_reading};
 ghost use Rattle.pddl_parser.specs.Spelled.{IsWellSpelled, IsWellSpelledProblem};
+ghost use Rattle.type_checker.specs.Checked.{IsChecked};
+ghost use Rattle.type_checker.specs.Faults.{check_faults};
 ghost use Rattle.normal_task.specs.Lawful.{IsLawful as IsLawfulNormal};
-ghost use Rattle.normal_task.specs.Normalised as spec;
 ghost use Rattle.invariant_check.specs.WellFormed.{is_well_formed};
-ghost use Rattle.invariant_guess.specs.Trial.{IsFound};
 ghost use Rattle.static_matcher.specs.Lawful.{IsLawful as IsLawfulGround};
 ghost use Rattle.relaxed_reach.specs.Lawful.{IsLawful};
 ghost use Rattle.relaxed_reach.specs.Reachable.{IsReachedTask};
 ghost use Rattle.mutex_groups.specs.Laws.{IsReachedOf};
-ghost use Rattle.type_checker.specs.Checked.{IsChecked};
-ghost use Rattle.translator.specs.Run.{of_texts};
-ghost use Rattle.translator.specs.RunTask.{IsRunEncoding, IsRunTask};
-ghost use Rattle.translator.specs.declared.outcome.End.TheVariants.{NoMemory};
-ghost use Rattle.translator.specs.Written.{IsSummaryOf, IsWritten, IsTextWhere, StopsWhere, StopsAt};
+ghost use Rattle.translator.specs.RunTask.{IsRunEncoding, summary_of};
+ghost use Rattle.translator.specs.Run as run;
+ghost use Rattle.translator.specs.Stages.{Answers, IsMadeOf, StopsWhere, text_by};
 
 use crate::law::run_task_translates;
-use crate::outcome::{End, Summary};
+use crate::outcome::{End, Message, Summary};
 use axiom_layers::layers;
+use command_line::Settings;
 use fdr_encoder::encode;
 use group_cover::cover;
 use invariant_guess::laws::finds;
@@ -36,84 +32,119 @@ use pddl_lexer::{Tree, TreeEnd, read_tree};
 use pddl_parser::{Domain, ParseEnd, Problem, parse_domain, parse_problem};
 use relaxed_reach::{Reached, Steps, reach};
 use sas_task::{SasTask, Variable};
-use sas_writer::text_of;
 use static_matcher::{Ground, instances};
 use std::alloc::{AllocError, Global};
 use std::marker::Brand;
 use std::sync::ledger::{Blank, Ledger};
 use task_simplifier::simplify;
-use type_checker::{Checked, Side, check};
+use type_checker::{CheckEnd, Checked, Side, check};
 
-/// The text of a task, with its sizes and those of the search for invariants.
-#[derive(Drop)]
-pub(crate) struct Translation {
-    pub(crate) text: Vec<u8>,
-    pub(crate) summary: Summary,
+/// A text, and the name under which its faults are told.
+#[derive(Clone, Copy)]
+pub(crate) struct Input<'n, 'b> {
+    pub(crate) name: &'n str,
+    pub(crate) bytes: &'b [u8],
 }
 
-/// The text of the task that two texts mean, where at most so many candidates for invariants are tried. The first fault
-/// of the two ends it, or want of memory.
-pub(crate) fn translate_texts(
+/// The invariants that were found, and the task to be written.
+#[derive(Drop)]
+pub(crate) struct Made {
+    pub(crate) found: Found,
+    pub(crate) task: SasTask,
+}
+
+/// The task that two texts mean, stage by stage. The first fault of the two ends it, or want of memory.
+pub(crate) fn task_of<'n>(
     alloc: Global,
-    domain: &[u8],
-    problem: &[u8],
-    max_candidates: u32,
-) -> Result<Translation, End>
-    ensures ok { IfOk result (λ t. IsTextWhere (of_texts domain.now problem.now) max_candidates t.text.items t.summary) }
-    ensures err { IfErr result (StopsWhere (of_texts domain.now problem.now)) }
-{
-    let domain_tree = tree_of(alloc, Side::Domain, domain)?;
-    let problem_tree = tree_of(alloc, Side::Problem, problem)?;
-    let domain = domain_of(alloc, domain_tree)?;
-    let problem = problem_of(alloc, problem_tree)?;
-    let checked = check(alloc, domain, problem)?;
-    let made = made_of(alloc, &checked, max_candidates)?;
-    run_task_translates();
-    written(alloc, made)
-}
-
-/// What the passes make of a pair without faults.
-#[derive(Drop)]
-struct Made {
-    found: Found,
-    task: SasTask,
-}
-
-/// The invariants of the pair's normal task, of at most so many candidates, and the task to be written.
-fn made_of(alloc: Global, checked: &Checked, max_candidates: u32) -> Result<Made, AllocError>
-    requires { IsChecked checked.now }
-    ensures found { IfOk result (λ made. IsFound (spec.normal checked.now.domain checked.now.problem) max_candidates made.found) }
-    ensures task { IfOk result (λ made. IsRunTask (spec.normal checked.now.domain checked.now.problem) made.found made.task) }
+    domain: &Input<'n, '_>,
+    problem: &Input<'n, '_>,
+    settings: Settings,
+) -> Result<Made, End<'n>>
+    ensures ok { IfOk result (λ made. IsMadeOf (run.of_texts (text_by domain.now) (text_by problem.now)) settings made.found made.task) }
+    ensures err { IfErr result (StopsWhere (run.of_texts (text_by domain.now) (text_by problem.now))) }
 {
     finds();
-    let normal = normalise(alloc, checked)?;
-    let found = find(alloc, &normal, max_candidates as u64)?;
-    let task = run_task(alloc, &normal, &found)?;
+    run_task_translates();
+    let domain_tree = tree_of(alloc, domain)?;
+    let problem_tree = tree_of(alloc, problem)?;
+    let read_domain = domain_of(alloc, domain.name, domain_tree)?;
+    let read_problem = problem_of(alloc, problem.name, problem_tree)?;
+    let checked = checked(alloc, domain, problem, read_domain, read_problem)?;
+    let normal = normalise(alloc, &checked)?;
+    drop(checked);
+    let found = find(alloc, &normal, settings.max_candidates as u64)?;
+    let reached = reached_of(alloc, &normal)?;
+    let encoded = encoded(alloc, &normal, &found, &reached)?;
+    drop(reached);
+    drop(normal);
+    let task = simplify(alloc, encoded)?;
     Ok(Made { found, task })
 }
 
-/// The task of a normal task and of the invariants that were found: the projection of its encoding.
-fn run_task(alloc: Global, normal: &Normal, found: &Found) -> Result<SasTask, AllocError>
-    requires lawful { IsLawfulNormal normal.now }
-    requires well_formed { list_all (is_well_formed normal.now) found.now.accepted ≡ true }
-    ensures { IfOk result (IsRunTask normal.now found.now) }
+/// The one nested list of a text.
+fn tree_of<'n, 'b>(alloc: Global, text: &Input<'n, 'b>) -> Result<Tree<'b>, End<'n>>
+    ensures { Answers (run.tree_of (text_by text.now)) result }
 {
-    let encoded = encoded(alloc, normal, found)?;
-    simplify(alloc, encoded)
+    match read_tree(alloc, text.bytes) {
+        Ok(tree) => Ok(tree),
+        Err(TreeEnd::Fault(fault)) => Err(End::Refused(text.name, Message::Fault(fault))),
+        Err(TreeEnd::NoMemory) => Err(End::NoMemory),
+    }
 }
 
-/// The encoding of what can be reached of the normal task's instances, over the cover by the groups of the invariants.
-fn encoded(alloc: Global, normal: &Normal, found: &Found) -> Result<SasTask, AllocError>
-    requires lawful { IsLawfulNormal normal.now }
-    requires well_formed { list_all (is_well_formed normal.now) found.now.accepted ≡ true }
-    ensures { IfOk result (IsRunEncoding normal.now found.now) }
+/// The domain that is read in the tree of the file of this name.
+fn domain_of<'n>(alloc: Global, name: &'n str, tree: Tree<'_>) -> Result<Domain, End<'n>>
+    ensures reading { Answers (run.said name.now (domain_reading tree.entry)) result }
+    ensures spelled { IfOk result IsWellSpelled }
 {
-    let reached = reached_of(alloc, normal)?;
-    encoded_over(alloc, normal, found, &reached)
+    match parse_domain(alloc, &tree) {
+        Ok(domain) => Ok(domain),
+        Err(ParseEnd::Fault(fault)) => Err(End::Refused(name, Message::Fault(fault))),
+        Err(ParseEnd::NoMemory) => Err(End::NoMemory),
+    }
+}
+
+/// The problem that is read in the tree of the file of this name.
+fn problem_of<'n>(alloc: Global, name: &'n str, tree: Tree<'_>) -> Result<Problem, End<'n>>
+    ensures reading { Answers (run.said name.now (problem_reading tree.entry)) result }
+    ensures spelled { IfOk result IsWellSpelledProblem }
+{
+    match parse_problem(alloc, &tree) {
+        Ok(problem) => Ok(problem),
+        Err(ParseEnd::Fault(fault)) => Err(End::Refused(name, Message::Fault(fault))),
+        Err(ParseEnd::NoMemory) => Err(End::NoMemory),
+    }
+}
+
+/// The pair of what was read in two texts, without a check fault.
+fn checked<'n>(
+    alloc: Global,
+    domain: &Input<'n, '_>,
+    problem: &Input<'n, '_>,
+    read_domain: Domain,
+    read_problem: Problem,
+) -> Result<Checked, End<'n>>
+    requires domain { IsWellSpelled read_domain }
+    requires problem { IsWellSpelledProblem read_problem }
+    ensures pair { Answers (run.unless_checked (text_by domain.now) (text_by problem.now) (check_faults read_domain read_problem) (record { domain = read_domain; problem = read_problem })) result }
+    ensures checked { IfOk result IsChecked }
+{
+    match check(alloc, read_domain, read_problem) {
+        Ok(pair) => Ok(pair),
+        Err(CheckEnd::Fault(Side::Domain, fault)) => Err(End::Refused(
+            domain.name,
+            Message::Fault(fault),
+        )),
+        Err(CheckEnd::Fault(Side::Problem, fault)) => Err(End::Refused(
+            problem.name,
+            Message::Fault(fault),
+        )),
+        Err(CheckEnd::NoMemory) => Err(End::NoMemory),
+    }
 }
 
 /// The encoding of the reached task over the cover by the groups of the invariants.
-fn encoded_over(
+fn encoded(
     alloc: Global,
     normal: &Normal,
     found: &Found,
@@ -162,58 +193,9 @@ fn reached<L: Ledger>(alloc: Global, ground: &Ground, blank: Blank) -> Result<Re
     reach(alloc, ground, &mut steps)
 }
 
-fn tree_of<'a>(alloc: Global, side: Side, text: &'a [u8]) -> Result<Tree<'a>, End>
-    ensures faultless { IfOk result (λ _. tree_faults text.now ≡ []) }
-    ensures tree { IfOk result (λ t. tree text.now ≡ t) }
-    ensures err { IfErr result (StopsAt side (tree_faults text.now)) }
-{
-    match read_tree(alloc, text) {
-        Ok(tree) => Ok(tree),
-        Err(TreeEnd::Fault(fault)) => Err(End::Faulty(side, fault)),
-        Err(TreeEnd::NoMemory) => Err(End::NoMemory),
-    }
-}
-
-#[tactic(auto, using(crate::proofs::Texts::value_given))]
-fn domain_of(alloc: Global, tree: Tree<'_>) -> Result<Domain, End>
-    ensures reading { IfOk result (λ domain. domain_reading tree.entry ≡ Reads domain) }
-    ensures spelled { IfOk result IsWellSpelled }
-    ensures err { IfErr result (StopsAt Side.Domain (faults_of (domain_reading tree.entry))) }
-{
-    match parse_domain(alloc, &tree) {
-        Ok(domain) => Ok(domain),
-        Err(ParseEnd::Fault(fault)) => Err(End::Faulty(Side::Domain, fault)),
-        Err(ParseEnd::NoMemory) => Err(End::NoMemory),
-    }
-}
-
-#[tactic(auto, using(crate::proofs::Texts::value_given))]
-fn problem_of(alloc: Global, tree: Tree<'_>) -> Result<Problem, End>
-    ensures reading { IfOk result (λ problem. problem_reading tree.entry ≡ Reads problem) }
-    ensures spelled { IfOk result IsWellSpelledProblem }
-    ensures err { IfErr result (StopsAt Side.Problem (faults_of (problem_reading tree.entry))) }
-{
-    match parse_problem(alloc, &tree) {
-        Ok(problem) => Ok(problem),
-        Err(ParseEnd::Fault(fault)) => Err(End::Faulty(Side::Problem, fault)),
-        Err(ParseEnd::NoMemory) => Err(End::NoMemory),
-    }
-}
-
-/// The text of the task, its sizes, and those of what was found.
-fn written(alloc: Global, made: Made) -> Result<Translation, End>
-    ensures ok { IfOk result (λ t. IsWritten made.found made.task t.text.items t.summary) }
-    ensures err { IfErr result (λ end. end ≡ NoMemory) }
-{
-    let text = text_of(alloc, &made.task)?;
-    Ok(Translation {
-        text,
-        summary: summary(&made.found, &made.task),
-    })
-}
-
-fn summary(found: &Found, task: &SasTask) -> Summary
-    ensures { IsSummaryOf found.now task.now result }
+/// The sizes of the search for invariants and of the task.
+pub(crate) fn summary(found: &Found, task: &SasTask) -> Summary
+    ensures { result ≡ summary_of found.now task.now }
 {
     Summary {
         candidates: found.tried,

@@ -1,89 +1,119 @@
 //! The work of a run on its files.
 
-ghost use Rattle.std.specs.Prelude.{◌≡◌, ◌≤◌, OnOk, OnErr, IfOk, IfErr, length};
+ghost use Rattle.std.specs.Prelude.{◌≡◌, ◌⊎◌, [], ◌∷◌, Some, OnOk, OnErr, IfOk, IfErr};
 ghost use Rattle.tl_device.specs.Causes.{HasCause};
-ghost use Rattle.tl_device.specs.Contents.{Holds, IsAskedFor};
-ghost use Rattle.translator.specs.Run.{limit};
+ghost use Rattle.tl_device.specs.Contents.{GrownInPart, emptied, grown};
 ghost use Rattle.command_line.specs.Accepted.{asked_by};
-ghost use Rattle.translator.specs.Written.{IsTextOfFiles, StopsOnInput, StopsOnFiles, AsksFor, IsWhole, IsLeftInPart, WorkEnds, work_of};
+ghost use Rattle.translator.specs.Ending.{Gives};
+ghost use Rattle.translator.specs.Run.{asked_by_words, text, read, of_source, inputs, ComesTo};
+ghost use Rattle.translator.specs.Store.{store, IsUntouched};
+ghost use Rattle.translator.specs.Call.{Ends};
+ghost use Rattle.translator.specs.Outcome.{status_of, line_of};
+ghost use Rattle.translator.specs.Stages.{IsRefusal, IsRead, IsMadeOf, StopsReading, output_by};
 
-use crate::outcome::{End, Summary};
-use crate::translation::{Translation, translate_texts};
-use command_line::Accepted;
+use crate::outcome::{End, Message, Summary};
+use crate::translation::{Input, Made, summary, task_of};
+use command_line::{Accepted, Source, read_words};
 use pddl_lexer::{Fault, Kind};
+use sas_writer::text_of;
 use std::alloc::Global;
 use tl_device::{Failed, Files, ReadEnd, put_all, read_all};
-use type_checker::Side;
 
 /// The most bytes of an input file.
 const LIMIT: u64 = 16_777_216;
 
-/// Reads both files, and writes the text of their task. The problem file is opened once the domain file is read, and
-/// the output file is created once its whole text is made.
-pub(crate) fn work<F: Files>(
+/// The text of a task, and the numbers that are printed.
+#[derive(Drop)]
+pub(crate) struct Written {
+    pub(crate) text: Vec<u8>,
+    pub(crate) summary: Summary,
+}
+
+/// Does what the words ask for, but for what is printed. The output file is created once its whole text is made.
+pub(crate) fn work<'a, F: Files>(
     alloc: Global,
-    accepted: &Accepted<'_>,
+    words: &'a Vec<String>,
     files: &mut F,
-) -> Result<Summary, End>
-    ensures { WorkEnds (work_of F.Files files.old files.new) (asked_by accepted.now) result }
+) -> Result<Summary, End<'a>>
+    ensures { Ends (store F.Files files.old) (store F.Files files.new) (asked_by_words words.now.items) (status_of result) (line_of result) }
 {
-    let translation = prepared(alloc, accepted, files)?;
-    match write_output(files, accepted.output, &translation.text) {
-        Ok(()) => Ok(translation.summary),
-        Err(_) => Err(End::CannotWrite),
+    let accepted = accepted(alloc, words)?;
+    let written = prepared(alloc, &accepted, files)?;
+    match write_output(files, accepted.output, &written.text) {
+        Ok(()) => Ok(written.summary),
+        Err(_) => Err(End::CannotWrite(accepted.output)),
+    }
+}
+
+/// What the words ask for.
+fn accepted<'a>(alloc: Global, words: &'a Vec<String>) -> Result<Accepted<'a>, End<'a>>
+    ensures ok { IfOk result (λ accepted. asked_by_words words.now.items ≡ Some (asked_by accepted)) }
+    ensures err { IfErr result (IsRefusal (asked_by_words words.now.items)) }
+{
+    match read_words(alloc, words) {
+        Ok(Some(accepted)) => Ok(accepted),
+        Ok(None) => Err(End::Usage),
+        Err(_) => Err(End::NoMemory),
     }
 }
 
 /// What is to be written, before anything is.
-fn prepared<F: Files>(
+fn prepared<'a, F: Files>(
     alloc: Global,
-    accepted: &Accepted<'_>,
+    accepted: &Accepted<'a>,
     files: &mut F,
-) -> Result<Translation, End>
-    ensures ok { IfOk result (λ t. IsTextOfFiles (F.files files.old) (asked_by accepted.now) t.text.items t.summary) }
-    ensures err { IfErr result (StopsOnFiles (F.files files.old) accepted.now.domain.now accepted.now.problem.now (F.read_faults files.old) (F.read_faults files.new)) }
-    ensures asked { IfErr result (AsksFor (F.asked files.new) accepted.now.domain.now accepted.now.problem.now) }
-    ensures reads { OnOk result (F.read_faults files.new ≡ F.read_faults files.old) }
-
-    // What it leaves as it was.
-    ensures files { F.files files.new ≡ F.files files.old }
-    ensures created { F.is_created files.new ≡ F.is_created files.old }
-    ensures writing { F.writing files.new ≡ F.writing files.old }
-    ensures writes { F.write_faults files.new ≡ F.write_faults files.old }
+) -> Result<Written, End<'a>>
+    ensures ok { IfOk result (λ written. IsRead (store F.Files files.old) (store F.Files files.new) (λ held. ComesTo held (asked_by accepted.now) (Gives (output_by written)))) }
+    ensures err { IfErr result (StopsReading (store F.Files files.old) (store F.Files files.new) (inputs (asked_by accepted.now).source) (λ held. ComesTo held (asked_by accepted.now))) }
+    ensures untouched { IsUntouched (store F.Files files.old) (store F.Files files.new) }
 {
-    let domain_text = read_input(alloc, files, accepted.domain, Side::Domain)?;
-    let problem_text = read_input(alloc, files, accepted.problem, Side::Problem)?;
-    translate_texts(alloc, &domain_text, &problem_text, accepted.max_candidates)
+    let made = made(alloc, accepted, files)?;
+    let text = text_of(alloc, &made.task)?;
+    Ok(Written {
+        text,
+        summary: summary(&made.found, &made.task),
+    })
+}
+
+/// The task that is made of the source.
+fn made<'a, F: Files>(
+    alloc: Global,
+    accepted: &Accepted<'a>,
+    files: &mut F,
+) -> Result<Made, End<'a>>
+    ensures ok { IfOk result (λ made. IsRead (store F.Files files.old) (store F.Files files.new) (λ held. IsMadeOf (of_source held (asked_by accepted.now).source) accepted.now.settings made.found made.task)) }
+    ensures err { IfErr result (StopsReading (store F.Files files.old) (store F.Files files.new) (inputs (asked_by accepted.now).source) (λ held e. of_source held (asked_by accepted.now).source ≡ e)) }
+    ensures untouched { IsUntouched (store F.Files files.old) (store F.Files files.new) }
+{
+    let Source { domain, problem } = accepted.source;
+    let domain_bytes = read_input(alloc, files, domain)?;
+    let problem_bytes = read_input(alloc, files, problem)?;
+    let domain = Input {
+        name: domain,
+        bytes: &domain_bytes,
+    };
+    let problem = Input {
+        name: problem,
+        bytes: &problem_bytes,
+    };
+    task_of(alloc, &domain, &problem, accepted.settings)
 }
 
 /// The bytes of an input file.
-fn read_input<F: Files>(
-    alloc: Global,
-    files: &mut F,
-    name: &str,
-    side: Side,
-) -> Result<Vec<u8>, End>
-    ensures asked { IsAskedFor (F.asked files.new) name.now }
-    ensures whole { IfOk result (λ bytes. Holds (F.files files.old) name.now bytes.items) }
-    ensures within { IfOk result (λ bytes. length bytes.items ≤ limit) }
-    ensures err { IfErr result (StopsOnInput side (F.files files.old) name.now (F.read_faults files.old) (F.read_faults files.new)) }
-    ensures reads { OnOk result (F.read_faults files.new ≡ F.read_faults files.old) }
-
-    // What it leaves as it was.
-    ensures files { F.files files.new ≡ F.files files.old }
-    ensures created { F.is_created files.new ≡ F.is_created files.old }
-    ensures writing { F.writing files.new ≡ F.writing files.old }
-    ensures writes { F.write_faults files.new ≡ F.write_faults files.old }
+fn read_input<'a, F: Files>(alloc: Global, files: &mut F, name: &'a str) -> Result<Vec<u8>, End<'a>>
+    ensures ok { IfOk result (λ bytes. IsRead (store F.Files files.old) (store F.Files files.new) (λ held. read held name.now ≡ Gives (text name.now bytes.items))) }
+    ensures err { IfErr result (StopsReading (store F.Files files.old) (store F.Files files.new) (name.now ∷ []) (λ held e. read held name.now ≡ e)) }
+    ensures untouched { IsUntouched (store F.Files files.old) (store F.Files files.new) }
 {
     match read_all(alloc, files, name, LIMIT) {
         Ok(bytes) => Ok(bytes),
-        Err(ReadEnd::Failed) => Err(End::CannotRead(side)),
-        Err(ReadEnd::TooLong) => Err(End::Faulty(
-            side,
-            Fault {
+        Err(ReadEnd::Failed) => Err(End::CannotRead(name)),
+        Err(ReadEnd::TooLong) => Err(End::Refused(
+            name,
+            Message::Fault(Fault {
                 kind: Kind::TooLong,
                 line: 1,
-            },
+            }),
         )),
         Err(ReadEnd::NoMemory) => Err(End::NoMemory),
     }
@@ -91,8 +121,8 @@ fn read_input<F: Files>(
 
 /// Creates the output file and writes the text.
 fn write_output<F: Files>(files: &mut F, output: &str, text: &[u8]) -> Result<(), Failed>
-    ensures ok { OnOk result (IsWhole output.now (F.files files.old) (F.files files.new) text.now) }
-    ensures err { OnErr result (IsLeftInPart output.now (F.files files.old) (F.files files.new) text.now) }
+    ensures ok { OnOk result (F.files files.new ≡ grown (emptied (F.files files.old) output.now) output.now text.now) }
+    ensures err { OnErr result ((F.files files.new ≡ F.files files.old) ⊎ GrownInPart (emptied (F.files files.old) output.now) (F.files files.new) output.now text.now) }
     ensures cause { HasCause (F.write_faults files.old) (F.write_faults files.new) result }
     ensures reads { F.read_faults files.new ≡ F.read_faults files.old }
 {

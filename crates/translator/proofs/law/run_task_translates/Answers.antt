@@ -10,7 +10,7 @@ use Rattle.translator.proofs.Translated.{sorted_groups, in_turn, translates}
 use Rattle.translator.proofs.law.run_task_translates.Goals as goal
 
 pub returns : goal.returns
-returns c pair most found task checked is_found run =
+returns c pair settings found task checked is_found run =
     let made = normal pair.domain pair.problem in
     let encoding = run.encoding in
     let reached = encoding.reached in
@@ -21,8 +21,8 @@ returns c pair most found task checked is_found run =
     let reached_lawful = c.lawful-3.ensures grounded reached ground_lawful encoding.is_reached.is_reached in
     let statics = c.statics_kept.ensures pair.domain pair.problem checked.faultless in
     let ranked = c.no_recursion.ensures made grounded statics is_ground (c.instances_ranked.ensures pair.domain pair.problem checked.faultless) in
-    let formed = c.finds.ensures.well_formed made most found is_found in
-    let each = c.groups_are_exclusive.ensures made found.accepted reached encoding.groups normal_lawful formed encoding.are_groups encoding.is_reached (c.finds.ensures.accepted made most found is_found) in
+    let formed = c.finds.ensures.well_formed made settings.max_candidates found is_found in
+    let each = c.groups_are_exclusive.ensures made found.accepted reached encoding.groups normal_lawful formed encoding.are_groups encoding.is_reached (c.finds.ensures.accepted made settings.max_candidates found is_found) in
     let exclusive = all_from_members (IsExclusive reached) encoding.groups each in
     let sorted = sorted_groups made found.accepted reached encoding.groups c.groups_of_facts.ensures.sorted c.groups_of_facts.ensures.facts c.groups_of_facts.ensures.basic encoding.is_reached formed encoding.are_groups in
     let covers = c.covers.ensures.by_groups reached encoding.groups encoding.sets sorted encoding.is_cover in
@@ -32,8 +32,13 @@ returns c pair most found task checked is_found run =
     (c.same_task.ensures pair.domain pair.problem checked.faultless)
     (c.same_meaning.ensures made grounded statics is_ground)
     (c.same_meaning-2.ensures.meaning grounded reached ranked encoding.is_reached.is_reached) in
-    translates pair.domain pair.problem reached encoding.sets run.encoded task _ means
-    (c.simulation.ensures reached encoding.sets encoding.groups encoding.layers run.encoded reached_lawful covers sorted exclusive_sets exclusive encoding.encodes valid)
-    (c.projection_keeps.ensures.stands run.encoded task valid run.projection)
-    (c.projection_keeps.ensures.changing run.encoded task valid run.projection)
-    (c.idle_steps.ensures.left_out pair.domain pair.problem)
+    record {
+      is_found = is_found;
+      is_run_task = run;
+      valid = c.projection_keeps.ensures.valid run.encoded task valid run.projection;
+      translates = translates pair.domain pair.problem reached encoding.sets run.encoded task _ means
+          (c.simulation.ensures reached encoding.sets encoding.groups encoding.layers run.encoded reached_lawful covers sorted exclusive_sets exclusive encoding.encodes valid)
+          (c.projection_keeps.ensures.stands run.encoded task valid run.projection)
+          (c.projection_keeps.ensures.changing run.encoded task valid run.projection)
+          (c.idle_steps.ensures.left_out pair.domain pair.problem);
+    }

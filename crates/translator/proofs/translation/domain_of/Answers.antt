@@ -1,6 +1,8 @@
-use Rattle.type_checker.specs.declared.end.Side.TheVariants as sides
-use Rattle.translator.proofs.Texts.{faults_given}
+use Rattle.translator.proofs.Stages.{said_given, said_refused}
 use Rattle.translator.proofs.translation.domain_of.Goals as goal
 
-pub returns-in-Err-Fault-clause-err : goal.returns-in-Err-Fault-clause-err
-returns-in-Err-Fault-clause-err c = faults_given _ sides.Domain c.in-Err-Fault.field-0 c.in-Err-Fault.fault c.in-Err-Fault.field-0-is c.in-Err-Fault.ensures.reading
+pub returns-in-Ok-clause-reading : goal.returns-in-Ok-clause-reading
+returns-in-Ok-clause-reading c = said_given _ _ _ c.in-Ok.ensures.reading
+
+pub returns-in-Err-Fault-clause-reading : goal.returns-in-Err-Fault-clause-reading
+returns-in-Err-Fault-clause-reading c = said_refused _ _ c.in-Err-Fault.field-0 c.in-Err-Fault.fault c.in-Err-Fault.field-0-is c.in-Err-Fault.ensures.reading

@@ -3,7 +3,7 @@ use Rattle.invariant_check.specs.declared.types.Candidate.{Candidate}
 use Rattle.mutex_groups.specs.Groups.{AreGroups}
 use Rattle.group_cover.specs.Cover.{IsCover}
 use Rattle.translator.proofs.Translated.{sorted_groups, encoding_of_run}
-use Rattle.translator.proofs.translation.encoded_over.Goals as goal
+use Rattle.translator.proofs.translation.encoded.Goals as goal
 
 pub encode-requires-clause-cover : goal.encode-requires-clause-cover
 encode-requires-clause-cover c = subst (λ n. IsCover n c.in_ok-groups.groups.groups c.in_ok-cover.cover.sets) c.facts_of.ensures c.in_ok-cover.ensures

@@ -1,0 +1,217 @@
+-- How stages that read from a store follow one another, and what the source comes to by them.
+use Rattle.std.proofs.Common.{◌≡◌, ℕ, ◌≤◌, List, [], ◌∷◌, Result, Ok, Err, refl, sym, ap, ◌∙◌, subst, inl, inr}
+use Rattle.std.specs.Prelude.{Contains, IfSome, IsSomeAnd, IfOk, IfErr}
+use Rattle.std.specs.Result.{IsErrAnd}
+use Rattle.std.specs.declared.option.Option.{Option}
+use Rattle.std.specs.declared.option.Option.TheVariants.{Some, None}
+use Rattle.lists.proofs.Members.{member_first, member_later, member_single}
+use Rattle.tl_device.specs.Contents.{Contents}
+use Rattle.tl_device.specs.Causes.{Rose}
+use Rattle.command_line.specs.Accepted.{Asked, Files}
+use Rattle.command_line.specs.declared.accepted.Settings.{Settings}
+use Rattle.type_checker.specs.Checked.{Pair}
+use Rattle.invariant_guess.specs.declared.types.Found.{Found}
+use Rattle.sas_task.specs.Task.{Task}
+use Rattle.sas_task.specs.Output.{text_of}
+use Rattle.translator.specs.declared.outcome.End.{End}
+use Rattle.translator.specs.declared.translation.Made.{Made}
+use Rattle.translator.specs.declared.outcome.End.TheVariants as ends
+use Rattle.translator.specs.Ending.{Ending, Gives, Absent, Refused, ◌>>=◌}
+use Rattle.translator.specs.declared.outcome.Summary.{Summary}
+use Rattle.translator.specs.RunTask.{Output, summary_of, output_of}
+use Rattle.translator.specs.Run.{Text, text, read, of_texts, of_source, inputs, ComesTo, no_file, faulty, made}
+use Rattle.translator.specs.Store.{Store, IsUntouched}
+use Rattle.translator.specs.Call.{Ends, misused, starved, unread, refused}
+use Rattle.translator.specs.Outcome.{Outcome, status_of, line_of}
+use Rattle.translator.specs.Stages.{IsRefusal, StopsWhere, StopsReading, IsRead, IsMadeOf}
+use Rattle.translator.proofs.Stages.{Leads, first_leads, goes_on, texts_told, refused_of}
+
+-- ---- what holds where something is told
+
+pub always : {X : Type 0} (P : X → Type 0) (o : Option X) → ((x : X) → P x) → IfSome o P
+always P None all = tt
+always P (Some x) all = all x
+
+pub if_told : {X : Type 0} (P R : X → Type 0) (o : Option X) → ((x : X) → P x → R x) → IfSome o P → IfSome o R
+if_told P R None f p = tt
+if_told P R (Some x) f p = f x p
+
+pub both_told : {X : Type 0} (P Q R : X → Type 0) (o : Option X) → ((x : X) → P x → Q x → R x) → IfSome o P → IfSome o Q → IfSome o R
+both_told P Q R None f p q = tt
+both_told P Q R (Some x) f p q = f x p q
+
+told_too : {X : Type 0} (P Q R : X → Type 0) (o : Option X) → ((x : X) → P x → Q x → R x) → IfSome o P → IsSomeAnd o Q → IsSomeAnd o R
+told_too P Q R None f p q = absurd q
+told_too P Q R (Some x) f p q = f x p q
+
+-- ---- one stage after another
+
+pub same_store : (before : Store) → IsUntouched before before
+same_store before = record { files = refl; writing = refl; created = refl; writes = refl }
+
+pub untouched_twice : (before mid now : Store) → IsUntouched before mid → IsUntouched mid now → IsUntouched before now
+untouched_twice before mid now first second =
+    record {
+      files = second.files ∙ first.files;
+      writing = second.writing ∙ first.writing;
+      created = second.created ∙ first.created;
+      writes = second.writes ∙ first.writes;
+    }
+
+-- where the second stage gives nothing, the whole does as it, if it has to where the files are told
+pub stops_later : {A B : Type 0} (before mid now : Store) (names names' : List (List ℕ)) (Comes : Contents → Ending A → Type 0) (Comes' : Contents → Ending B → Type 0)
+    → IsUntouched before mid → mid.reads ≡ before.reads → ((name : List ℕ) → Contains names name → Contains names' name) → IfSome before.files (λ held. Leads (Comes held) (Comes' held))
+    → (end : End) → StopsReading mid now names Comes end → StopsReading before now names' Comes' end
+stops_later before mid now names names' Comes Comes' untouched reads wider leads ends.NoMemory stops = stops ∙ reads
+stops_later before mid now names names' Comes Comes' untouched reads wider leads ends.Usage stops = absurd stops
+stops_later before mid now names names' Comes Comes' untouched reads wider leads (ends.CannotWrite name) stops = absurd stops
+stops_later before mid now names names' Comes Comes' untouched reads wider leads (ends.CannotRead name) stops =
+    record {
+      input = wider name.now stops.input;
+      last = stops.last;
+      later = subst (λ (n : ℕ). n ≤ now.reads) reads stops.later;
+      cause = elim stops.cause [
+        | inl rose ↦ inl (subst (λ (n : ℕ). Rose n now.reads) reads rose)
+        | inr absent ↦ inr (told_too (λ held. Leads (Comes held) (Comes' held)) (λ held. Comes held (Absent name.now)) (λ held. Comes' held (Absent name.now)) before.files
+            (λ held lead. lead.absent name.now) leads (subst (λ (f : Option Contents). IsSomeAnd f (λ held. Comes held (Absent name.now))) untouched.files absent))
+      ];
+    }
+stops_later before mid now names names' Comes Comes' untouched reads wider leads (ends.Refused name message) stops =
+    record {
+      input = wider name.now stops.input;
+      reads = stops.reads ∙ reads;
+      told = both_told (λ held. Leads (Comes held) (Comes' held)) (λ held. Comes held (Refused name.now message)) (λ held. Comes' held (Refused name.now message)) before.files
+          (λ held lead. lead.refused name.now message) leads (subst (λ (f : Option Contents). IfSome f (λ held. Comes held (Refused name.now message))) untouched.files stops.told);
+    }
+
+-- what was read later, from what stood before
+pub read_later : (before mid now : Store) (P : Contents → Type 0) → IsUntouched before mid → mid.reads ≡ before.reads → IsRead mid now P → IsRead before now P
+read_later before mid now P untouched reads is = (is.0 ∙ reads, subst (λ (f : Option Contents). IfSome f P) untouched.files is.1)
+
+-- ---- two files
+
+module _ (domain problem : List ℕ) where
+  abbrev Names : List (List ℕ)
+  Names = domain ∷ problem ∷ []
+
+  abbrev AfterDomain : Contents → Text → Ending Pair
+  AfterDomain held d = read held problem >>= of_texts d
+
+  begins : (held : Contents) → of_source held (Files domain problem) ≡ (read held domain >>= AfterDomain held)
+  unfolding of_source
+  begins held = refl
+
+  second : (held : Contents) (d : Text) → read held domain ≡ Gives d → of_source held (Files domain problem) ≡ (read held problem >>= of_texts d)
+  second held d is = goes_on (of_source held (Files domain problem)) (read held domain) (AfterDomain held) (begins held) d is
+
+  among_first : (name : List ℕ) → Contains (domain ∷ []) name → Contains Names name
+  among_first name in' = subst (Contains Names) (member_single domain name in') (member_first domain (problem ∷ []))
+
+  among_second : (name : List ℕ) → Contains (problem ∷ []) name → Contains Names name
+  among_second name in' = member_later domain name (problem ∷ []) in'
+
+  pub stops_at_domain : (before now : Store) (end : End) → StopsReading before now (domain ∷ []) (λ held e. read held domain ≡ e) end → StopsReading before now Names (λ held e. of_source held (Files domain problem) ≡ e) end
+  stops_at_domain before now =
+      stops_later before before now (domain ∷ []) Names (λ held e. read held domain ≡ e) (λ held e. of_source held (Files domain problem) ≡ e) (same_store before) refl among_first
+      (always _ before.files (λ held. first_leads (of_source held (Files domain problem)) (read held domain) (AfterDomain held) (begins held)))
+
+  module _ (before mid : Store) (bytes : List ℕ) (untouched : IsUntouched before mid) (is : IsRead before mid (λ held. read held domain ≡ Gives (text domain bytes))) where
+    pub stops_at_problem : (now : Store) (end : End) → StopsReading mid now (problem ∷ []) (λ held e. read held problem ≡ e) end → StopsReading before now Names (λ held e. of_source held (Files domain problem) ≡ e) end
+    stops_at_problem now =
+        stops_later before mid now (problem ∷ []) Names (λ held e. read held problem ≡ e) (λ held e. of_source held (Files domain problem) ≡ e) untouched is.0 among_second
+        (if_told (λ held. read held domain ≡ Gives (text domain bytes)) _ before.files
+        (λ held gives. first_leads (of_source held (Files domain problem)) (read held problem) (of_texts (text domain bytes)) (second held (text domain bytes) gives)) is.1)
+
+    module _ (now : Store) (other : List ℕ) (is' : IsRead mid now (λ held. read held problem ≡ Gives (text problem other))) where
+      -- both files are read, and the source comes to what their texts do
+      pub both_read : IsRead before now (λ held. of_source held (Files domain problem) ≡ of_texts (text domain bytes) (text problem other))
+      both_read =
+          let later = read_later before mid now (λ held. read held problem ≡ Gives (text problem other)) untouched is.0 is' in (
+            later.0,
+            both_told (λ held. read held domain ≡ Gives (text domain bytes)) (λ held. read held problem ≡ Gives (text problem other)) _ before.files
+                (λ held gives gives'. goes_on (of_source held (Files domain problem)) (read held problem) (of_texts (text domain bytes)) (second held (text domain bytes) gives) (text problem other) gives') is.1 later.1,
+          )
+
+  -- texts that are handed on as they were read
+  module _ (before now : Store) (bytes other bytes' other' : List ℕ) (same : bytes' ≡ bytes) (same' : other' ≡ other) (is : IsRead before now (λ held. of_source held (Files domain problem) ≡ of_texts (text domain bytes) (text problem other))) where
+    handed_on : IsRead before now (λ held. of_source held (Files domain problem) ≡ of_texts (text domain bytes') (text problem other'))
+    handed_on =
+        let one = subst (λ (b : List ℕ). IsRead before now (λ held. of_source held (Files domain problem) ≡ of_texts (text domain b) (text problem other))) (sym same) is in
+        subst (λ (b : List ℕ). IsRead before now (λ held. of_source held (Files domain problem) ≡ of_texts (text domain bytes') (text problem b))) (sym same') one
+
+    texts_stop : (end : End) → StopsWhere (of_texts (text domain bytes') (text problem other')) end → StopsReading before now Names (λ held e. of_source held (Files domain problem) ≡ e) end
+    texts_stop ends.NoMemory stops = is.0
+    texts_stop (ends.Refused name message) stops =
+        record {
+          input = refused_of Names (of_texts (text domain bytes') (text problem other')) name.now message
+              (texts_told Names (text domain bytes') (text problem other') (member_first domain (problem ∷ [])) (member_later domain problem (problem ∷ []) (member_first problem []))) stops;
+          reads = is.0;
+          told = if_told (λ held. of_source held (Files domain problem) ≡ of_texts (text domain bytes') (text problem other')) _ before.files (λ held comes. comes ∙ stops) handed_on.1;
+        }
+    texts_stop ends.Usage stops = absurd stops
+    texts_stop (ends.CannotRead name) stops = absurd stops
+    texts_stop (ends.CannotWrite name) stops = absurd stops
+
+    pub texts_stop_so : (result : Result Made End) → IfErr result (StopsWhere (of_texts (text domain bytes') (text problem other'))) → IfErr result (StopsReading before now Names (λ held e. of_source held (Files domain problem) ≡ e))
+    texts_stop_so (Ok value) stops = tt
+    texts_stop_so (Err end) stops = texts_stop end stops
+
+    pub texts_made_so : (settings : Settings) (result : Result Made End) → IfOk result (λ made. IsMadeOf (of_texts (text domain bytes') (text problem other')) settings made.found made.task)
+        → IfOk result (λ made. IsRead before now (λ held. IsMadeOf (of_source held (Files domain problem)) settings made.found made.task))
+    texts_made_so settings (Ok it) is_made = (
+      is.0,
+      if_told (λ held. of_source held (Files domain problem) ≡ of_texts (text domain bytes') (text problem other')) _ before.files
+          (λ held comes. subst (λ (e : Ending Pair). IsMadeOf e settings it.found it.task) (sym comes) is_made) handed_on.1,
+    )
+    texts_made_so settings (Err end) is_made = tt
+
+-- ---- the run
+
+module _ (asked : Asked) where
+  -- what stops the source stops the run
+  pub run_stops : (before now : Store) (end : End) → StopsReading before now (inputs asked.source) (λ held e. of_source held asked.source ≡ e) end → StopsReading before now (inputs asked.source) (λ held. ComesTo held asked) end
+  run_stops before now =
+      stops_later before before now (inputs asked.source) (inputs asked.source) (λ held e. of_source held asked.source ≡ e) (λ held. ComesTo held asked) (same_store before) refl (λ name in'. in')
+      (always _ before.files (λ held. record { absent = no_file; refused = faulty }))
+
+  comes_made : (held : Contents) (found : Found) (task : Task) (e : Ending Pair) → of_source held asked.source ≡ e → IsMadeOf e asked.settings found task → ComesTo held asked (Gives (output_of found task))
+  comes_made held found task (Gives pair) is is_made = made pair found task is is_made
+  comes_made held found task (Absent name) is is_made = absurd is_made
+  comes_made held found task (Refused name message) is is_made = absurd is_made
+
+  -- what is made of the source is written
+  pub run_writes : (before now : Store) (found : Found) (task : Task) (bytes : List ℕ) (summary : Summary) → bytes ≡ text_of task → summary ≡ summary_of found task
+      → IsRead before now (λ held. IsMadeOf (of_source held asked.source) asked.settings found task) → IsRead before now (λ held. ComesTo held asked (Gives (record { text = bytes; summary = summary })))
+  run_writes before now found task bytes summary is is' made_so =
+      let same : output_of found task ≡ record { text = bytes; summary = summary } =
+      sym (ap (λ (b : List ℕ). let o : Output = record { text = b; summary = summary } in o) is ∙ ap (λ (s : Summary). let o : Output = record { text = text_of task; summary = s } in o) is') in (
+        made_so.0,
+        if_told (λ held. IsMadeOf (of_source held asked.source) asked.settings found task) _ before.files
+            (λ held is_made. subst (λ (o : Output). ComesTo held asked (Gives o)) same (comes_made held found task (of_source held asked.source) refl is_made)) made_so.1,
+      )
+
+-- ---- how the work ends where nothing is written
+
+-- an error that was made of another
+pub stops_too : {A : Type 0} (P : End → Type 0) (end : End) (result : Result A End) → IsErrAnd result (λ e. e ≡ end) → P end → IfErr result P
+stops_too P end (Ok value) is stops = tt
+stops_too P end (Err e) is stops = subst P (sym is) stops
+
+pub ends_too : (before now : Store) (words : Option Asked) (end : End) (result : Outcome) → IsErrAnd result (λ e. e ≡ end) → Ends before now words (status_of (Err end)) (line_of (Err end)) → Ends before now words (status_of result) (line_of result)
+ends_too before now words end (Ok value) is ends = absurd is
+ends_too before now words end (Err e) is ends = subst (λ (x : End). Ends before now words (status_of (Err x)) (line_of (Err x))) (sym is) ends
+
+pub unaccepted : (before : Store) (words : Option Asked) (end : End) → IsRefusal words end → Ends before before words (status_of (Err end)) (line_of (Err end))
+unaccepted before words ends.Usage refusal = misused refusal (same_store before) refl
+unaccepted before words ends.NoMemory refusal = starved (same_store before) refl
+unaccepted before words (ends.CannotRead name) refusal = absurd refusal
+unaccepted before words (ends.CannotWrite name) refusal = absurd refusal
+unaccepted before words (ends.Refused name message) refusal = absurd refusal
+
+pub stopped : (before now : Store) (words : Option Asked) (asked : Asked) → words ≡ Some asked → IsUntouched before now
+    → (end : End) → StopsReading before now (inputs asked.source) (λ held. ComesTo held asked) end → Ends before now words (status_of (Err end)) (line_of (Err end))
+stopped before now words asked named untouched ends.NoMemory stops = starved untouched stops
+stopped before now words asked named untouched (ends.CannotRead name) stops = unread asked name.now named untouched stops
+stopped before now words asked named untouched (ends.Refused name message) stops = refused asked name.now message named untouched stops
+stopped before now words asked named untouched ends.Usage stops = absurd stops
+stopped before now words asked named untouched (ends.CannotWrite name) stops = absurd stops
