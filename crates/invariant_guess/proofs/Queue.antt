@@ -310,3 +310,12 @@ module _ (task : Normal) where
       let tried = turn task found.tried in
       subst (λ (l : List Candidate). list_all (is_accepted task) l ≡ true) (sym is.accepted)
       (each_passes (is_accepted task) (filter (is_accepted task) (take found.tried tried)) (λ candidate in'. (filter_among (is_accepted task) candidate (take found.tried tried) in').1))
+
+  -- the number tried and the accepted ones are both fixed
+  pub one_found : (max : ℕ) (found other : Found) → IsFound task max found → IsFound task max other → found ≡ other
+  one_found max found other is is' =
+      let mk = λ (number : ℕ) (accepted : List Candidate). let r : Found = record { tried = number; accepted = accepted } in r in
+      let tried : found.tried ≡ other.tried = one_number max found.tried other.tried is.tried is'.tried in
+      let accepted : found.accepted ≡ other.accepted = is.accepted ∙ ap (λ (n : ℕ). filter (is_accepted task) (take n (turn task n))) tried ∙ sym is'.accepted in
+      let one : mk found.tried found.accepted ≡ mk other.tried other.accepted = ap (λ n. mk n found.accepted) tried ∙ ap (λ l. mk other.tried l) accepted in
+      one

@@ -38,8 +38,9 @@ pub fn tried()
     ensures first { (task : Normal) (order : List Candidate) → IsTrialOrder task order → (max number : ℕ) → AreTried task max number → take number (turn task number) ≡ take number order }
 {}
 
-/// What is found are well-formed candidates that are light and balanced.
+/// What is found are well-formed candidates that are light and balanced, and there is one list of them.
 pub fn finds()
+    ensures one { (task : Normal) (max : ℕ) (found other : Found) → IsFound task max found → IsFound task max other → found ≡ other }
     ensures well_formed { (task : Normal) (max : ℕ) (found : Found) → IsFound task max found → list_all (is_well_formed task) found.accepted ≡ true }
     ensures accepted { (task : Normal) (max : ℕ) (found : Found) → IsFound task max found → list_all (is_accepted task) found.accepted ≡ true }
 {}

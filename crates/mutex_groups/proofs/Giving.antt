@@ -23,7 +23,8 @@ use Rattle.invariant_check.specs.Extensions.{arity_of}
 use Rattle.mutex_groups.specs.declared.tables.Weight.{Weight}
 use Rattle.invariant_check.specs.WellFormed.{is_well_formed}
 use Rattle.mutex_groups.specs.Groups.{covered_facts, IsInstance, IsMutexGroup, AreGroups}
-use Rattle.mutex_groups.specs.Found.{weight_among, parts_differ, instance_of, told, is_one, numbers_in, gives, covers_just, has_group, HoldsWeights, HoldsNumbers, AddsGroup}
+use Rattle.static_matcher.specs.Buckets.{numbers_in}
+use Rattle.mutex_groups.specs.Found.{weight_among, parts_differ, instance_of, told, is_one, gives, covers_just, has_group, HoldsWeights, HoldsNumbers, AddsGroup}
 use Rattle.mutex_groups.proofs.Covered.{covers-is, covers-some}
 use Rattle.invariant_check.proofs.Covering.{Covering, covering}
 use Rattle.invariant_check.proofs.FormedParts.{IsPartFor, formed_facts}

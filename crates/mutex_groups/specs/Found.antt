@@ -1,11 +1,12 @@
 -- How groups are found: by the instances that the initial atoms give.
-use Rattle.std.specs.Prelude.{◌≡◌, ℕ, zero, suc, Bool, true, false, ◌&&◌, ◌||◌, List, [], length, filter, Option, Some, None, nat_eq, unwrap_or}
+use Rattle.std.specs.Prelude.{◌≡◌, ℕ, zero, suc, Bool, true, false, ◌&&◌, ◌||◌, List, [], length, filter, Option, Some, None, nat_eq}
 use Rattle.std.specs.Map.{lookup}
 use Rattle.std.specs.List.{list_any, find}
 use Rattle.std.specs.Option.{option_map, option_map_or}
 use Rattle.names.specs.Names.{is_same}
 use Rattle.normal_task.specs.declared.task.GroundAtom.{GroundAtom}
 use Rattle.normal_task.specs.Lawful.{differ}
+use Rattle.static_matcher.specs.Buckets.{numbers_in}
 use Rattle.relaxed_reach.specs.declared.types.Fact.{Fact}
 use Rattle.invariant_check.specs.declared.types.Candidate.{Candidate}
 use Rattle.invariant_check.specs.declared.types.Part.{Part}
@@ -58,9 +59,6 @@ is_one (Some Several) = false
 -- what tables have for an instance
 abbrev pub weight_in : List (List ℕ × Weight) → List ℕ → Option Weight
 weight_in entries instance = lookup (is_same instance) entries
-
-abbrev pub numbers_in : List (List ℕ × List ℕ) → List ℕ → List ℕ
-numbers_in entries instance = unwrap_or (lookup (is_same instance) entries) []
 
 -- the table has the weights of the candidate's instances among the atoms
 abbrev pub HoldsWeights : Candidate → List GroundAtom → List (List ℕ × Weight) → Type 0

@@ -6,6 +6,7 @@ use Rattle.normal_task.specs.declared.task.Normal.{Normal}
 use Rattle.normal_task.specs.Lawful.{IsLawful}
 use Rattle.static_matcher.specs.declared.types.Ground.{Ground}
 use Rattle.static_matcher.specs.Instances.{IsGroundTask}
+use Rattle.static_matcher.specs.Settled.{SameMembers}
 use Rattle.relaxed_reach.specs.declared.types.Reached.{Reached}
 use Rattle.relaxed_reach.specs.ReachedTask.{is_derived}
 use Rattle.relaxed_reach.specs.Reachable.{IsReachedTask}
@@ -46,3 +47,9 @@ abbrev pub GroupsAreBasic : Type 0
 GroupsAreBasic =
     (task : Normal) (candidates : List Candidate) (reached : Reached) (group : List ℕ) → IsReachedOf task reached → list_all (is_well_formed task) candidates ≡ true →
     IsMutexGroup task candidates reached group → (fact : ℕ) → Contains group fact → is_derived reached.facts fact ≡ false
+
+-- the task, the candidates and the facts fix which groups there are
+abbrev pub OneSetOfGroups : Type 0
+OneSetOfGroups =
+    (task : Normal) (candidates : List Candidate) (a b : Reached) (groups others : List (List ℕ)) → a.facts ≡ b.facts →
+    AreGroups task candidates a groups → AreGroups task candidates b others → SameMembers groups others

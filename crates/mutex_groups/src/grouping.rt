@@ -9,11 +9,12 @@ ghost use Rattle.mutex_groups.specs.Laws.{AreExclusive};
 ghost use Rattle.mutex_groups.specs.Found.{parts_differ, AddsGroup, covers_just, has_group};
 
 use crate::instances::{instance_of, members, weights};
-use crate::tables::{Members, NumberLists, Weights};
+use crate::tables::{NumberLists, Weights};
 use group_cover::Groups;
 use invariant_check::Candidate;
 use normal_task::{GroundAtom, Normal};
 use relaxed_reach::{Fact, Reached};
+use static_matcher::Buckets;
 use std::alloc::{AllocError, Global};
 
 /// Adds the facts that the instance covers, if it weighs one.
@@ -21,7 +22,7 @@ fn add_covered(
     alloc: Global,
     instance: &[u64],
     weights: &Weights,
-    members: &Members,
+    members: &Buckets,
     groups: &mut NumberLists,
 ) -> Result<(), AllocError>
     ensures { OnOk result ((group : List ℕ) → list_any (is_same group) groups.new ≡ (covers_just weights.now members.now group instance.now || list_any (is_same group) groups.old)) }
@@ -38,7 +39,7 @@ fn add_group(
     candidate: &Candidate,
     atom: &GroundAtom,
     weights: &Weights,
-    members: &Members,
+    members: &Buckets,
     groups: &mut NumberLists,
 ) -> Result<(), AllocError>
     ensures { OnOk result (AddsGroup candidate.now atom.now weights.now members.now groups.old groups.new) }

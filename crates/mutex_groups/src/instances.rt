@@ -3,13 +3,15 @@ ghost use Rattle.std.specs.Prelude.{◌≡◌, ◌++◌, ◌∷◌, [], ℕ, Lis
 ghost use Rattle.std.specs.List.{find};
 ghost use Rattle.std.specs.Option.{option_map, option_copied};
 ghost use Rattle.invariant_check.specs.Candidates.{at_positions, covers};
+ghost use Rattle.static_matcher.specs.Buckets.{numbers_in};
 ghost use Rattle.mutex_groups.specs.Found.{parts_differ};
 ghost use Rattle.mutex_groups.specs.Found as spec;
 
-use crate::tables::{Members, Weights};
+use crate::tables::Weights;
 use invariant_check::{Candidate, Part};
 use normal_task::GroundAtom;
 use relaxed_reach::Fact;
+use static_matcher::Buckets;
 use std::alloc::{AllocError, Global};
 
 /// The objects at the places.
@@ -81,10 +83,10 @@ fn add_fact(
     candidate: &Candidate,
     fact: &Fact,
     number: u64,
-    members: &mut Members,
+    members: &mut Buckets,
 ) -> Result<(), AllocError>
     requires { parts_differ candidate.now ≡ true }
-    ensures { OnOk result ((instance : List ℕ) → spec.numbers_in members.new instance ≡ (if covers candidate.now instance fact.now.atom then spec.numbers_in members.old instance ++ number ∷ [] else spec.numbers_in members.old instance)) }
+    ensures { OnOk result ((instance : List ℕ) → numbers_in members.new instance ≡ (if covers candidate.now instance fact.now.atom then numbers_in members.old instance ++ number ∷ [] else numbers_in members.old instance)) }
 {
     match instance_of(alloc, candidate, &fact.atom)? {
         Some(instance) => members.add(alloc, instance, number),
@@ -97,11 +99,11 @@ pub(crate) fn members(
     alloc: Global,
     candidate: &Candidate,
     facts: &[Fact],
-) -> Result<Members, AllocError>
+) -> Result<Buckets, AllocError>
     requires { parts_differ candidate.now ≡ true }
     ensures { IfOk result (spec.HoldsNumbers candidate.now facts.now) }
 {
-    let mut members = Members::new(alloc);
+    let mut members = Buckets::new(alloc);
     for (number, fact) in facts.iter().enumerate() {
         add_fact(alloc, candidate, fact, number as u64, &mut members)?;
     }

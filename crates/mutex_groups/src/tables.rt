@@ -1,9 +1,9 @@
 // Tables of instances.
-ghost use Rattle.std.specs.Prelude.{◌≡◌, ◌||◌, ◌++◌, ◌∷◌, [], ℕ, List as Items, nat_eq, IfOk, OnOk, if◌then◌else◌};
+ghost use Rattle.std.specs.Prelude.{◌≡◌, ◌||◌, [], ℕ, List as Items, nat_eq, IfOk, OnOk, if◌then◌else◌};
 ghost use Rattle.std.specs.List.{list_any, IsDistinct};
 ghost use Rattle.std.specs.Cmp.Lexicographic.{pointwise};
 ghost use Rattle.names.specs.Names.{is_same};
-ghost use Rattle.mutex_groups.specs.Found.{told_more, is_one, weight_in, numbers_in};
+ghost use Rattle.mutex_groups.specs.Found.{told_more, is_one, weight_in};
 
 use indexmap::{IndexMap, IndexSet};
 use lists::List;
@@ -65,58 +65,6 @@ impl Weights {
         ensures { result ≡ weight_in self.now instance.now }
     {
         self.table.get(instance).copied()
-    }
-}
-
-/// The numbers of the facts that instances cover, in order. Contracts see the instances with their numbers.
-#[derive(Drop)]
-pub(crate) struct Members {
-    table: IndexMap<Vec<u64>, Vec<u64>>,
-}
-
-impl Model for Members {
-    ghost use Rattle.std.specs.Prelude.{ℕ, List as Items, map};
-
-    ghost Value = { Items (Items ℕ × Items ℕ) };
-
-    ghost view = { λ members. map (λ entry. (entry.0.items, entry.1.items)) members.table.entries };
-}
-
-impl Members {
-    pub(crate) fn new(alloc: Global) -> Members
-        ensures { result ≡ [] }
-    {
-        Members {
-            table: IndexMap::new(alloc),
-        }
-    }
-
-    /// Adds the number of a fact that the instance covers.
-    pub(crate) fn add(
-        &mut self,
-        alloc: Global,
-        instance: Vec<u64>,
-        number: u64,
-    ) -> Result<(), AllocError>
-        ensures { OnOk result ((other : Items ℕ) → numbers_in self.new other ≡ (if is_same other instance.items then numbers_in self.old other ++ number ∷ [] else numbers_in self.old other)) }
-    {
-        match self.table.get_mut(instance.as_slice()) {
-            Some(numbers) => numbers.push(number)?,
-            None => {
-                self.table.insert(instance, vec![in alloc; number]?)?;
-            }
-        }
-        Ok(())
-    }
-
-    /// The numbers of the facts that the instance covers.
-    pub(crate) fn numbers(&self, instance: &[u64]) -> &[u64]
-        ensures { result.now ≡ numbers_in self.now instance.now }
-    {
-        match self.table.get(instance) {
-            Some(numbers) => numbers.as_slice(),
-            None => &[],
-        }
     }
 }
 

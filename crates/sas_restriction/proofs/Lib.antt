@@ -9,9 +9,13 @@ mod Steps
 mod Assembled
 -- what a pass owes and gets, which crates above cite
 pub mod Numbers
+pub mod Alike
 pub mod Shown
 pub mod Valid
 pub mod Closed
 pub mod Stands
 pub mod Arranged
 pub mod Told
+pub mod AllValues
+pub mod Order
+pub mod Reordered

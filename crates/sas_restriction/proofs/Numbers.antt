@@ -63,7 +63,7 @@ one_number xs x y in-x in-y same =
     ]
 
 -- two members of a list with at most one item are one
-pub one_member : (xs : List ℕ) (x y : ℕ) → Contains xs x → Contains xs y → length xs ≤ 1 → x ≡ y
+pub one_member : {X : Type 0} (xs : List X) (x y : X) → Contains xs x → Contains xs y → length xs ≤ 1 → x ≡ y
 one_member [] x y in-x in-y short = absurd (no_member x in-x)
 one_member (a ∷ []) x y in-x in-y short =
     elim (member_cases a x [] in-x) [

@@ -1,10 +1,11 @@
 -- Numbers that rise: how many of them are below a number, and whether it is one of them, as searches find it.
-use Rattle.std.proofs.Common.{◌≡◌, ℕ, zero, suc, ◌≤◌, Bool, true, false, cond, eqb, List, [], ◌∷◌, filter, length, get_or, Result, Ok, Err, sym, ap, ◌∙◌, inl, inr, arith}
+use Rattle.std.proofs.Common.{◌≡◌, ℕ, zero, suc, ◌<◌, ◌≤◌, Bool, true, false, cond, eqb, ltb, List, [], ◌∷◌, filter, length, get_or, Result, Ok, Err, sym, ap, ◌∙◌, inl, inr, arith}
 use Rattle.std.specs.List.{list_any}
 use Rattle.std.specs.List.Sorted.{IsStrictlyIncreasing, IsNonDecreasing, IsPartitionPoint, IsBinarySearchResult}
 use Rattle.std.specs.Ordering.{nat_cmp}
 use Rattle.std.specs.Result.{is_ok}
-use Rattle.std.proofs.lemmas.Bool.{cases_eq, cases_lt, eq-eqb, ne_eqb}
+use Rattle.std.proofs.lemmas.Bool.{cases_eq, cases_lt, eq-eqb, ne_eqb, lt-ltb, le-ltb}
+use Rattle.std.proofs.lemmas.List.{get_or_default}
 use Rattle.std.proofs.lemmas.List.Elements.{All-from_get_or}
 use Rattle.std.proofs.lemmas.List.Folds.{list_any_at, list_any_none}
 use Rattle.std.proofs.lemmas.List.Kept.{AllPairs-from_increasing}
@@ -41,3 +42,14 @@ finds xs x (Err i) rises answer =
       | inl lt ↦ let less = at.1 k lt in absurd (omega (arith, less, same))
       | inr ge ↦ let more = at.2 k ge low in absurd (omega (arith, more, same))
     ]))))
+
+-- as many are below a number that stands at its own place
+pub at_home : (xs : List ℕ) (val : ℕ) → IsStrictlyIncreasing xs → (val < length xs) × (get_or xs val 0 ≡ val) → length (filter (λ v. ltb v val) xs) ≡ val
+at_home xs val rises home =
+    pass_before (λ v. ltb v val) xs val (omega (arith, home.0)) (
+      λ k d from to. lt-ltb (get_or xs k d) val (let less = AllPairs-from_increasing xs rises k val d to home.0 in let is = get_or_default xs val d 0 home.0 ∙ home.1 in omega (arith, less, is)),
+      λ k d from to. le-ltb (get_or xs k d) val (let most = never_falls xs rises val k d from to in let is = get_or_default xs val d 0 home.0 ∙ home.1 in omega (arith, most, is)),
+    )
+
+pub home_found : (xs : List ℕ) (val : ℕ) → (val < length xs) × (get_or xs val 0 ≡ val) → list_any (λ v. eqb v val) xs ≡ true
+home_found xs val home = list_any_at (λ v. eqb v val) xs val 0 home.0 (eq-eqb (get_or xs val 0) val home.1)

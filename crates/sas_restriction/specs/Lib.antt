@@ -3,3 +3,7 @@ pub mod Listed
 pub mod Restriction
 pub mod Closed
 pub mod MayStand
+pub mod Everything
+pub mod Reordered
+pub mod Examples
+pub mod KeepsCosts

@@ -1,11 +1,16 @@
-//! The law of restrictions. The function does nothing: its clauses are the law.
+//! Laws of restrictions, and of one of them. The functions do nothing: their clauses are the laws.
 
+ghost use Rattle.std.specs.Prelude.{◌≡◌, [], ◌∷◌};
 ghost use Rattle.sas_task.specs.Task.{Task};
 ghost use Rattle.sas_task.specs.Valid.{IsValid};
 ghost use Rattle.sas_task.specs.Keeps.{Keeps, KeepsChanging};
+ghost use Rattle.sas_task.specs.Examples.{room};
 ghost use Rattle.sas_restriction.specs.Choice.{Choice, IsChoice};
 ghost use Rattle.sas_restriction.specs.Restriction.{Restricts};
 ghost use Rattle.sas_restriction.specs.MayStand.{MayStand, TellsAll};
+ghost use Rattle.sas_restriction.specs.KeepsCosts.{KeepsCosts};
+ghost use Rattle.sas_restriction.specs.Reordered.{changing_operators, variable_order, renumbered, IsReordered};
+ghost use Rattle.sas_restriction.specs.Examples.{room_reordered};
 
 /// A restriction of a valid task is valid. It may stand for the task where the choice meets `MayStand`, and where all
 /// variables are told too, each solution of the task whose every step changes the state is a solution of the
@@ -14,4 +19,21 @@ pub fn restriction_keeps()
     ensures valid { (task new : Task) (choice : Choice) → IsValid task → IsChoice choice task → Restricts choice task new → IsValid new }
     ensures stands { (task new : Task) (choice : Choice) → IsValid task → IsChoice choice task → Restricts choice task new → MayStand choice task → Keeps task new }
     ensures changing { (task new : Task) (choice : Choice) → IsValid task → IsChoice choice task → Restricts choice task new → MayStand choice task → TellsAll choice task → KeepsChanging task new }
+{}
+
+/// A valid task whose variables are ordered by how many operators have an effect on them is valid and may stand for the
+/// task: it is the restriction to all variables in this order, with all values and all operators. Its operators have the
+/// names and costs of the task's.
+pub fn reordering_keeps()
+    ensures valid { (task new : Task) → IsValid task → IsReordered task new → IsValid new }
+    ensures stands { (task new : Task) → IsValid task → IsReordered task new → Keeps task new }
+    ensures costs { (task new : Task) → IsReordered task new → KeepsCosts task new }
+{}
+
+/// The room with a lamp, worked by hand. No operator changes a derived variable, so both come first, the one with the
+/// lower number ahead. An operator with two effects on a variable counts once.
+pub fn reordered_example()
+    ensures counts { changing_operators room 1 ≡ 2 }
+    ensures order { variable_order room ≡ 2 ∷ 3 ∷ 0 ∷ 1 ∷ [] }
+    ensures reordered { renumbered (variable_order room) room ≡ room_reordered }
 {}

@@ -3,11 +3,13 @@
 //! task.
 #![tactic(auto)]
 
+mod all;
 mod chosen;
 pub mod laws;
 mod parts;
 mod whole;
 
+pub use all::{all_marks, all_values};
 pub use chosen::{Chosen, Once};
 pub use parts::busy_marks;
 pub use whole::restrict;

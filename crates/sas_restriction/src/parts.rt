@@ -28,7 +28,7 @@ fn fact_at(alloc: Global, facts: &[Text], val: u64) -> Result<Text, AllocError>
 fn facts_at(alloc: Global, facts: &[Text], values: &[u64]) -> Result<Vec<Text>, AllocError>
     ensures { IfOk result (λ names. names.items ≡ map (λ val. slice_index_or facts.now val []) values.now) }
 {
-    let mut names = Vec::new(alloc);
+    let mut names = Vec::with_capacity(alloc, values.len())?;
     for val in values {
         names.push(fact_at(alloc, facts, *val)?)?;
     }
@@ -174,7 +174,7 @@ fn add_effect(
 fn effects_left(alloc: Global, shown: &Chosen, old: &[Effect]) -> Result<Vec<Effect>, AllocError>
     ensures { IfOk result (λ effects. effects.items ≡ map (choice.new_effect (chosen shown.now)) (filter (choice.effect_stays (chosen shown.now)) old.now)) }
 {
-    let mut effects = Vec::new(alloc);
+    let mut effects = Vec::with_capacity(alloc, old.len())?;
     for effect in old {
         add_effect(alloc, shown, &mut effects, effect)?;
     }

@@ -6,7 +6,7 @@ use Rattle.runs.proofs.Systems.{run_follows, part_follows, part_names, part_cost
 use Rattle.sas_task.specs.declared.parts.Operator.{Operator}
 use Rattle.sas_task.specs.Task.{Task}
 use Rattle.sas_task.specs.Solution.{cost_in, system}
-use Rattle.sas_task.specs.Keeps.{IsSound, Keeps}
+use Rattle.sas_task.specs.Keeps.{IsSound, HasShorterSolution, Keeps}
 
 whole : (xs : List (List ℕ)) → IsSubsequence xs xs
 whole [] = Done
@@ -26,20 +26,23 @@ keeps_itself task =
       sound = λ is. is;
     }
 
+-- what has a shorter solution in a task has one in each task that may stand for it
+pub shorter_through : (old new : Task) → Keeps old new → (names : List (List ℕ)) (cost : ℕ) → HasShorterSolution old names cost → HasShorterSolution new names cost
+shorter_through old new kept names cost one =
+    let two = kept.no_less one.names' one.cost' one.solution in
+    record {
+      names' = two.names';
+      cost' = two.cost';
+      shorter = of_subsequence two.names' one.names' names two.shorter one.shorter;
+      no_dearer = let le-a : two.cost' ≤ one.cost' = two.no_dearer in let le-b : one.cost' ≤ cost = one.no_dearer in omega arith;
+      solution = two.solution;
+    }
+
 pub keeps_through : (a b c : Task) → Keeps a b → Keeps b c → Keeps a c
 keeps_through a b c first second =
     record {
       no_more = λ names cost has. first.no_more names cost (second.no_more names cost has);
-      no_less = λ names cost has.
-          let one = first.no_less names cost has in
-          let two = second.no_less one.names' one.cost' one.solution in
-          record {
-            names' = two.names';
-            cost' = two.cost';
-            shorter = of_subsequence two.names' one.names' names two.shorter one.shorter;
-            no_dearer = let le-a : two.cost' ≤ one.cost' = two.no_dearer in let le-b : one.cost' ≤ cost = one.no_dearer in omega arith;
-            solution = two.solution;
-          };
+      no_less = λ names cost has. shorter_through b c second names cost (first.no_less names cost has);
       sound = λ is. second.sound (first.sound is);
     }
 

@@ -3,6 +3,8 @@ pub mod Completion
 pub mod Successors
 pub mod States
 pub mod KeepsLaws
+pub mod SameMembers
+pub mod Alike
 mod Checks
 mod Steps
 mod Tells

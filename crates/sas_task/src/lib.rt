@@ -2,6 +2,7 @@
 //! its parts, when they are valid, what they mean, and the text that they are written as.
 #![tactic(auto)]
 
+mod copy;
 pub mod examples;
 pub mod laws;
 pub mod parts;

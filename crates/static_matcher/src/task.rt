@@ -6,7 +6,7 @@ ghost use Rattle.static_matcher.specs.Lawful.{IsLawful};
 ghost use Rattle.static_matcher.specs.Settled.{kept_goal};
 
 use crate::grounding::{actions, axioms};
-use crate::literals::condition;
+use crate::literals::{all_can_hold, condition};
 use crate::tables::Tables;
 use crate::types::{GoalRow, Ground};
 use lists::{List, Text};
@@ -82,10 +82,13 @@ fn goal(alloc: Global, tables: &Tables<'_>) -> Result<GoalRow<GroundAtom>, Alloc
     ensures { IfOk result (λ goal. goal ≡ kept_goal (static_settling tables.now) (instance_task tables.now).goal) }
 {
     let mut key = Vec::new(alloc);
-    match condition(alloc, tables, &mut key, &[], tables.task().goal.as_slice())? {
-        Some(literals) => Ok(GoalRow::All(literals)),
-        None => Ok(GoalRow::Never),
+    let literals = tables.task().goal.as_slice();
+    let can = all_can_hold(tables, &mut key, &[], literals)?;
+    if !can {
+        return Ok(GoalRow::Never);
     }
+    let condition = condition(alloc, tables, &[], literals)?;
+    Ok(GoalRow::All(condition))
 }
 
 /// The ground task of the task with tables.

@@ -4,3 +4,4 @@ mod KeptMoves
 mod Projected
 mod OneProjection
 mod Staying
+mod AlikeTasks

@@ -5,6 +5,7 @@ ghost use Rattle.sas_task.specs.declared.parts.Pair.{Pair};
 ghost use Rattle.sas_task.specs.Task.{Task};
 ghost use Rattle.sas_task.specs.Pairs.{pair};
 ghost use Rattle.sas_task.specs.Valid.{IsValid};
+ghost use Rattle.sas_task.specs.Alike.{AreAlike, RulesAgree};
 ghost use Rattle.sas_task.specs.Keeps.{Keeps, KeepsChanging};
 ghost use Rattle.task_simplifier.specs.Projection.{values_in, project_to, IsProjection};
 ghost use Rattle.task_simplifier.specs.Kept.{IsKept};
@@ -17,6 +18,13 @@ pub fn projection_keeps()
     ensures valid { (task projected : Task) → IsValid task → IsProjection task projected → IsValid projected }
     ensures stands { (task projected : Task) → IsValid task → IsProjection task projected → Keeps task projected }
     ensures changing { (task projected : Task) → IsValid task → IsProjection task projected → KeepsChanging task projected }
+{}
+
+/// Tasks that differ only in the order of groups, of operators, of their effects and of rules have one projection, where
+/// the rules of one variable agree, as those of a valid task do.
+pub fn orders_forgotten()
+    ensures one { (a b one other : Task) → RulesAgree a → AreAlike a b → IsProjection a one → IsProjection b other → one ≡ other }
+    ensures valid { (task : Task) → IsValid task → RulesAgree task }
 {}
 
 /// A task that is worked by hand: a room that nobody enters. A variable with one kept value is dropped, and with it its

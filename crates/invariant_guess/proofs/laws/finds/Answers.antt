@@ -1,5 +1,8 @@
-use Rattle.invariant_guess.proofs.Queue.{found_formed, found_accepted}
+use Rattle.invariant_guess.proofs.Queue.{one_found, found_formed, found_accepted}
 use Rattle.invariant_guess.proofs.laws.finds.Goals as goal
+
+pub returns-clause-one : goal.returns-clause-one
+returns-clause-one c task max found other is is' = one_found task max found other is is'
 
 pub returns-clause-well_formed : goal.returns-clause-well_formed
 returns-clause-well_formed c task max found is = found_formed task max found is
