@@ -1,0 +1,3 @@
+-- laws, which other crates may cite
+pub mod Chains
+mod Held

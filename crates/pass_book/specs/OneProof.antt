@@ -1,0 +1,14 @@
+-- What a pass keeps of its function has at most one proof, as a ghost field asks.
+use Rattle.std.specs.Prelude.{Result, Ok, Err, IfOk}
+use Rattle.std.proofs.Props.{props}
+use Rattle.sas_task.specs.Task.{Task}
+use Rattle.pass_book.specs.declared.kind.PassKind.{PassKind}
+use Rattle.pass_book.specs.declared.kind.PassKind.TheVariants.{Order}
+use Rattle.pass_book.specs.Passes.{Meets}
+
+meets_prop : (kind : PassKind) (old new : Task) → IsProp (Meets kind old new)
+meets_prop Order old new = hlevel props
+
+pub ok_meets_prop : {E : Type 0} (kind : PassKind) (old : Task) (answer : Result Task E) → IsProp (IfOk answer (λ new. Meets kind old new))
+ok_meets_prop kind old (Ok new) = meets_prop kind old new
+ok_meets_prop kind old (Err end) = hlevel props

@@ -1,0 +1,6 @@
+/// The kinds of passes. What a pass of each kind makes of a task is defined in `specs/Passes`.
+#[derive(Clone, Copy, PartialEq, Eq)]
+pub enum PassKind {
+    /// The variables are ordered by how many operators have an effect on them.
+    Order,
+}
