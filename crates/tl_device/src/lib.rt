@@ -2,6 +2,7 @@
 //! read or write whole files and texts, an implementation in memory for tests, and the real one.
 #![tactic(auto)]
 
+mod calls;
 mod device;
 mod entries;
 mod mem_console;
@@ -13,6 +14,7 @@ mod real_tests;
 mod tests;
 mod whole;
 
+pub use calls::FileCall;
 pub use device::{Console, Failed, Files};
 pub use mem_console::MemConsole;
 pub use mem_files::MemFiles;

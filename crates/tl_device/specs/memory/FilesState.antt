@@ -7,6 +7,7 @@ use Rattle.std.specs.Cmp.Lexicographic.{slice_cmp}
 use Rattle.std.specs.FinMap.{FinMap, code, get}
 use Rattle.std.specs.Coded.{Coded, code_by, coded×, coded_ℕ, coded_list, coded_option}
 use Rattle.tl_device.specs.Contents.{Contents}
+use Rattle.tl_device.specs.memory.CallsState.{CallsState, FileCallsState}
 
 -- for the names that have room, how many bytes they can hold when they are written
 abbrev pub Rooms : Type 0
@@ -27,6 +28,10 @@ pub record FilesState : Type 0 where
   pub writing : Option (List ℕ)
   -- the most bytes that a call gives or takes
   pub most : ℕ
+  -- the calls that were made, and those that are to fail
+  pub calls : FileCallsState
+  -- how often reading has failed, but for names that no file had
+  pub read_faults : ℕ
   -- how often writing has failed
   pub write_faults : ℕ
 
@@ -79,10 +84,17 @@ read_on (Some file) count = Some (record file { position = file.position + count
 abbrev pub open_file_code : Coded OpenFile
 open_file_code = code_by (List ℕ × ℕ) (coded× (coded_list coded_ℕ) coded_ℕ) (λ f. (f.name, f.position)) (λ p. record { name = p.0; position = p.1 }) (λ _. refl)
 
+abbrev pub calls_code : Coded CallsState
+calls_code = code_by (ℕ × List ℕ) (coded× coded_ℕ (coded_list coded_ℕ)) (λ c. (c.made, c.failing)) (λ p. record { made = p.0; failing = p.1 }) (λ _. refl)
+
+abbrev pub file_calls_code : Coded FileCallsState
+file_calls_code = code_by (CallsState × (CallsState × (CallsState × CallsState))) (coded× calls_code (coded× calls_code (coded× calls_code calls_code)))
+    (λ c. (c.open_file, (c.read, (c.create_file, c.write)))) (λ p. record { open_file = p.0; read = p.1.0; create_file = p.1.1.0; write = p.1.1.1 }) (λ _. refl)
+
 abbrev pub files_state_code : Coded FilesState
 files_state_code =
-    code_by (Contents × (Rooms × (Option OpenFile × (Option (List ℕ) × (ℕ × ℕ)))))
-    (coded× (code (coded_list coded_ℕ) (coded_list coded_ℕ)) (coded× (code (coded_list coded_ℕ) coded_ℕ) (coded× (coded_option open_file_code) (coded× (coded_option (coded_list coded_ℕ)) (coded× coded_ℕ coded_ℕ)))))
-    (λ s. (s.files, (s.rooms, (s.reading, (s.writing, (s.most, s.write_faults))))))
-    (λ p. record { files = p.0; rooms = p.1.0; reading = p.1.1.0; writing = p.1.1.1.0; most = p.1.1.1.1.0; write_faults = p.1.1.1.1.1 })
+    code_by (Contents × (Rooms × (Option OpenFile × (Option (List ℕ) × (ℕ × (FileCallsState × (ℕ × ℕ)))))))
+    (coded× (code (coded_list coded_ℕ) (coded_list coded_ℕ)) (coded× (code (coded_list coded_ℕ) coded_ℕ) (coded× (coded_option open_file_code) (coded× (coded_option (coded_list coded_ℕ)) (coded× coded_ℕ (coded× file_calls_code (coded× coded_ℕ coded_ℕ)))))))
+    (λ s. (s.files, (s.rooms, (s.reading, (s.writing, (s.most, (s.calls, (s.read_faults, s.write_faults))))))))
+    (λ p. record { files = p.0; rooms = p.1.0; reading = p.1.1.0; writing = p.1.1.1.0; most = p.1.1.1.1.0; calls = p.1.1.1.1.1.0; read_faults = p.1.1.1.1.1.1.0; write_faults = p.1.1.1.1.1.1.1 })
     (λ _. refl)

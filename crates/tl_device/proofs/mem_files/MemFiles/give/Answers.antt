@@ -2,7 +2,7 @@ use Rattle.std.proofs.Common.{◌≡◌, ◌∙◌, sym, ap, arith}
 use Rattle.std.specs.Option.{option_map}
 use Rattle.tl_device.specs.memory.Entries.{open_file_at}
 use Rattle.tl_device.specs.memory.FilesState.{position_of, position_in}
-use Rattle.tl_device.proofs.mem_files.MemFilesFiles.read.Goals as goal
+use Rattle.tl_device.proofs.mem_files.MemFiles.give.Goals as goal
 
 pub returns-clause-taken : goal.returns-clause-taken
 returns-clause-taken c =

@@ -3,7 +3,7 @@ use Rattle.tl_device.specs.Contents.{emptied}
 use Rattle.tl_device.specs.memory.Entries.{contents}
 use Rattle.tl_device.proofs.Grown.{others_emptied}
 use Rattle.tl_device.proofs.FilesLemmas.{emptied_held, rest_of-other, reading_kept}
-use Rattle.tl_device.proofs.mem_files.MemFilesFiles.create_file.Goals as goal
+use Rattle.tl_device.proofs.mem_files.MemFiles.create.Goals as goal
 
 pub returns-in-Some-clause-rest : goal.returns-in-Some-clause-rest
 returns-in-Some-clause-rest c differs = rest_of-other c.args.self.now _ _ c.args.name.now

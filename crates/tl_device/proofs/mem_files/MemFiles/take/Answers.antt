@@ -1,9 +1,10 @@
-use Rattle.std.proofs.Common.{◌≡◌, ◌∙◌, [], unwrap_or, sym, ap, subst, IfSome}
+use Rattle.std.proofs.Common.{◌≡◌, ◌∙◌, [], unwrap_or, sym, ap, subst, IfSome, is_some, Some}
 use Rattle.std.specs.Option.{option_map}
+use Rattle.tl_device.specs.Contents.{HoldsCreated}
 use Rattle.tl_device.specs.memory.Entries.{IsFileAt, name_at, contents}
-use Rattle.tl_device.specs.memory.FilesState.{name_written}
+use Rattle.tl_device.specs.memory.FilesState.{FilesState, name_written}
 use Rattle.tl_device.proofs.FilesLemmas.{written_held, appended_held, rest_of-other, reading_kept, others_grow}
-use Rattle.tl_device.proofs.mem_files.MemFilesFiles.write.Goals as goal
+use Rattle.tl_device.proofs.mem_files.MemFiles.take.Goals as goal
 
 pub returns-clause-rest : goal.returns-clause-rest
 returns-clause-rest c differs =
@@ -14,8 +15,17 @@ returns-clause-rest c differs =
     (others_grow c.args.self.now.files (contents c.self.inside.entries) (contents c.append.new.self) _ _ _ (ap (λ s. s.files) c.self.view_is) name c.append.ensures.contents)
     differs
 
+-- there is a file of the name being written
+abbrev IsHeld : FilesState → Type 0
+IsHeld s = HoldsCreated (Some s.files) (is_some s.writing) (name_written s)
+
+pub returns-then-is_listed-clause-held : goal.returns-then-is_listed-clause-held
+returns-then-is_listed-clause-held c =
+    subst IsHeld (sym c.write_fault.ensures) (subst IsHeld c.self.view_is (written_held c.self.inside.entries _ c.in-Some.entry c.in-Some.is c.free_room-free.ensures.held))
+
 pub returns-then-not-is_empty-clause-held : goal.returns-then-not-is_empty-clause-held
-returns-then-not-is_empty-clause-held c = written_held c.self.inside.entries _ c.in-Some.entry c.in-Some.is c.free_room-free.ensures.held
+returns-then-not-is_empty-clause-held c =
+    subst IsHeld (sym c.write_fault-then-not-is_empty.ensures) (subst IsHeld c.self.view_is (written_held c.self.inside.entries _ c.in-Some.entry c.in-Some.is c.free_room-free.ensures.held))
 
 pub returns-clause-held : goal.returns-clause-held
 returns-clause-held c =
