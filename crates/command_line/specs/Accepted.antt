@@ -1,5 +1,5 @@
 -- Which words are accepted, and what they ask for.
-use Rattle.std.specs.Prelude.{ℕ, Bool, List, [], ◌∷◌, length, Option, Some, None, unwrap_or, ◌&&◌, if◌then◌else◌, nat_lt, nat_le, codes}
+use Rattle.std.specs.Prelude.{ℕ, Bool, List, [], ◌∷◌, length, Option, Some, None, option_map, unwrap_or, ◌&&◌, if◌then◌else◌, nat_lt, nat_le, codes}
 use Rattle.std.specs.List.{list_all}
 use Rattle.std.specs.Char.{is_ascii_digit}
 use Rattle.std.specs.Str.Parse.{digits_value}
@@ -9,10 +9,12 @@ use Rattle.command_line.specs.Command.{command}
 use Rattle.command_line.specs.declared.accepted.Accepted.{Accepted}
 use Rattle.command_line.specs.declared.accepted.Settings.{Settings}
 use Rattle.command_line.specs.declared.accepted.Source.{Source as GivenSource}
+use Rattle.command_line.specs.declared.accepted.Source.TheVariants as sources
 
--- where a task comes from: a domain file and a problem file of these names
+-- where a task comes from: a domain file and a problem file of these names, or the made texts with so many balls
 pub data Source : Type 0 where
   Files : (domain problem : Text) → Source
+  Made : (balls : ℕ) → Source
 
 -- What accepted words ask for: where the task comes from, how it is made, and the name of the output file.
 pub record Asked : Type 0 where
@@ -21,7 +23,8 @@ pub record Asked : Type 0 where
   pub output : Text
 
 abbrev pub source_by : GivenSource → Source
-source_by s = Files s.domain.now s.problem.now
+source_by (sources.Files domain problem) = Files domain.now problem.now
+source_by (sources.Made balls) = Made balls
 
 abbrev pub asked_by : Accepted → Asked
 asked_by a = record { source = source_by a.source; settings = a.settings; output = a.output.now }
@@ -29,26 +32,32 @@ asked_by a = record { source = source_by a.source; settings = a.settings; output
 abbrev pub number_if : Bool → ℕ → Option ℕ
 number_if holds n = if holds then Some n else None
 
--- the number that these decimal digits write, and no other character, where it is no more than `most`
-abbrev pub number_up_to : ℕ → Text → Option ℕ
-number_up_to most text =
-    number_if (nat_lt 0 (length text) && (list_all is_ascii_digit text && nat_le (digits_value 10 text) most)) (digits_value 10 text)
+-- the number that these decimal digits write, and no other character, where it is one from `least` to `most`
+abbrev pub number_within : ℕ → ℕ → Text → Option ℕ
+number_within least most text =
+    number_if (nat_lt 0 (length text) && (list_all is_ascii_digit text && (nat_le least (digits_value 10 text) && nat_le (digits_value 10 text) most))) (digits_value 10 text)
 
 -- the number of candidates, where it is given and where it isn't
 abbrev pub candidates_of : Option Text → Option ℕ
 candidates_of None = Some 100000
-candidates_of (Some text) = number_up_to 2147483647 text
+candidates_of (Some text) = number_within 0 2147483647 text
 
--- both input files are named, and the number is one
-abbrev pub asked_with : Text → Option Text → Option Text → Option ℕ → Option Asked
-asked_with output (Some domain) (Some problem) (Some candidates) =
-    Some record { source = Files domain problem; settings = record { max_candidates = candidates }; output = output }
-asked_with output domain problem candidates = None
+-- both input files are named and no number of balls is given, or a number of balls is given and neither file is named
+abbrev pub source_of : Option Text → Option Text → Option Text → Option Source
+source_of (Some domain) (Some problem) None = Some (Files domain problem)
+source_of None None (Some balls) = option_map Made (number_within 1 200 balls)
+source_of domain problem balls = None
+
+-- there is a source, and the number of candidates is one
+abbrev pub asked_with : Text → Option Source → Option ℕ → Option Asked
+asked_with output (Some source) (Some candidates) =
+    Some record { source = source; settings = record { max_candidates = candidates }; output = output }
+asked_with output source candidates = None
 
 -- what the matches ask for, where the rules on them hold
 abbrev pub asked_of : List Row → Option Asked
 asked_of rows = asked_with (unwrap_or (first_of (codes "sas-file") rows) (codes "output.sas"))
-    (first_of (codes "domain") rows) (first_of (codes "problem") rows)
+    (source_of (first_of (codes "domain") rows) (first_of (codes "problem") rows) (first_of (codes "make") rows))
     (candidates_of (first_of (codes "invariant-generation-max-candidates") rows))
 
 -- nothing is wrong with the words

@@ -22,6 +22,7 @@ command = fold with_rule (new_app (codes "translate")) (
     ∷ position (codes "problem")
     ∷ option (codes "sas-file")
     ∷ option (codes "invariant-generation-max-candidates")
+    ∷ option (codes "make")
     ∷ flag (codes "keep-unimportant-variables")
     ∷ flag (codes "skip-variable-reordering")
     ∷ [])

@@ -4,18 +4,20 @@ ghost use Rattle.std.specs.Prelude.{◌≡◌, IfOk, map, option_map, string_byt
 ghost use Rattle.std.specs.List.{list_all};
 ghost use Rattle.std.specs.Char.{is_ascii_digit};
 ghost use Rattle.clap.specs.Words.{found_of, rows_of};
-ghost use Rattle.command_line.specs.Accepted.{accepted, asked_by, asked_of, number_up_to};
+ghost use Rattle.command_line.specs.Accepted.{accepted, asked_by, asked_of, number_within, source_by, source_of};
 
 use crate::command::command;
 use clap::ArgMatches;
 use clap::error::ErrorKind;
 use std::alloc::{AllocError, Global};
 
-/// Where a task comes from: the names of a domain file and of a problem file.
+/// Where a task comes from.
 #[derive(Clone, Copy, PartialEq, Eq)]
-pub struct Source<'a> {
-    pub domain: &'a str,
-    pub problem: &'a str,
+pub enum Source<'a> {
+    /// The files of these names.
+    Files { domain: &'a str, problem: &'a str },
+    /// The made texts with this number of balls, 1 to 200.
+    Made { balls: u32 },
 }
 
 /// How a task is made.
@@ -54,29 +56,52 @@ pub fn read_words<'a>(
 fn asked<'a>(matches: &ArgMatches<'a>) -> Option<Accepted<'a>>
     ensures { option_map asked_by result ≡ asked_of (rows_of (found_of matches.now)) }
 {
-    let domain = matches.get_str("domain")?;
-    let problem = matches.get_str("problem")?;
-    let output = matches.get_str("sas-file").unwrap_or("output.sas");
+    let source = chosen_source(
+        matches.get_str("domain"),
+        matches.get_str("problem"),
+        matches.get_str("make"),
+    )?;
     let max_candidates = match matches.get_str("invariant-generation-max-candidates") {
-        Some(digits) => number_at_most(2_147_483_647, digits)?,
+        Some(digits) => number_within(0, 2_147_483_647, digits)?,
         None => 100_000,
     };
     Some(Accepted {
-        source: Source { domain, problem },
+        source,
         settings: Settings { max_candidates },
-        output,
+        output: matches.get_str("sas-file").unwrap_or("output.sas"),
     })
 }
 
-/// The number that the text writes in decimal digits only, where it is no more than `most`.
-fn number_at_most(most: u32, text: &str) -> Option<u32>
-    ensures { result ≡ number_up_to most text.now }
+/// Where the task comes from, by the two names and the number of balls.
+fn chosen_source<'a>(
+    domain: Option<&'a str>,
+    problem: Option<&'a str>,
+    balls: Option<&'a str>,
+) -> Option<Source<'a>>
+    ensures { option_map source_by result ≡ source_of (option_map (λ name. name.now) domain.entry) (option_map (λ name. name.now) problem.entry) (option_map (λ digits. digits.now) balls.entry) }
+{
+    match (domain, problem, balls) {
+        (Some(domain), Some(problem), None) => Some(Source::Files { domain, problem }),
+        (None, None, Some(digits)) => Some(Source::Made {
+            balls: number_within(1, 200, digits)?,
+        }),
+        _ => None,
+    }
+}
+
+/// The number that the text writes in decimal digits only, where it is one from `least` to `most`.
+fn number_within(least: u32, most: u32, text: &str) -> Option<u32>
+    ensures { result ≡ number_within least most text.now }
 {
     if !is_digits(text) {
         return None;
     }
     match text.parse::<u32>() {
-        Ok(number) => if number <= most { Some(number) } else { None },
+        Ok(number) => if least <= number && number <= most {
+            Some(number)
+        } else {
+            None
+        },
         Err(_) => None,
     }
 }

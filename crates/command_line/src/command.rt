@@ -16,6 +16,7 @@ pub(crate) fn command<'a>(alloc: Global) -> Result<Command<'a>, AllocError>
         .arg(Arg::new(alloc, "problem"))?
         .arg(option(alloc, "sas-file"))?
         .arg(option(alloc, "invariant-generation-max-candidates"))?
+        .arg(option(alloc, "make"))?
         .arg(flag(alloc, "keep-unimportant-variables"))?
         .arg(flag(alloc, "skip-variable-reordering"))
 }

@@ -4,7 +4,7 @@ use crate::{Accepted, Settings, Source, read_words};
 use std::alloc::{AllocError, Global};
 
 /// Lines that are refused.
-static REFUSED: [&str; 36] = [
+static REFUSED: [&str; 48] = [
     // No word at all.
     "",
     "translate",
@@ -49,6 +49,20 @@ static REFUSED: [&str; 36] = [
     // An empty number.
     "translate d p --invariant-generation-max-candidates ''",
     "translate d p --invariant-generation-max-candidates=",
+    // Both names or a number of balls, and not both.
+    "translate --make 4 d p",
+    "translate d p --make 4",
+    "translate --make 4 d",
+    "translate d --make=4 p",
+    "translate --sas-file o",
+    // A number of balls is one from 1 to 200, in decimal digits only.
+    "translate --make",
+    "translate --make ''",
+    "translate --make=",
+    "translate --make 4 --make 4",
+    "translate --make 4 --make 5",
+    "translate --make 4 --invariant-generation-max-candidates 2147483648",
+    "translate d p --map-plan f",
 ];
 
 /// The fronts of two lines that a number ends.
@@ -116,6 +130,25 @@ static ACCEPTED_NUMBERS: [(&str, u32); 4] = [
     ("00000000000000000000009", 9),
 ];
 
+/// Numbers of balls that are refused.
+static REFUSED_BALLS: [&str; 9] = [
+    "0",
+    "00",
+    "201",
+    "4x",
+    "-1",
+    "+4",
+    "4.0",
+    "4294967297",
+    "18446744073709551617",
+];
+
+/// The fronts of two lines that a number of balls ends.
+static BEFORE_BALLS: [&str; 2] = ["translate --make ", "translate --make="];
+
+/// Numbers of balls that are accepted.
+static ACCEPTED_BALLS: [(&str, u32); 4] = [("1", 1), ("4", 4), ("0004", 4), ("200", 200)];
+
 #[test]
 fn refuses(rt: HostRuntime) -> Result<(), AllocError> {
     for line in REFUSED {
@@ -127,7 +160,10 @@ fn refuses(rt: HostRuntime) -> Result<(), AllocError> {
 #[test]
 fn refuses_numbers(rt: HostRuntime) -> Result<(), AllocError> {
     for digits in REFUSED_NUMBERS {
-        assert!(rt; reads_number(rt.alloc(), digits, None)?, "{digits}");
+        assert!(rt;
+            reads_number(rt.alloc(), &BEFORE_A_NUMBER, digits, None)?,
+            "{digits}"
+        );
     }
     Ok(())
 }
@@ -136,7 +172,7 @@ fn refuses_numbers(rt: HostRuntime) -> Result<(), AllocError> {
 fn accepts(rt: HostRuntime) -> Result<(), AllocError> {
     for (line, domain, problem, output) in ACCEPTED {
         let wanted = Accepted {
-            source: Source { domain, problem },
+            source: Source::Files { domain, problem },
             settings: Settings {
                 max_candidates: 100_000,
             },
@@ -151,14 +187,46 @@ fn accepts(rt: HostRuntime) -> Result<(), AllocError> {
 fn accepts_numbers(rt: HostRuntime) -> Result<(), AllocError> {
     for (digits, max_candidates) in ACCEPTED_NUMBERS {
         let wanted = Accepted {
-            source: Source {
+            source: Source::Files {
                 domain: "d",
                 problem: "p",
             },
             settings: Settings { max_candidates },
             output: "output.sas",
         };
-        assert!(rt; reads_number(rt.alloc(), digits, Some(wanted))?, "{digits}");
+        assert!(rt;
+            reads_number(rt.alloc(), &BEFORE_A_NUMBER, digits, Some(wanted))?,
+            "{digits}"
+        );
+    }
+    Ok(())
+}
+
+#[test]
+fn accepts_balls(rt: HostRuntime) -> Result<(), AllocError> {
+    for (digits, balls) in ACCEPTED_BALLS {
+        let wanted = Accepted {
+            source: Source::Made { balls },
+            settings: Settings {
+                max_candidates: 100_000,
+            },
+            output: "output.sas",
+        };
+        assert!(rt;
+            reads_number(rt.alloc(), &BEFORE_BALLS, digits, Some(wanted))?,
+            "{digits}"
+        );
+    }
+    Ok(())
+}
+
+#[test]
+fn refuses_balls(rt: HostRuntime) -> Result<(), AllocError> {
+    for digits in REFUSED_BALLS {
+        assert!(rt;
+            reads_number(rt.alloc(), &BEFORE_BALLS, digits, None)?,
+            "{digits}"
+        );
     }
     Ok(())
 }
@@ -169,13 +237,14 @@ fn reads(alloc: Global, line: &str, wanted: Option<Accepted<'_>>) -> Result<bool
     Ok(read_words(alloc, &words)? == wanted)
 }
 
-/// Whether both lines with this number are read as this.
+/// Whether both lines with these fronts and this number are read as this.
 fn reads_number(
     alloc: Global,
+    fronts: &[&str; 2],
     digits: &str,
     wanted: Option<Accepted<'_>>,
 ) -> Result<bool, AllocError> {
-    for front in BEFORE_A_NUMBER {
+    for front in fronts {
         if !reads(alloc, &joined(alloc, front, digits)?, wanted)? {
             return Ok(false);
         }

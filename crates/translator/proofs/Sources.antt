@@ -1,13 +1,13 @@
 -- How stages that read from a store follow one another, and what the source comes to by them.
 use Rattle.std.proofs.Common.{◌≡◌, ℕ, ◌≤◌, List, [], ◌∷◌, Result, Ok, Err, refl, sym, ap, ◌∙◌, subst, inl, inr}
-use Rattle.std.specs.Prelude.{Contains, IfSome, IsSomeAnd, IfOk, IfErr}
+use Rattle.std.specs.Prelude.{Contains, IfSome, IsSomeAnd, IfOk, IfErr, codes}
 use Rattle.std.specs.Result.{IsErrAnd}
 use Rattle.std.specs.declared.option.Option.{Option}
 use Rattle.std.specs.declared.option.Option.TheVariants.{Some, None}
-use Rattle.lists.proofs.Members.{member_first, member_later, member_single}
-use Rattle.tl_device.specs.Contents.{Contents}
+use Rattle.lists.proofs.Members.{no_member, member_first, member_later, member_single}
+use Rattle.tl_device.specs.Contents.{Contents, IsAskedFor}
 use Rattle.tl_device.specs.Causes.{Rose}
-use Rattle.command_line.specs.Accepted.{Asked, Files}
+use Rattle.command_line.specs.Accepted.{Asked, Files, Made as OfBalls}
 use Rattle.command_line.specs.declared.accepted.Settings.{Settings}
 use Rattle.type_checker.specs.Checked.{Pair}
 use Rattle.invariant_guess.specs.declared.types.Found.{Found}
@@ -19,8 +19,8 @@ use Rattle.translator.specs.declared.outcome.End.TheVariants as ends
 use Rattle.translator.specs.Ending.{Ending, Gives, Absent, Refused, ◌>>=◌}
 use Rattle.translator.specs.declared.outcome.Summary.{Summary}
 use Rattle.translator.specs.RunTask.{Output, summary_of, output_of}
-use Rattle.translator.specs.Run.{Text, text, read, of_texts, of_source, inputs, ComesTo, no_file, faulty, made}
-use Rattle.translator.specs.Store.{Store, IsUntouched}
+use Rattle.translator.specs.Run.{Text, text, read, of_texts, of_source, inputs, titles, names_read, made_domain, made_problem, ComesTo, no_file, faulty, made}
+use Rattle.translator.specs.Store.{Store, IsUntouched, AsksForNoOther}
 use Rattle.translator.specs.Call.{Ends, misused, starved, unread, refused}
 use Rattle.translator.specs.Outcome.{Outcome, status_of, line_of}
 use Rattle.translator.specs.Stages.{IsRefusal, StopsWhere, StopsReading, IsRead, IsMadeOf}
@@ -58,14 +58,24 @@ untouched_twice before mid now first second =
       writes = second.writes ∙ first.writes;
     }
 
+-- these names are among those
+abbrev pub IsWithin : List (List ℕ) → List (List ℕ) → Type 0
+IsWithin names others = (name : List ℕ) → Contains names name → Contains others name
+
+-- what the first stage asks for and what the second does
+pub asks_too : (before mid now : Store) (names names' all : List (List ℕ)) → IsWithin names all → IsWithin names' all → AsksForNoOther before mid names → AsksForNoOther mid now names' → AsksForNoOther before now all
+asks_too before mid now names names' all wider wider' first (inr later) = inr (later.0, wider' later.0 later.1, later.2)
+asks_too before mid now names names' all wider wider' (inl same) (inl same') = inl (same' ∙ same)
+asks_too before mid now names names' all wider wider' (inr earlier) (inl same') = inr (earlier.0, wider earlier.0 earlier.1, subst (λ (a : Option (List ℕ)). IsAskedFor a earlier.0) (sym same') earlier.2)
+
 -- where the second stage gives nothing, the whole does as it, if it has to where the files are told
-pub stops_later : {A B : Type 0} (before mid now : Store) (names names' : List (List ℕ)) (Comes : Contents → Ending A → Type 0) (Comes' : Contents → Ending B → Type 0)
-    → IsUntouched before mid → mid.reads ≡ before.reads → ((name : List ℕ) → Contains names name → Contains names' name) → IfSome before.files (λ held. Leads (Comes held) (Comes' held))
-    → (end : End) → StopsReading mid now names Comes end → StopsReading before now names' Comes' end
-stops_later before mid now names names' Comes Comes' untouched reads wider leads ends.NoMemory stops = stops ∙ reads
-stops_later before mid now names names' Comes Comes' untouched reads wider leads ends.Usage stops = absurd stops
-stops_later before mid now names names' Comes Comes' untouched reads wider leads (ends.CannotWrite name) stops = absurd stops
-stops_later before mid now names names' Comes Comes' untouched reads wider leads (ends.CannotRead name) stops =
+pub stops_later : {A B : Type 0} (before mid now : Store) (names titles names' titles' : List (List ℕ)) (Comes : Contents → Ending A → Type 0) (Comes' : Contents → Ending B → Type 0)
+    → IsUntouched before mid → mid.reads ≡ before.reads → IsWithin names names' → IsWithin titles titles' → IfSome before.files (λ held. Leads (Comes held) (Comes' held))
+    → (end : End) → StopsReading mid now names titles Comes end → StopsReading before now names' titles' Comes' end
+stops_later before mid now names titles names' titles' Comes Comes' untouched reads wider wider' leads ends.NoMemory stops = stops ∙ reads
+stops_later before mid now names titles names' titles' Comes Comes' untouched reads wider wider' leads ends.Usage stops = absurd stops
+stops_later before mid now names titles names' titles' Comes Comes' untouched reads wider wider' leads (ends.CannotWrite name) stops = absurd stops
+stops_later before mid now names titles names' titles' Comes Comes' untouched reads wider wider' leads (ends.CannotRead name) stops =
     record {
       input = wider name.now stops.input;
       last = stops.last;
@@ -76,9 +86,9 @@ stops_later before mid now names names' Comes Comes' untouched reads wider leads
             (λ held lead. lead.absent name.now) leads (subst (λ (f : Option Contents). IsSomeAnd f (λ held. Comes held (Absent name.now))) untouched.files absent))
       ];
     }
-stops_later before mid now names names' Comes Comes' untouched reads wider leads (ends.Refused name message) stops =
+stops_later before mid now names titles names' titles' Comes Comes' untouched reads wider wider' leads (ends.Refused name message) stops =
     record {
-      input = wider name.now stops.input;
+      input = wider' name.now stops.input;
       reads = stops.reads ∙ reads;
       told = both_told (λ held. Leads (Comes held) (Comes' held)) (λ held. Comes held (Refused name.now message)) (λ held. Comes' held (Refused name.now message)) before.files
           (λ held lead. lead.refused name.now message) leads (subst (λ (f : Option Contents). IfSome f (λ held. Comes held (Refused name.now message))) untouched.files stops.told);
@@ -104,21 +114,21 @@ module _ (domain problem : List ℕ) where
   second : (held : Contents) (d : Text) → read held domain ≡ Gives d → of_source held (Files domain problem) ≡ (read held problem >>= of_texts d)
   second held d is = goes_on (of_source held (Files domain problem)) (read held domain) (AfterDomain held) (begins held) d is
 
-  among_first : (name : List ℕ) → Contains (domain ∷ []) name → Contains Names name
+  among_first : IsWithin (domain ∷ []) Names
   among_first name in' = subst (Contains Names) (member_single domain name in') (member_first domain (problem ∷ []))
 
-  among_second : (name : List ℕ) → Contains (problem ∷ []) name → Contains Names name
+  among_second : IsWithin (problem ∷ []) Names
   among_second name in' = member_later domain name (problem ∷ []) in'
 
-  pub stops_at_domain : (before now : Store) (end : End) → StopsReading before now (domain ∷ []) (λ held e. read held domain ≡ e) end → StopsReading before now Names (λ held e. of_source held (Files domain problem) ≡ e) end
+  pub stops_at_domain : (before now : Store) (end : End) → StopsReading before now (domain ∷ []) (domain ∷ []) (λ held e. read held domain ≡ e) end → StopsReading before now Names Names (λ held e. of_source held (Files domain problem) ≡ e) end
   stops_at_domain before now =
-      stops_later before before now (domain ∷ []) Names (λ held e. read held domain ≡ e) (λ held e. of_source held (Files domain problem) ≡ e) (same_store before) refl among_first
+      stops_later before before now (domain ∷ []) (domain ∷ []) Names Names (λ held e. read held domain ≡ e) (λ held e. of_source held (Files domain problem) ≡ e) (same_store before) refl among_first among_first
       (always _ before.files (λ held. first_leads (of_source held (Files domain problem)) (read held domain) (AfterDomain held) (begins held)))
 
   module _ (before mid : Store) (bytes : List ℕ) (untouched : IsUntouched before mid) (is : IsRead before mid (λ held. read held domain ≡ Gives (text domain bytes))) where
-    pub stops_at_problem : (now : Store) (end : End) → StopsReading mid now (problem ∷ []) (λ held e. read held problem ≡ e) end → StopsReading before now Names (λ held e. of_source held (Files domain problem) ≡ e) end
+    pub stops_at_problem : (now : Store) (end : End) → StopsReading mid now (problem ∷ []) (problem ∷ []) (λ held e. read held problem ≡ e) end → StopsReading before now Names Names (λ held e. of_source held (Files domain problem) ≡ e) end
     stops_at_problem now =
-        stops_later before mid now (problem ∷ []) Names (λ held e. read held problem ≡ e) (λ held e. of_source held (Files domain problem) ≡ e) untouched is.0 among_second
+        stops_later before mid now (problem ∷ []) (problem ∷ []) Names Names (λ held e. read held problem ≡ e) (λ held e. of_source held (Files domain problem) ≡ e) untouched is.0 among_second among_second
         (if_told (λ held. read held domain ≡ Gives (text domain bytes)) _ before.files
         (λ held gives. first_leads (of_source held (Files domain problem)) (read held problem) (of_texts (text domain bytes)) (second held (text domain bytes) gives)) is.1)
 
@@ -132,6 +142,13 @@ module _ (domain problem : List ℕ) where
                 (λ held gives gives'. goes_on (of_source held (Files domain problem)) (read held problem) (of_texts (text domain bytes)) (second held (text domain bytes) gives) (text problem other) gives') is.1 later.1,
           )
 
+  -- the two files are asked for
+  pub asks_for_domain : (before now : Store) → AsksForNoOther before now (domain ∷ []) → AsksForNoOther before now Names
+  asks_for_domain before now asks = asks_too before before now [] (domain ∷ []) Names (λ name in'. absurd (no_member name in')) among_first (inl refl) asks
+
+  pub asks_for_both : (before mid now : Store) → AsksForNoOther before mid (domain ∷ []) → AsksForNoOther mid now (problem ∷ []) → AsksForNoOther before now Names
+  asks_for_both before mid now = asks_too before mid now (domain ∷ []) (problem ∷ []) Names among_first among_second
+
   -- texts that are handed on as they were read
   module _ (before now : Store) (bytes other bytes' other' : List ℕ) (same : bytes' ≡ bytes) (same' : other' ≡ other) (is : IsRead before now (λ held. of_source held (Files domain problem) ≡ of_texts (text domain bytes) (text problem other))) where
     handed_on : IsRead before now (λ held. of_source held (Files domain problem) ≡ of_texts (text domain bytes') (text problem other'))
@@ -139,7 +156,7 @@ module _ (domain problem : List ℕ) where
         let one = subst (λ (b : List ℕ). IsRead before now (λ held. of_source held (Files domain problem) ≡ of_texts (text domain b) (text problem other))) (sym same) is in
         subst (λ (b : List ℕ). IsRead before now (λ held. of_source held (Files domain problem) ≡ of_texts (text domain bytes') (text problem b))) (sym same') one
 
-    texts_stop : (end : End) → StopsWhere (of_texts (text domain bytes') (text problem other')) end → StopsReading before now Names (λ held e. of_source held (Files domain problem) ≡ e) end
+    texts_stop : (end : End) → StopsWhere (of_texts (text domain bytes') (text problem other')) end → StopsReading before now Names Names (λ held e. of_source held (Files domain problem) ≡ e) end
     texts_stop ends.NoMemory stops = is.0
     texts_stop (ends.Refused name message) stops =
         record {
@@ -152,7 +169,7 @@ module _ (domain problem : List ℕ) where
     texts_stop (ends.CannotRead name) stops = absurd stops
     texts_stop (ends.CannotWrite name) stops = absurd stops
 
-    pub texts_stop_so : (result : Result Made End) → IfErr result (StopsWhere (of_texts (text domain bytes') (text problem other'))) → IfErr result (StopsReading before now Names (λ held e. of_source held (Files domain problem) ≡ e))
+    pub texts_stop_so : (result : Result Made End) → IfErr result (StopsWhere (of_texts (text domain bytes') (text problem other'))) → IfErr result (StopsReading before now Names Names (λ held e. of_source held (Files domain problem) ≡ e))
     texts_stop_so (Ok value) stops = tt
     texts_stop_so (Err end) stops = texts_stop end stops
 
@@ -165,13 +182,45 @@ module _ (domain problem : List ℕ) where
     )
     texts_made_so settings (Err end) is_made = tt
 
+-- ---- made texts
+
+module _ (balls : ℕ) (before : Store) where
+  abbrev Comes : Contents → Ending Pair → Type 0
+  Comes held e = of_source held (OfBalls balls) ≡ e
+
+  comes_to_texts : (held : Contents) → of_source held (OfBalls balls) ≡ of_texts made_domain (made_problem balls)
+  unfolding of_source
+  comes_to_texts held = refl
+
+  made_stops : (end : End) → StopsWhere (of_texts made_domain (made_problem balls)) end → StopsReading before before [] (titles (OfBalls balls)) Comes end
+  made_stops ends.NoMemory stops = refl
+  made_stops (ends.Refused name message) stops =
+      record {
+        input = refused_of (titles (OfBalls balls)) (of_texts made_domain (made_problem balls)) name.now message
+            (texts_told (titles (OfBalls balls)) made_domain (made_problem balls) (member_first (codes "domain") (codes "problem" ∷ [])) (member_later (codes "domain") (codes "problem") (codes "problem" ∷ []) (member_first (codes "problem") []))) stops;
+        reads = refl;
+        told = always _ before.files (λ held. comes_to_texts held ∙ stops);
+      }
+  made_stops ends.Usage stops = absurd stops
+  made_stops (ends.CannotRead name) stops = absurd stops
+  made_stops (ends.CannotWrite name) stops = absurd stops
+
+  pub made_stops_so : (result : Result Made End) → IfErr result (StopsWhere (of_texts made_domain (made_problem balls))) → IfErr result (StopsReading before before [] (titles (OfBalls balls)) Comes)
+  made_stops_so (Ok value) stops = tt
+  made_stops_so (Err end) stops = made_stops end stops
+
+  pub made_so : (settings : Settings) (result : Result Made End) → IfOk result (λ made. IsMadeOf (of_texts made_domain (made_problem balls)) settings made.found made.task)
+      → IfOk result (λ made. IsRead before before (λ held. IsMadeOf (of_source held (OfBalls balls)) settings made.found made.task))
+  made_so settings (Ok it) is_made = (refl, always _ before.files (λ held. subst (λ (e : Ending Pair). IsMadeOf e settings it.found it.task) (sym (comes_to_texts held)) is_made))
+  made_so settings (Err end) is_made = tt
+
 -- ---- the run
 
 module _ (asked : Asked) where
   -- what stops the source stops the run
-  pub run_stops : (before now : Store) (end : End) → StopsReading before now (inputs asked.source) (λ held e. of_source held asked.source ≡ e) end → StopsReading before now (inputs asked.source) (λ held. ComesTo held asked) end
+  pub run_stops : (before now : Store) (end : End) → StopsReading before now (inputs asked.source) (titles asked.source) (λ held e. of_source held asked.source ≡ e) end → StopsReading before now (inputs asked.source) (titles asked.source) (λ held. ComesTo held asked) end
   run_stops before now =
-      stops_later before before now (inputs asked.source) (inputs asked.source) (λ held e. of_source held asked.source ≡ e) (λ held. ComesTo held asked) (same_store before) refl (λ name in'. in')
+      stops_later before before now (inputs asked.source) (titles asked.source) (inputs asked.source) (titles asked.source) (λ held e. of_source held asked.source ≡ e) (λ held. ComesTo held asked) (same_store before) refl (λ name in'. in') (λ name in'. in')
       (always _ before.files (λ held. record { absent = no_file; refused = faulty }))
 
   comes_made : (held : Contents) (found : Found) (task : Task) (e : Ending Pair) → of_source held asked.source ≡ e → IsMadeOf e asked.settings found task → ComesTo held asked (Gives (output_of found task))
@@ -189,6 +238,15 @@ module _ (asked : Asked) where
         if_told (λ held. IsMadeOf (of_source held asked.source) asked.settings found task) _ before.files
             (λ held is_made. subst (λ (o : Output). ComesTo held asked (Gives o)) same (comes_made held found task (of_source held asked.source) refl is_made)) made_so.1,
       )
+
+-- ---- what is asked for
+
+pub asks_as_named : (before now : Store) (words : Option Asked) (asked : Asked) → words ≡ Some asked → AsksForNoOther before now (inputs asked.source) → AsksForNoOther before now (names_read words)
+asks_as_named before now words asked named asks = subst (λ (w : Option Asked). AsksForNoOther before now (names_read w)) (sym named) asks
+
+-- nothing was asked for after that
+pub asks_before : (before mid now : Store) (names : List (List ℕ)) → AsksForNoOther before mid names → now.asked ≡ mid.asked → AsksForNoOther before now names
+asks_before before mid now names asks same = asks_too before mid now names [] names (λ name in'. in') (λ name in'. absurd (no_member name in')) asks (inl same)
 
 -- ---- how the work ends where nothing is written
 
@@ -209,7 +267,7 @@ unaccepted before words (ends.CannotWrite name) refusal = absurd refusal
 unaccepted before words (ends.Refused name message) refusal = absurd refusal
 
 pub stopped : (before now : Store) (words : Option Asked) (asked : Asked) → words ≡ Some asked → IsUntouched before now
-    → (end : End) → StopsReading before now (inputs asked.source) (λ held. ComesTo held asked) end → Ends before now words (status_of (Err end)) (line_of (Err end))
+    → (end : End) → StopsReading before now (inputs asked.source) (titles asked.source) (λ held. ComesTo held asked) end → Ends before now words (status_of (Err end)) (line_of (Err end))
 stopped before now words asked named untouched ends.NoMemory stops = starved untouched stops
 stopped before now words asked named untouched (ends.CannotRead name) stops = unread asked name.now named untouched stops
 stopped before now words asked named untouched (ends.Refused name message) stops = refused asked name.now message named untouched stops

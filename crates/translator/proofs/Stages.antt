@@ -1,6 +1,6 @@
 -- How stages on values follow one another: the run ends as the first of them that gives nothing.
-use Rattle.std.proofs.Common.{◌≡◌, ◌≢◌, ℕ, List, [], ◌∷◌, Result, Ok, Err, refl, sym, ap, ◌∙◌, subst}
-use Rattle.std.specs.Prelude.{Contains, IfErr}
+use Rattle.std.proofs.Common.{◌≡◌, ◌≢◌, ℕ, List, [], ◌∷◌, Result, Ok, Err, refl, sym, ap, ap₂, ◌∙◌, subst}
+use Rattle.std.specs.Prelude.{Contains, IfErr, codes}
 use Rattle.std.specs.Result.{IsErrAnd}
 use Rattle.std.specs.declared.option.Option.TheVariants.{Some, None}
 use Rattle.pddl_lexer.specs.Members.{Members}
@@ -25,7 +25,7 @@ use Rattle.translator.specs.declared.outcome.Message.TheVariants as messages
 use Rattle.translator.specs.declared.outcome.End.{End}
 use Rattle.translator.specs.declared.outcome.End.TheVariants as ends
 use Rattle.translator.specs.Ending.{Ending, Gives, Absent, Refused, ◌>>=◌, unless}
-use Rattle.translator.specs.Run.{Text, tree_of, said, on_side, unless_checked, of_texts}
+use Rattle.translator.specs.Run.{Text, text, made_domain, made_problem, tree_of, said, on_side, unless_checked, of_texts}
 use Rattle.translator.specs.Stages.{StopsWhere}
 
 -- ---- one stage
@@ -143,6 +143,11 @@ module _ (domain problem : Text) where
 
         pub stops_in_check : (p : Problem) → said problem.name (problem_reading u) ≡ Gives p → (end : End) → StopsWhere (Checks d p) end → StopsWhere (of_texts domain problem) end
         stops_in_check p reads' end stops = subst (λ (e : Ending Pair). StopsWhere e end) (sym (comes_to_check p reads')) stops
+
+-- the made texts, by their bytes
+pub made_texts_are : (domain problem : List ℕ) (balls : ℕ) → domain ≡ made_domain.bytes → problem ≡ (made_problem balls).bytes
+    → of_texts (text (codes "domain") domain) (text (codes "problem") problem) ≡ of_texts made_domain (made_problem balls)
+made_texts_are domain problem balls is is' = ap₂ (λ (d : List ℕ) (p : List ℕ). of_texts (text (codes "domain") d) (text (codes "problem") p)) is is'
 
 -- ---- of which file it is told
 

@@ -11,7 +11,7 @@ use Rattle.translator.specs.declared.outcome.Status.{Status}
 use Rattle.translator.specs.declared.outcome.Status.TheVariants as statuses
 use Rattle.translator.specs.Ending.{Gives, Absent, Refused}
 use Rattle.translator.specs.RunTask.{Output}
-use Rattle.translator.specs.Run.{ComesTo, inputs}
+use Rattle.translator.specs.Run.{ComesTo, inputs, titles}
 use Rattle.translator.specs.Store.{Store, IsUntouched, Screen}
 use Rattle.translator.specs.Messages.{usage_line, memory_line, unreadable_line, unwritable_line, refusal_line, summary_lines}
 
@@ -22,7 +22,7 @@ pub record IsUnread (before now : Store) (names : List (List ℕ)) (name : List 
   pub later : before.reads ≤ now.reads
   pub cause : Rose before.reads now.reads ⊎ IsSomeAnd before.files IsAbsent
 
--- The file of this name, which is one of these, is refused, and where the files are told it has to be.
+-- The text of this name, which is one of these, is refused, and where the files are told it has to be.
 pub record IsRefused (before now : Store) (names : List (List ℕ)) (name : List ℕ) (HasFault : Contents → Type 0) : Type 0 where
   pub input : Contains names name
   pub reads : now.reads ≡ before.reads
@@ -53,7 +53,7 @@ pub data Ends (before now : Store) (words : Option Asked) : Status → List ℕ 
   unread : (asked : Asked) (name : List ℕ) → words ≡ Some asked → IsUntouched before now
       → IsUnread before now (inputs asked.source) name (λ held. ComesTo held asked (Absent name)) → Ends before now words statuses.Device (unreadable_line name)
   refused : (asked : Asked) (name : List ℕ) (message : Message) → words ≡ Some asked → IsUntouched before now
-      → IsRefused before now (inputs asked.source) name (λ held. ComesTo held asked (Refused name message)) → Ends before now words statuses.InputFault (refusal_line name message)
+      → IsRefused before now (titles asked.source) name (λ held. ComesTo held asked (Refused name message)) → Ends before now words statuses.InputFault (refusal_line name message)
   unwritten : (asked : Asked) (output : Output) → words ≡ Some asked → IsUnwritten before now asked output → Ends before now words statuses.Device (unwritable_line asked.output)
   written : (asked : Asked) (output : Output) → words ≡ Some asked → IsWritten before.files now.files asked output
       → now.reads ≡ before.reads → now.writes ≡ before.writes → Ends before now words statuses.Done (summary_lines output.summary)

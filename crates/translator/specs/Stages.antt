@@ -55,9 +55,9 @@ IsMadeOf (Refused name message) settings found task = ⊥
 abbrev pub IsRead : Store → Store → (Contents → Type 0) → Type 0
 IsRead before now P = (now.reads ≡ before.reads) × IfSome before.files P
 
--- why there is nothing to go on with, where these files are read, and where they are told, the stage comes to this
-abbrev pub StopsReading : {A : Type 0} → Store → Store → List (List ℕ) → (Contents → Ending A → Type 0) → End → Type 0
-StopsReading before now names Comes ends.NoMemory = now.reads ≡ before.reads
-StopsReading before now names Comes (ends.CannotRead name) = IsUnread before now names name.now (λ held. Comes held (Absent name.now))
-StopsReading before now names Comes (ends.Refused name message) = IsRefused before now names name.now (λ held. Comes held (Refused name.now message))
-StopsReading before now names Comes end = ⊥
+-- why there is nothing to go on with, where these files are read, faults are told of these names, and where the files are told, the stage comes to this
+abbrev pub StopsReading : {A : Type 0} → Store → Store → (names titles : List (List ℕ)) → (Contents → Ending A → Type 0) → End → Type 0
+StopsReading before now names titles Comes ends.NoMemory = now.reads ≡ before.reads
+StopsReading before now names titles Comes (ends.CannotRead name) = IsUnread before now names name.now (λ held. Comes held (Absent name.now))
+StopsReading before now names titles Comes (ends.Refused name message) = IsRefused before now titles name.now (λ held. Comes held (Refused name.now message))
+StopsReading before now names titles Comes end = ⊥

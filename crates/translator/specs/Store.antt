@@ -1,7 +1,7 @@
 -- What a store and a console tell at a time.
-use Rattle.std.specs.Prelude.{◌≡◌, ℕ, Bool, List}
+use Rattle.std.specs.Prelude.{◌≡◌, ◌⊎◌, ℕ, Bool, List, Contains}
 use Rattle.std.specs.declared.option.Option.{Option}
-use Rattle.tl_device.specs.Contents.{Contents}
+use Rattle.tl_device.specs.Contents.{Contents, IsAskedFor}
 use Rattle.tl_device.specs.declared.device.Files.{Ghosts}
 use Rattle.tl_device.specs.declared.device.Console.{Ghosts as ConsoleGhosts}
 
@@ -34,6 +34,10 @@ pub record IsUntouched (before now : Store) : Type 0 where
   pub writing : now.writing ≡ before.writing
   pub created : now.created ≡ before.created
   pub writes : now.writes ≡ before.writes
+
+-- No file was asked for but these: the name that was asked for last is as before, or is one of these names.
+abbrev pub AsksForNoOther : Store → Store → List (List ℕ) → Type 0
+AsksForNoOther before now names = (now.asked ≡ before.asked) ⊎ ((name : List ℕ) × Contains names name × IsAskedFor now.asked name)
 
 -- what a console tells
 pub record Screen : Type 0 where

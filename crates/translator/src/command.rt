@@ -7,9 +7,9 @@ ghost use Rattle.tl_device.specs.Contents.{IsTold, OthersStay};
 ghost use Rattle.translator.specs.declared.outcome.Message.{Message};
 ghost use Rattle.translator.specs.declared.outcome.Summary.{Summary};
 ghost use Rattle.translator.specs.Ending.{Absent, Refused};
-ghost use Rattle.translator.specs.Run.{RunsTo, LacksFile, HasFault, asked_by_words};
+ghost use Rattle.translator.specs.Run.{RunsTo, LacksFile, HasFault, asked_by_words, names_read};
 ghost use Rattle.translator.specs.RunTask.{Output};
-ghost use Rattle.translator.specs.Store.{store, screen, IsUntouched};
+ghost use Rattle.translator.specs.Store.{store, screen, IsUntouched, AsksForNoOther};
 ghost use Rattle.translator.specs.Messages.{summary_lines, refusal_line, unreadable_line, usage_line, memory_line};
 ghost use Rattle.translator.specs.Call.{Called, Printed, IsWritten, IsWrittenInPart};
 ghost use Rattle.translator.specs.Outcome.{status_of, line_of};
@@ -60,6 +60,9 @@ pub fn translate<F: Files, C: Console>(
     ensures done { result ≡ Status.Done → IsSomeAnd (asked_by_words words.items) (λ asked. (output : Output)
         × (IsWritten (F.files files.old) (F.files files.new) asked output × (C.printed console.new ≡ append_known (C.printed console.old) (summary_lines output.summary)))) }
 
+    // No file is asked for but those that the words name: none where they are refused, or with made texts.
+    ensures asks { AsksForNoOther (store F.Files files.old) (store F.Files files.new) (names_read (asked_by_words words.items)) }
+
     // What stands afterwards.
     ensures untouched { result ≢ Status.Done → result ≢ Status.Device → IsUntouched (store F.Files files.old) (store F.Files files.new) }
     // So it is, whatever the answer, where the words were refused, a read failed, a file is absent or there is a fault.
@@ -98,7 +101,8 @@ fn called<F: Files, C: Console>(
     files: &mut F,
     console: &mut C,
 ) -> Status
-    ensures { Called (store F.Files files.old) (store F.Files files.new) (asked_by_words words.now.items) (screen C.Console console.old) (screen C.Console console.new) result }
+    ensures called { Called (store F.Files files.old) (store F.Files files.new) (asked_by_words words.now.items) (screen C.Console console.old) (screen C.Console console.new) result }
+    ensures asks { AsksForNoOther (store F.Files files.old) (store F.Files files.new) (names_read (asked_by_words words.now.items)) }
 {
     let outcome = work(alloc, words, files);
     told(console, &outcome)

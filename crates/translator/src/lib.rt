@@ -3,6 +3,7 @@
 
 mod command;
 mod law;
+pub mod laws;
 mod message;
 mod outcome;
 mod process;

@@ -81,6 +81,24 @@ pub(crate) fn task_of<'n>(
     Ok(Made { found, task })
 }
 
+/// The task that the made texts with this number of balls mean.
+pub(crate) fn made_task<'n>(alloc: Global, balls: u32, settings: Settings) -> Result<Made, End<'n>>
+    ensures ok { IfOk result (λ made. IsMadeOf (run.of_texts run.made_domain (run.made_problem balls)) settings made.found made.task) }
+    ensures err { IfErr result (StopsWhere (run.of_texts run.made_domain (run.made_problem balls))) }
+{
+    let domain_bytes = made_texts::domain(alloc)?;
+    let problem_bytes = made_texts::problem(alloc, balls)?;
+    let domain = Input {
+        name: "domain",
+        bytes: &domain_bytes,
+    };
+    let problem = Input {
+        name: "problem",
+        bytes: &problem_bytes,
+    };
+    task_of(alloc, &domain, &problem, settings)
+}
+
 /// The one nested list of a text.
 fn tree_of<'n, 'b>(alloc: Global, text: &Input<'n, 'b>) -> Result<Tree<'b>, End<'n>>
     ensures { Answers (run.tree_of (text_by text.now)) result }

@@ -3,17 +3,17 @@
 ghost use Rattle.std.specs.Prelude.{◌≡◌, ◌⊎◌, [], ◌∷◌, Some, OnOk, OnErr, IfOk, IfErr};
 ghost use Rattle.tl_device.specs.Causes.{HasCause};
 ghost use Rattle.tl_device.specs.Contents.{GrownInPart, emptied, grown};
-ghost use Rattle.command_line.specs.Accepted.{asked_by};
+ghost use Rattle.command_line.specs.Accepted.{Files as OfFiles, asked_by};
 ghost use Rattle.translator.specs.Ending.{Gives};
-ghost use Rattle.translator.specs.Run.{asked_by_words, text, read, of_source, inputs, ComesTo};
-ghost use Rattle.translator.specs.Store.{store, IsUntouched};
+ghost use Rattle.translator.specs.Run.{asked_by_words, text, read, of_source, inputs, titles, names_read, ComesTo};
+ghost use Rattle.translator.specs.Store.{store, IsUntouched, AsksForNoOther};
 ghost use Rattle.translator.specs.Call.{Ends};
 ghost use Rattle.translator.specs.Outcome.{status_of, line_of};
 ghost use Rattle.translator.specs.Stages.{IsRefusal, IsRead, IsMadeOf, StopsReading, output_by};
 
 use crate::outcome::{End, Message, Summary};
-use crate::translation::{Input, Made, summary, task_of};
-use command_line::{Accepted, Source, read_words};
+use crate::translation::{Input, Made, made_task, summary, task_of};
+use command_line::{Accepted, Settings, Source, read_words};
 use pddl_lexer::{Fault, Kind};
 use sas_writer::text_of;
 use std::alloc::Global;
@@ -35,7 +35,8 @@ pub(crate) fn work<'a, F: Files>(
     words: &'a Vec<String>,
     files: &mut F,
 ) -> Result<Summary, End<'a>>
-    ensures { Ends (store F.Files files.old) (store F.Files files.new) (asked_by_words words.now.items) (status_of result) (line_of result) }
+    ensures ends { Ends (store F.Files files.old) (store F.Files files.new) (asked_by_words words.now.items) (status_of result) (line_of result) }
+    ensures asks { AsksForNoOther (store F.Files files.old) (store F.Files files.new) (names_read (asked_by_words words.now.items)) }
 {
     let accepted = accepted(alloc, words)?;
     let written = prepared(alloc, &accepted, files)?;
@@ -64,8 +65,9 @@ fn prepared<'a, F: Files>(
     files: &mut F,
 ) -> Result<Written, End<'a>>
     ensures ok { IfOk result (λ written. IsRead (store F.Files files.old) (store F.Files files.new) (λ held. ComesTo held (asked_by accepted.now) (Gives (output_by written)))) }
-    ensures err { IfErr result (StopsReading (store F.Files files.old) (store F.Files files.new) (inputs (asked_by accepted.now).source) (λ held. ComesTo held (asked_by accepted.now))) }
+    ensures err { IfErr result (StopsReading (store F.Files files.old) (store F.Files files.new) (inputs (asked_by accepted.now).source) (titles (asked_by accepted.now).source) (λ held. ComesTo held (asked_by accepted.now))) }
     ensures untouched { IsUntouched (store F.Files files.old) (store F.Files files.new) }
+    ensures asks { AsksForNoOther (store F.Files files.old) (store F.Files files.new) (inputs (asked_by accepted.now).source) }
 {
     let made = made(alloc, accepted, files)?;
     let text = text_of(alloc, &made.task)?;
@@ -82,10 +84,31 @@ fn made<'a, F: Files>(
     files: &mut F,
 ) -> Result<Made, End<'a>>
     ensures ok { IfOk result (λ made. IsRead (store F.Files files.old) (store F.Files files.new) (λ held. IsMadeOf (of_source held (asked_by accepted.now).source) accepted.now.settings made.found made.task)) }
-    ensures err { IfErr result (StopsReading (store F.Files files.old) (store F.Files files.new) (inputs (asked_by accepted.now).source) (λ held e. of_source held (asked_by accepted.now).source ≡ e)) }
+    ensures err { IfErr result (StopsReading (store F.Files files.old) (store F.Files files.new) (inputs (asked_by accepted.now).source) (titles (asked_by accepted.now).source) (λ held e. of_source held (asked_by accepted.now).source ≡ e)) }
     ensures untouched { IsUntouched (store F.Files files.old) (store F.Files files.new) }
+    ensures asks { AsksForNoOther (store F.Files files.old) (store F.Files files.new) (inputs (asked_by accepted.now).source) }
 {
-    let Source { domain, problem } = accepted.source;
+    match accepted.source {
+        Source::Files { domain, problem } => {
+            task_of_files(alloc, domain, problem, accepted.settings, files)
+        }
+        Source::Made { balls } => made_task(alloc, balls, accepted.settings),
+    }
+}
+
+/// The task that the two files mean.
+fn task_of_files<'a, F: Files>(
+    alloc: Global,
+    domain: &'a str,
+    problem: &'a str,
+    settings: Settings,
+    files: &mut F,
+) -> Result<Made, End<'a>>
+    ensures ok { IfOk result (λ made. IsRead (store F.Files files.old) (store F.Files files.new) (λ held. IsMadeOf (of_source held (OfFiles domain.now problem.now)) settings made.found made.task)) }
+    ensures err { IfErr result (StopsReading (store F.Files files.old) (store F.Files files.new) (domain.now ∷ problem.now ∷ []) (domain.now ∷ problem.now ∷ []) (λ held e. of_source held (OfFiles domain.now problem.now) ≡ e)) }
+    ensures untouched { IsUntouched (store F.Files files.old) (store F.Files files.new) }
+    ensures asks { AsksForNoOther (store F.Files files.old) (store F.Files files.new) (domain.now ∷ problem.now ∷ []) }
+{
     let domain_bytes = read_input(alloc, files, domain)?;
     let problem_bytes = read_input(alloc, files, problem)?;
     let domain = Input {
@@ -96,14 +119,15 @@ fn made<'a, F: Files>(
         name: problem,
         bytes: &problem_bytes,
     };
-    task_of(alloc, &domain, &problem, accepted.settings)
+    task_of(alloc, &domain, &problem, settings)
 }
 
 /// The bytes of an input file.
 fn read_input<'a, F: Files>(alloc: Global, files: &mut F, name: &'a str) -> Result<Vec<u8>, End<'a>>
     ensures ok { IfOk result (λ bytes. IsRead (store F.Files files.old) (store F.Files files.new) (λ held. read held name.now ≡ Gives (text name.now bytes.items))) }
-    ensures err { IfErr result (StopsReading (store F.Files files.old) (store F.Files files.new) (name.now ∷ []) (λ held e. read held name.now ≡ e)) }
+    ensures err { IfErr result (StopsReading (store F.Files files.old) (store F.Files files.new) (name.now ∷ []) (name.now ∷ []) (λ held e. read held name.now ≡ e)) }
     ensures untouched { IsUntouched (store F.Files files.old) (store F.Files files.new) }
+    ensures asks { AsksForNoOther (store F.Files files.old) (store F.Files files.new) (name.now ∷ []) }
 {
     match read_all(alloc, files, name, LIMIT) {
         Ok(bytes) => Ok(bytes),
@@ -125,6 +149,7 @@ fn write_output<F: Files>(files: &mut F, output: &str, text: &[u8]) -> Result<()
     ensures err { OnErr result ((F.files files.new ≡ F.files files.old) ⊎ GrownInPart (emptied (F.files files.old) output.now) (F.files files.new) output.now text.now) }
     ensures cause { HasCause (F.write_faults files.old) (F.write_faults files.new) result }
     ensures reads { F.read_faults files.new ≡ F.read_faults files.old }
+    ensures asked { F.asked files.new ≡ F.asked files.old }
 {
     files.create_file(output)?;
     put_all(files, text)

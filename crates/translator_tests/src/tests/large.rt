@@ -117,7 +117,7 @@ move roomb rooma
 end_operator
 ";
 
-fn four_balls(alloc: Global) -> Result<String, AllocError> {
+pub(super) fn four_balls(alloc: Global) -> Result<String, AllocError> {
     let mut text = String::new(alloc);
     push_four_balls(alloc, &mut text)?;
     Ok(text)

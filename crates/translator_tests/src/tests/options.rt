@@ -45,7 +45,7 @@ fn options_that_change_nothing_are_accepted(rt: HostRuntime) -> Result<(), Alloc
 }
 
 /// Words that are refused.
-static REFUSED: [&[&str]; 8] = [
+static REFUSED: [&[&str]; 15] = [
     &["translate", "d.pddl", "p.pddl", CANDIDATES, "2147483648"],
     &["translate", "d.pddl", "p.pddl", CANDIDATES, "-1"],
     &["translate", "d.pddl", "p.pddl", CANDIDATES, "+5"],
@@ -54,6 +54,13 @@ static REFUSED: [&[&str]; 8] = [
     &["translate", CANDIDATES, "5", "d.pddl"],
     &["translate", "d.pddl", "p.pddl", "output.sas"],
     &["translate", "--help"],
+    &["translate", "--make", "0"],
+    &["translate", "--make", "201"],
+    &["translate", "--make", "4x"],
+    &["translate", "--make", ""],
+    &["translate", "--make", "4", "d.pddl", "p.pddl"],
+    &["translate", "--make", "4", "d.pddl"],
+    &["translate", "--make", "4", "--make", "4"],
 ];
 
 const USAGE: &[u8] = b"usage: translate DOMAIN PROBLEM [options]\n";

@@ -87,7 +87,7 @@ fn push_blocks(
 
 impl Row {
     /// The whole text of the task.
-    fn text(&self, alloc: Global) -> Result<String, AllocError> {
+    pub(super) fn text(&self, alloc: Global) -> Result<String, AllocError> {
         let mut text = String::new(alloc);
         self.push_text(alloc, &mut text)?;
         Ok(text)
@@ -105,7 +105,7 @@ impl Row {
     }
 
     /// The lines that are printed: what was found, and the sizes of the task.
-    fn summary(&self, alloc: Global) -> Result<String, AllocError> {
+    pub(super) fn summary(&self, alloc: Global) -> Result<String, AllocError> {
         let (candidates, invariants) = self.found;
         let variables = self.variables.len();
         let mut facts = 0u64;

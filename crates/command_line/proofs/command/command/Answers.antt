@@ -9,5 +9,6 @@ returns c =
     let two = c.in_ok-arg-2.ensures.shape c.new-3.ensures.optional.1 ∙ ap₂ with_rule one c.new-3.ensures.rule in
     let three = c.in_ok-arg-3.ensures.shape c.option.ensures.own ∙ ap₂ with_rule two c.option.ensures.rule in
     let four = c.in_ok-arg-4.ensures.shape c.option-2.ensures.own ∙ ap₂ with_rule three c.option-2.ensures.rule in
-    let five = c.in_ok-arg-5.ensures.shape c.flag.ensures.own ∙ ap₂ with_rule four c.flag.ensures.rule in
-    IfOk-weaker c.arg-6.result _ _ (λ r added. added.shape c.flag-2.ensures.own ∙ ap₂ with_rule five c.flag-2.ensures.rule) c.arg-6.ensures
+    let five = c.in_ok-arg-5.ensures.shape c.option-3.ensures.own ∙ ap₂ with_rule four c.option-3.ensures.rule in
+    let six = c.in_ok-arg-6.ensures.shape c.flag.ensures.own ∙ ap₂ with_rule five c.flag.ensures.rule in
+    IfOk-weaker c.arg-7.result _ _ (λ r added. added.shape c.flag-2.ensures.own ∙ ap₂ with_rule six c.flag-2.ensures.rule) c.arg-7.ensures

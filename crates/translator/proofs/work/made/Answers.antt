@@ -1,35 +1,21 @@
-use Rattle.std.proofs.Common.{rules}
+use Rattle.std.proofs.Common.{◌≡◌, sym, subst}
+use Rattle.std.specs.Prelude.{IfOk, IfErr}
+use Rattle.command_line.specs.Accepted.{source_by}
+use Rattle.command_line.specs.declared.accepted.Source.{Source}
+use Rattle.translator.specs.Run.{of_source, inputs, titles}
+use Rattle.translator.specs.Stages.{IsMadeOf, IsRead, StopsReading}
 use Rattle.translator.specs.Store.{store}
-use Rattle.translator.proofs.Sources.{stops_at_domain, stops_at_problem, both_read, texts_stop_so, texts_made_so}
+use Rattle.translator.proofs.Sources.{made_stops_so, made_so}
 use Rattle.translator.proofs.work.made.Goals as goal
 
-pub returns-in_err-domain_bytes-clause-err : goal.returns-in_err-domain_bytes-clause-err
-returns-in_err-domain_bytes-clause-err g c =
-    let source = c.args.accepted.now.source in
-    let stops = stops_at_domain source.domain.now source.problem.now (store g.F.Files c.args.files.now) (store g.F.Files c.read_input.new.files) _ c.in_err-domain_bytes.ensures.err in
-    search (rules, stops)
-
-pub returns-in_err-problem_bytes-clause-err : goal.returns-in_err-problem_bytes-clause-err
-returns-in_err-problem_bytes-clause-err g c =
-    let source = c.args.accepted.now.source in
-    let stops = stops_at_problem source.domain.now source.problem.now (store g.F.Files c.args.files.now) (store g.F.Files c.read_input.new.files) c.in_ok-domain_bytes.domain_bytes.items
-    c.in_ok-domain_bytes.ensures.untouched c.in_ok-domain_bytes.ensures.ok (store g.F.Files c.read_input-2.new.files) _ c.in_err-problem_bytes.ensures.err in
-    search (rules, stops)
-
-pub returns-clause-ok : goal.returns-clause-ok
-returns-clause-ok g c =
-    let source = c.args.accepted.now.source in
+pub returns-in-Made-clause-ok : goal.returns-in-Made-clause-ok
+returns-in-Made-clause-ok g c =
     let before = store g.F.Files c.args.files.now in
-    let now = store g.F.Files c.read_input-2.new.files in
-    let read = both_read source.domain.now source.problem.now before (store g.F.Files c.read_input.new.files) c.in_ok-domain_bytes.domain_bytes.items
-    c.in_ok-domain_bytes.ensures.untouched c.in_ok-domain_bytes.ensures.ok now c.in_ok-problem_bytes.problem_bytes.items c.in_ok-problem_bytes.ensures.ok in
-    texts_made_so source.domain.now source.problem.now before now _ _ _ _ c.deref.ensures.value c.deref-2.ensures.value read c.args.accepted.now.settings c.task_of.result c.task_of.ensures.ok
+    subst (λ (s : Source). IfOk c.made_task.result (λ made. IsRead before before (λ held. IsMadeOf (of_source held (source_by s)) c.args.accepted.now.settings made.found made.task))) (sym c.in-Made.is)
+    (made_so c.in-Made.balls before c.args.accepted.now.settings c.made_task.result c.made_task.ensures.ok)
 
-pub returns-clause-err : goal.returns-clause-err
-returns-clause-err g c =
-    let source = c.args.accepted.now.source in
+pub returns-in-Made-clause-err : goal.returns-in-Made-clause-err
+returns-in-Made-clause-err g c =
     let before = store g.F.Files c.args.files.now in
-    let now = store g.F.Files c.read_input-2.new.files in
-    let read = both_read source.domain.now source.problem.now before (store g.F.Files c.read_input.new.files) c.in_ok-domain_bytes.domain_bytes.items
-    c.in_ok-domain_bytes.ensures.untouched c.in_ok-domain_bytes.ensures.ok now c.in_ok-problem_bytes.problem_bytes.items c.in_ok-problem_bytes.ensures.ok in
-    texts_stop_so source.domain.now source.problem.now before now _ _ _ _ c.deref.ensures.value c.deref-2.ensures.value read c.task_of.result c.task_of.ensures.err
+    subst (λ (s : Source). IfErr c.made_task.result (StopsReading before before (inputs (source_by s)) (titles (source_by s)) (λ held e. of_source held (source_by s) ≡ e))) (sym c.in-Made.is)
+    (made_stops_so c.in-Made.balls before c.made_task.result c.made_task.ensures.err)
