@@ -5,7 +5,7 @@ use Rattle.std.proofs.lemmas.Bool.{cases_Bool}
 use Rattle.std.proofs.lemmas.Option.{same_Some, none-some}
 use Rattle.std.proofs.lemmas.List.Elements.{Contains-append_right, Contains-get_or}
 use Rattle.std.proofs.lemmas.List.FromFn.{length-range_with_len, get_or-range_with_len}
-use Rattle.lists.proofs.Items.{among_contains, contains_among, among_map, map_source, among_filter, filter_among, among_flat_map, flat_map_piece, any_passes, passing}
+use Rattle.lists.proofs.Items.{among_contains, contains_among, among_map, map_source, among_filter, filter_among, filter_yes, filter_no, among_flat_map, flat_map_piece, any_passes, passing}
 use Rattle.lists.proofs.Items as items
 
 pub no_member : {X : Type 0} (x : X) → Contains {X = X} [] x → ⊥
@@ -34,6 +34,15 @@ map_member f xs y in' = let from = map_source f xs y (among_contains (map f xs) 
 
 pub member_filter : {X : Type 0} (p : X → Bool) (xs : List X) (x : X) → Contains xs x → p x ≡ true → Contains (filter p xs) x
 member_filter p xs x in' passes = contains_among (filter p xs) x (among_filter p x xs (among_contains xs x in') passes)
+
+-- where each passes, all stay; where none does, none
+pub filter_every : {X : Type 0} (p : X → Bool) (xs : List X) → ((x : X) → Contains xs x → p x ≡ true) → filter p xs ≡ xs
+filter_every p [] all = refl
+filter_every p (x ∷ xs) all = filter_yes p x xs (all x (member_first x xs)) ∙ ap (λ ys. x ∷ ys) (filter_every p xs (λ y in'. all y (member_later x y xs in')))
+
+pub filter_none : {X : Type 0} (p : X → Bool) (xs : List X) → ((x : X) → Contains xs x → p x ≡ false) → filter p xs ≡ []
+filter_none p [] none = refl
+filter_none p (x ∷ xs) none = filter_no p x xs (none x (member_first x xs)) ∙ filter_none p xs (λ y in'. none y (member_later x y xs in'))
 
 pub filter_member : {X : Type 0} (p : X → Bool) (xs : List X) (x : X) → Contains (filter p xs) x → Contains xs x × (p x ≡ true)
 filter_member p xs x in' = let from = filter_among p x xs (among_contains (filter p xs) x in') in (contains_among xs x from.0, from.1)

@@ -12,9 +12,10 @@ use Rattle.static_matcher.specs.declared.types.Ground.{Ground}
 use Rattle.static_matcher.specs.Alike.{AreAlike as AreAlikeGround}
 use Rattle.static_matcher.specs.GroundTask.{ground_task}
 use Rattle.static_matcher.specs.Literals.{EffectRow, ActionRow, AxiomRow}
-use Rattle.static_matcher.specs.Settled.{Settling, is_open, kept_action, kept_actions, kept_axiom, kept_axioms, kept_goal, SameMembers}
+use Rattle.static_matcher.specs.Settled.{Settling, is_open, kept_action, kept_actions, kept_axiom, kept_axioms, kept_goal}
 use Rattle.static_matcher.proofs.Atoms.{same_atom, atom_same}
-use Rattle.static_matcher.proofs.SameMembers.{turned_round, mapped, filtered}
+use Rattle.lists.specs.SameMembers.{SameMembers}
+use Rattle.lists.proofs.SameMembers.{turned_round, mapped, filtered}
 use Rattle.relaxed_reach.specs.declared.types.Fact.{Fact}
 use Rattle.relaxed_reach.specs.declared.types.Reached.{Reached}
 use Rattle.relaxed_reach.specs.declared.types.ReachedAction.{ReachedAction}

@@ -1,6 +1,6 @@
 -- Reached tasks that differ only in the order of their actions and axioms.
 use Rattle.std.specs.Prelude.{◌≡◌}
-use Rattle.static_matcher.specs.Settled.{SameMembers}
+use Rattle.lists.specs.SameMembers.{SameMembers}
 use Rattle.relaxed_reach.specs.declared.types.Reached.{Reached}
 
 -- the reached tasks are the same, but for the order of actions and axioms and for how often one of them stands there

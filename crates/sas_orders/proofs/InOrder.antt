@@ -1,5 +1,5 @@
 -- Lists in order: an ordered list has the items of the list, and it is what a stable sort leaves.
-use Rattle.std.proofs.Common.{◌≡◌, suc, ◌<◌, Bool, true, false, not, ◌&&◌, cond, List, [], ◌∷◌, filter, length, drop, get_or, ◌⊎◌, refl, sym, ap, ◌∙◌, subst, inl, inr, arith}
+use Rattle.std.proofs.Common.{◌≡◌, suc, Bool, true, false, not, ◌&&◌, cond, List, [], ◌∷◌, filter, length, drop, get_or, ◌⊎◌, refl, sym, ap, ◌∙◌, subst, inl, inr, arith}
 use Rattle.std.specs.List.{Contains, AllPairs}
 use Rattle.std.specs.List.Sorted.{IsSorted, IsStable, ties}
 use Rattle.std.specs.Cmp.{IsTotalOrder}
@@ -12,16 +12,7 @@ use Rattle.std.proofs.lemmas.List.Kept.{AllPairs-cons}
 use Rattle.std.proofs.lemmas.List.Sorted.{sorted_far, ranks_by}
 use Rattle.sas_orders.specs.InOrder.{put_in, in_order}
 use Rattle.lists.proofs.Members.{no_member, member_first, member_later, member_cases, filter_member, all_from_members}
-
--- what holds of all pairs, of the first item and each later one, and of the later ones
-module _ {X : Type 0} (R : X → X → Type 0) where
-  pub pairs_head : (x : X) (xs : List X) → AllPairs R (x ∷ xs) → (y : X) → Contains xs y → R x y
-  pairs_head x xs all y in' =
-      let below : suc in'.0 < length (x ∷ xs) = let b : in'.0 < length xs = in'.1 in omega arith in
-      subst (R x) in'.2 (all 0 (suc in'.0) y (omega arith) below)
-
-  pub pairs_tail : (x : X) (xs : List X) → AllPairs R (x ∷ xs) → AllPairs R xs
-  pairs_tail x xs all i j d lt below = all (suc i) (suc j) d (omega arith) (omega arith)
+use Rattle.lists.proofs.Ordered.{pairs_head, pairs_tail}
 
 module _ {X : Type 0} (cmp : X → X → Ordering) where
   -- members

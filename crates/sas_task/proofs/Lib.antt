@@ -3,7 +3,6 @@ pub mod Completion
 pub mod Successors
 pub mod States
 pub mod KeepsLaws
-pub mod SameMembers
 pub mod Alike
 mod Checks
 mod Steps

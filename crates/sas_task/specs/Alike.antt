@@ -1,12 +1,9 @@
 -- Tasks that differ only in the order of their parts, and in how often a part stands there.
 use Rattle.std.specs.Prelude.{◌≡◌, List, Contains}
+use Rattle.lists.specs.SameMembers.{SameMembers}
 use Rattle.sas_task.specs.declared.parts.Operator.{Operator}
 use Rattle.sas_task.specs.declared.parts.Rule.{Rule}
 use Rattle.sas_task.specs.Task.{Task}
-
--- the lists have the same members, in whatever order and however often
-abbrev pub SameMembers : {X : Type 0} → List X → List X → Type 0
-SameMembers {X} xs ys = (x : X) → (Contains xs x → Contains ys x) × (Contains ys x → Contains xs x)
 
 -- the operators are the same, but for the order of their effects
 pub record IsAlike (a b : Operator) : Type 0 where

@@ -20,10 +20,11 @@ use Rattle.static_matcher.specs.declared.types.Ground.{Ground}
 use Rattle.static_matcher.specs.GroundTask.{is_derived, is_fixed, ground_task}
 use Rattle.static_matcher.specs.Literals.{EffectRow, ActionRow, LiteralTask, meaning}
 use Rattle.static_matcher.specs.Ranked.{IsRanked}
-use Rattle.static_matcher.specs.Settled.{Settling, kept_actions, kept_axioms, SameMembers, IsSettled, Shows}
+use Rattle.static_matcher.specs.Settled.{Settling, kept_actions, kept_axioms, IsSettled, Shows}
 use Rattle.static_matcher.specs.Instances.{effects_of, effect_of, all_fit, action_of, is_instance, actions_of, instance_task, static_settling, IsGroundTask}
 use Rattle.static_matcher.specs.Statics.{KeepsStatics}
 use Rattle.lists.proofs.Items.{Among, contains_among, map_source, flat_map_piece, map_itself}
+use Rattle.lists.specs.SameMembers.{SameMembers}
 use Rattle.static_matcher.proofs.NormalSteps.{Equal_states, get_among}
 use Rattle.static_matcher.proofs.NormalSteps as instances
 use Rattle.static_matcher.proofs.Atoms.{same_atom}

@@ -6,8 +6,9 @@ use Rattle.static_matcher.specs.declared.types.Ground.{Ground}
 use Rattle.static_matcher.specs.Alike.{AreAlike}
 use Rattle.static_matcher.specs.GroundTask.{ground_task}
 use Rattle.static_matcher.specs.Instances.{instance_task, static_settling, IsGroundTask}
-use Rattle.static_matcher.specs.Settled.{kept_actions, kept_axioms, SameMembers}
-use Rattle.static_matcher.proofs.SameMembers.{permuted}
+use Rattle.static_matcher.specs.Settled.{kept_actions, kept_axioms}
+use Rattle.lists.specs.SameMembers.{SameMembers}
+use Rattle.lists.proofs.SameMembers.{permuted}
 
 both_permuted : {X : Type 0} (xs ys zs : List X) → IsPermutation xs ys → IsPermutation xs zs → SameMembers ys zs
 both_permuted xs ys zs one other = permuted xs xs ys zs one other (λ x. ((λ in'. in'), (λ in'. in')))

@@ -1,8 +1,8 @@
 -- Ground tasks that differ only in the order of their actions and axioms.
 use Rattle.std.specs.Prelude.{◌≡◌}
+use Rattle.lists.specs.SameMembers.{SameMembers}
 use Rattle.static_matcher.specs.declared.types.Ground.{Ground}
 use Rattle.static_matcher.specs.GroundTask.{ground_task}
-use Rattle.static_matcher.specs.Settled.{SameMembers}
 
 -- the ground tasks are the same, but for the order of actions and axioms and for how often one of them stands there
 pub record AreAlike (a b : Ground) : Type 0 where

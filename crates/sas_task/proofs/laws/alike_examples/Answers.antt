@@ -3,9 +3,10 @@ use Rattle.std.proofs.Common.{◌≡◌, false, eqb, List, [], ◌∷◌, refl, 
 use Rattle.std.specs.List.{Contains, list_any}
 use Rattle.std.proofs.lemmas.Bool.{false≢true, eq-eqb}
 use Rattle.lists.proofs.Members.{no_member, member_first, member_later, member_cases, member_single, member_any}
+use Rattle.lists.specs.SameMembers.{SameMembers}
 use Rattle.sas_task.specs.declared.parts.Operator.{Operator}
 use Rattle.sas_task.specs.declared.parts.Rule.{Rule}
-use Rattle.sas_task.specs.Alike.{SameMembers, IsAlike, HasAlike}
+use Rattle.sas_task.specs.Alike.{IsAlike, HasAlike}
 use Rattle.sas_task.specs.Pairs.{pair}
 use Rattle.sas_task.specs.AlikeExamples.{toggle_at, room_turned}
 use Rattle.sas_task.specs.Examples.{room_operators, enter, press, toggle, flicker}

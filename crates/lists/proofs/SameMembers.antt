@@ -4,7 +4,7 @@ use Rattle.std.specs.Prelude.{IsPermutation}
 use Rattle.std.specs.List.{Contains}
 use Rattle.std.proofs.lemmas.List.Sorted.{IsPermutation-sym, Contains-permutation}
 use Rattle.lists.proofs.Members.{member_map, map_member, member_filter, filter_member}
-use Rattle.static_matcher.specs.Settled.{SameMembers}
+use Rattle.lists.specs.SameMembers.{SameMembers}
 
 -- each member of the first list is one of the second
 abbrev pub IsPartOf : {X : Type 0} → List X → List X → Type 0
