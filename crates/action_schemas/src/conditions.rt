@@ -13,7 +13,7 @@ use normal_rows::{
     variables_of, with_fresh,
 };
 use normal_task::{Literal, Part};
-use numbering::{Numbering, Variable, place_of, places_of, scope_inside, sum};
+use numbering::{Numbering, Scope, Variable, place_of, places_of, scope_inside, sum};
 use pddl_parser::{Atom, Condition, Term, Typed};
 use std::alloc::{AllocError, Global};
 
@@ -21,7 +21,7 @@ use std::alloc::{AllocError, Global};
 #[derive(Clone, Copy)]
 pub struct Here<'s, 'n, 'a> {
     pub numbering: &'n Numbering<'a>,
-    pub scope: &'s [Variable<'n, 'a>],
+    pub scope: &'s Scope<'n, 'a>,
     pub around: u64,
 }
 
@@ -110,7 +110,7 @@ fn cut_some<'n, 'a>(
     let scope = scope_inside(alloc, here.numbering, variables, here.around, here.scope)?;
     let inner = Here {
         numbering: here.numbering,
-        scope: scope.as_slice(),
+        scope: &scope,
         around,
     };
     let made = cut(alloc, &inner, inside, positive, next)?;
@@ -158,7 +158,7 @@ fn cut_denied<'n, 'a>(
     let scope = renumbered(alloc, arguments)?;
     let there = Here {
         numbering,
-        scope: scope.as_slice(),
+        scope: &scope,
         around: arguments.len() as u64,
     };
     let body = cut_some(alloc, &there, variables, inside, positive, after)?;

@@ -11,7 +11,7 @@ use crate::conditions::{Here, cut, joined_made, neutral};
 use lists::List;
 use normal_rows::{Change, Made, effect_rows, joined_ranges, made_behind, nothing_made};
 use normal_task::{EffectRow, Part};
-use numbering::{Numbering, Variable, places_of, scope_inside, sum};
+use numbering::{Numbering, Scope, places_of, scope_inside, sum};
 use pddl_parser::{Atom, Condition, Effect, Typed};
 use std::alloc::{AllocError, Global};
 
@@ -19,14 +19,14 @@ use std::alloc::{AllocError, Global};
 #[derive(Clone, Copy)]
 pub(crate) struct Required<'s, 'n, 'a> {
     pub(crate) condition: &'a Condition,
-    pub(crate) scope: &'s [Variable<'n, 'a>],
+    pub(crate) scope: &'s Scope<'n, 'a>,
 }
 
 /// What stands around an effect: the conditions that are required, the outermost first, and the variables.
 #[derive(Clone, Copy)]
 pub(crate) struct Around<'s, 'n, 'a> {
     pub(crate) required: &'s [Required<'s, 'n, 'a>],
-    pub(crate) scope: &'s [Variable<'n, 'a>],
+    pub(crate) scope: &'s Scope<'n, 'a>,
     /// How many variables there are.
     pub(crate) count: u64,
 }
@@ -246,7 +246,7 @@ fn rows_for_each<'n, 'a>(
     let scope = scope_inside(alloc, numbering, variables, around.count, around.scope)?;
     let inner = Around {
         required: around.required,
-        scope: scope.as_slice(),
+        scope: &scope,
         count,
     };
     let made = rows_of(alloc, numbering, inside, &inner, next)?;

@@ -12,7 +12,7 @@ use normal_rows::{
     Made, action_cost, joined_lists, joined_ranges, made_behind, moved_rows, nothing_made,
 };
 use normal_task::{EffectRow, Part, Schema};
-use numbering::{Numbering, Variable, scope_inside, sum};
+use numbering::{Numbering, Scope, scope_of, sum};
 use pddl_parser::Action;
 use std::alloc::{AllocError, Global};
 
@@ -20,7 +20,7 @@ use std::alloc::{AllocError, Global};
 #[derive(Clone, Copy)]
 struct Shared<'s, 'n, 'a> {
     action: &'a Action,
-    scope: &'s [Variable<'n, 'a>],
+    scope: &'s Scope<'n, 'a>,
     ranges: &'s [List<u64>],
     rows: &'s [EffectRow],
 }
@@ -67,7 +67,7 @@ fn schemas_from<'n, 'a>(
     alloc: Global,
     numbering: &'n Numbering<'a>,
     action: &'a Action,
-    scope: &[Variable<'n, 'a>],
+    scope: &Scope<'n, 'a>,
     parts: Made<Part>,
     rows: Made<EffectRow>,
 ) -> Result<Made<Schema>, AllocError>
@@ -90,7 +90,7 @@ fn schemas_in<'n, 'a>(
     alloc: Global,
     numbering: &'n Numbering<'a>,
     action: &'a Action,
-    scope: &[Variable<'n, 'a>],
+    scope: &Scope<'n, 'a>,
     next: u64,
 ) -> Result<Made<Schema>, AllocError>
     ensures { IfOk result (IsMadeOf (schemas_in_scope numbering.now.domain numbering.now.problem action.now scope.now next)) }
@@ -124,9 +124,8 @@ fn schemas<'n, 'a>(
     let numbering = &*numbering;
     let action = &*action;
     let parameters = action.parameters.as_slice();
-    let scope = scope_inside(alloc, numbering, parameters, 0, &[])?;
-    let variables = scope.as_slice();
-    schemas_in(alloc, numbering, action, variables, next)
+    let scope = scope_of(alloc, numbering, parameters)?;
+    schemas_in(alloc, numbering, action, &scope, next)
 }
 
 /// The schemas of the actions, one action after another.

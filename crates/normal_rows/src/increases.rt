@@ -7,7 +7,7 @@ ghost use Rattle.normal_rows.specs.Costs.{first, cost_of};
 ghost use Rattle.normal_task.specs.Normalised as spec;
 
 use normal_task::CostRow;
-use numbering::{Numbering, Variable, places_of};
+use numbering::{Numbering, Scope, places_of};
 use pddl_parser::{Action, Cost, Effect};
 use std::alloc::{AllocError, Global};
 
@@ -39,7 +39,7 @@ fn first_increase_of<'a>(members: &'a [Effect]) -> Option<&'a Cost>
 fn cost_row(
     alloc: Global,
     numbering: &Numbering<'_>,
-    scope: &[Variable<'_, '_>],
+    scope: &Scope<'_, '_>,
     cost: &Cost,
 ) -> Result<CostRow, AllocError>
     ensures { IfOk result (λ row. row ≡ spec.cost_row numbering.now.domain numbering.now.problem scope.now cost.now) }
@@ -58,7 +58,7 @@ fn cost_row(
 pub fn action_cost(
     alloc: Global,
     numbering: &Numbering<'_>,
-    scope: &[Variable<'_, '_>],
+    scope: &Scope<'_, '_>,
     action: &Action,
 ) -> Result<CostRow, AllocError>
     ensures { IfOk result (λ row. row ≡ cost_of numbering.now.domain numbering.now.problem scope.now action.now) }

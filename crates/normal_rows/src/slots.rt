@@ -1,7 +1,8 @@
 // The variables in scope that a quantified condition asks for.
-ghost use Rattle.std.specs.Prelude.{◌≡◌, ◌++◌, ◌∷◌, ◌&&◌, [], map, not, IfOk, OnOk, if◌then◌else◌};
+ghost use Rattle.std.specs.Prelude.{◌≡◌, ◌++◌, ◌∷◌, ◌||◌, [], map, reverse, IfOk, OnOk, if◌then◌else◌};
 ghost use Rattle.std.specs.List.{list_any};
-ghost use Rattle.pddl_parser.specs.Words.{is_same};
+ghost use Rattle.pddl_parser.specs.Words.{Name, is_same};
+ghost use Rattle.normal_rows.specs.Asked.{asks};
 ghost use Rattle.normal_task.specs.declared.task.Place.TheVariants as place;
 ghost use Rattle.normal_task.specs.Parts as spec;
 
@@ -9,33 +10,22 @@ use crate::free::free_inside;
 use lists::List;
 use names::Names;
 use normal_task::Place;
-use numbering::{Numbering, Variable};
+use numbering::{Numbering, Scope, Variable};
 use pddl_parser::{Condition, Typed};
 use std::alloc::{AllocError, Global};
 
-/// Whether one of the variables has the name.
-fn is_hidden(inner: &[Variable<'_, '_>], name: &[u8]) -> bool
-    ensures { result ≡ list_any (λ slot. is_same slot.variable name.now) inner.now }
-{
-    for variable in inner {
-        if variable.name() == name {
-            return true;
-        }
-    }
-    false
-}
-
-/// Adds the variable, if it is free and no inner one hides it.
+/// Adds the variable, if it is free and no inner one, of which there are these names, hides it.
 fn push_if_free<'n, 'a>(
     slots: &mut Vec<Variable<'n, 'a>>,
+    inner: &mut Names<'a>,
     free: &Names<'_>,
-    inner: &[Variable<'n, 'a>],
     slot: &Variable<'n, 'a>,
 ) -> Result<(), AllocError>
-    ensures { OnOk result (slots.new.items ≡ slots.old.items ++ (if list_any (is_same slot.now.variable) free.now && not (list_any (λ other. is_same other.variable slot.now.variable) inner.now) then slot.now ∷ [] else [])) }
+    ensures inner { OnOk result ((name : Name) → list_any (is_same name) inner.new ≡ (is_same name slot.now.variable || list_any (is_same name) inner.old)) }
+    ensures slots { OnOk result (slots.new.items ≡ slots.old.items ++ (if asks free.now inner.old slot.now.variable then slot.now ∷ [] else [])) }
 {
-    let name = slot.name();
-    if free.has(name) && !is_hidden(inner, name) {
+    let is_innermost = inner.add(slot.name())?;
+    if free.has(slot.name()) && is_innermost {
         slots.push(slot.copy())?;
     }
     Ok(())
@@ -47,34 +37,57 @@ pub fn free_slots<'n, 'a>(
     numbering: &Numbering<'_>,
     variables: &'a [Typed],
     inside: &'a Condition,
-    scope: &[Variable<'n, 'a>],
+    scope: &Scope<'n, 'a>,
 ) -> Result<Vec<Variable<'n, 'a>>, AllocError>
     ensures { IfOk result (λ slots. slots.items ≡ spec.free_slots numbering.now.domain numbering.now.problem variables.now (spec.known numbering.now.domain numbering.now.problem inside.now) scope.now) }
 {
-    let names = free_inside(alloc, numbering, variables, inside)?;
-    let mut free = Vec::new(alloc);
-    let mut left = scope.len();
+    let free = free_inside(alloc, numbering, variables, inside)?;
+    named_slots(alloc, &free, scope)
+}
+
+/// Those of the scope that have one of the names and that no inner one hides, the outermost first.
+fn named_slots<'n, 'a>(
+    alloc: Global,
+    free: &Names<'_>,
+    scope: &Scope<'n, 'a>,
+) -> Result<Vec<Variable<'n, 'a>>, AllocError>
+    ensures { IfOk result (λ slots. slots.items ≡ spec.slots_for (asks free.now []) scope.now) }
+{
+    let mut slots = slots_for(alloc, free, scope.variables())?;
+    slots.as_mut_slice().reverse();
+    Ok(slots)
+}
+
+/// Those of the variables that have one of the names and that no inner one hides, the innermost first.
+fn slots_for<'n, 'a>(
+    alloc: Global,
+    free: &Names<'_>,
+    variables: &[Variable<'n, 'a>],
+) -> Result<Vec<Variable<'n, 'a>>, AllocError>
+    ensures { IfOk result (λ slots. reverse slots.items ≡ spec.slots_for (asks free.now []) (reverse variables.now)) }
+{
+    let mut inner = Names::new(alloc);
+    let mut slots = Vec::new(alloc);
+    let mut left = variables.len();
     while left > 0 {
         left -= 1;
-        push_if_free(&mut free, &names, &scope[..left], &scope[left])?;
+        push_if_free(&mut slots, &mut inner, free, &variables[left])?;
     }
-    Ok(free)
+    Ok(slots)
 }
 
 /// These variables alone, numbered in their order.
 pub fn renumbered<'n, 'a>(
     alloc: Global,
     list: &[Variable<'n, 'a>],
-) -> Result<Vec<Variable<'n, 'a>>, AllocError>
-    ensures { IfOk result (λ scope. scope.items ≡ spec.renumbered list.now 0 []) }
+) -> Result<Scope<'n, 'a>, AllocError>
+    ensures { IfOk result (λ scope. scope ≡ spec.renumbered list.now 0 []) }
 {
-    let mut slots = Vec::new(alloc);
-    let mut left = list.len();
-    while left > 0 {
-        left -= 1;
-        slots.push(list[left].numbered(left as u64))?;
+    let mut scope = Scope::new(alloc);
+    for (index, variable) in list.iter().enumerate() {
+        scope = scope.with(variable.numbered(index as u64))?;
     }
-    Ok(slots)
+    Ok(scope)
 }
 
 /// The variables as places.

@@ -9,7 +9,7 @@ use action_schemas::{Here, cut};
 use lists::List;
 use normal_rows::{Made, made_behind, nothing_made, push_axioms};
 use normal_task::{AxiomRow, Fresh, Part};
-use numbering::{Numbering, Variable, scope_inside, sum};
+use numbering::{Numbering, Scope, scope_of, sum};
 use pddl_parser::{Derived, Head};
 use std::alloc::{AllocError, Global};
 
@@ -49,7 +49,7 @@ fn parts_in<'n, 'a>(
     alloc: Global,
     numbering: &'n Numbering<'a>,
     rule: &'a Derived,
-    scope: &[Variable<'n, 'a>],
+    scope: &Scope<'n, 'a>,
     next: u64,
 ) -> Result<Made<Part>, AllocError>
     ensures { IfOk result (IsMadeOf (parts.parts numbering.now.domain numbering.now.problem rule.now.body true scope.now (length rule.now.head.variables) next)) }
@@ -74,9 +74,8 @@ fn body_parts<'n, 'a>(
     let numbering = &*numbering;
     let rule = &*rule;
     let variables = rule.head.variables.as_slice();
-    let scope = scope_inside(alloc, numbering, variables, 0, &[])?;
-    let list = scope.as_slice();
-    parts_in(alloc, numbering, rule, list, next)
+    let scope = scope_of(alloc, numbering, variables)?;
+    parts_in(alloc, numbering, rule, &scope, next)
 }
 
 /// An axiom for each part of the body.

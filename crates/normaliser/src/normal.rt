@@ -14,7 +14,7 @@ use lists::{List, Text};
 use normal_rows::{Made, joined_lists};
 use normal_task::laws::lawful;
 use normal_task::{AxiomRow, Fresh, Literal, Normal, Schema};
-use numbering::{Numbering, predicate_rows, stated_atoms, stated_values, sum};
+use numbering::{Numbering, Scope, predicate_rows, stated_atoms, stated_values, sum};
 use pddl_parser::Typed;
 use std::alloc::{AllocError, Global};
 use type_checker::Checked;
@@ -57,9 +57,10 @@ fn goal_made(
 ) -> Result<Made<Literal>, AllocError>
     ensures { IfOk result (IsMadeOf (goal_from numbering.now.domain numbering.now.problem next)) }
 {
+    let scope = Scope::new(alloc);
     let here = Here {
         numbering,
-        scope: &[],
+        scope: &scope,
         around: 0,
     };
     let parts = cut(alloc, &here, &numbering.problem().goal, true, next)?;

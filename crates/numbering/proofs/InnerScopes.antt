@@ -1,42 +1,38 @@
--- The scope inside a list of variables, made from the last variable to the first.
-use Rattle.std.proofs.Common.{◌≡◌, ℕ, suc, ◌+◌, ◌<◌, List, [], ◌∷◌, ◌++◌, drop, length, get_or, refl, sym, ap, ◌∙◌, arith, drop-cons, add-one}
+-- A scope with one variable more, and its table.
+use Rattle.std.proofs.Common.{◌≡◌, ℕ, suc, ◌+◌, ◌<◌, Bool, true, false, List, ◌∷◌, drop, length, get_or, Option, Some, Bor, refl, sym, ap, ◌∙◌, arith, drop-cons, add-one, if◌then◌else◌}
+use Rattle.std.specs.Option.{option_map}
+use Rattle.indexmap.specs.IndexMap.{IndexMap, Updates}
 use Rattle.pddl_parser.specs.declared.types.Domain.{Domain}
 use Rattle.pddl_parser.specs.declared.types.Problem.{Problem}
 use Rattle.pddl_parser.specs.declared.types.Typed.{Typed}
+use Rattle.pddl_parser.specs.Words.{Name, is_same}
 use Rattle.normal_task.specs.Numbers.{range_of}
-use Rattle.normal_task.specs.Parts.{Slot, Scope, scope_inside}
+use Rattle.normal_task.specs.Parts.{Slot, Scope, slot_of, scope_inside}
+use Rattle.numbering.specs.InScope.{HasNumbers}
 
-module _ (domain : Domain) (problem : Problem) where
-  -- what stands outside stays behind
-  outer_behind : (variables : List Typed) (place : ℕ) (outer more : Scope) → scope_inside domain problem variables place (outer ++ more) ≡ scope_inside domain problem variables place outer ++ more
-  outer_behind [] place outer more = refl
-  outer_behind (variable ∷ variables) place outer more =
-      outer_behind variables (suc place) (record { variable = variable.name.name; range = range_of domain problem variable; place = place } ∷ outer) more
+pub numbers_more : {S : Type 0} (slot : Slot) (scope : Scope) (old new : IndexMap (Bor Name) ℕ S) (key : Bor Name) (place : ℕ) → key.now ≡ slot.variable → place ≡ slot.place →
+    HasNumbers scope old → Updates (λ a b. is_same a.now b.now) old new key (Some place) → HasNumbers (slot ∷ scope) new
+numbers_more slot scope old new key place key_is place_is has updates name =
+    let behind = option_map (λ (s : Slot). s.place) (slot_of scope name.now) in
+    updates.0 name
+    ∙ ap (λ o. if is_same key.now name.now then Some place else o) (has name)
+    ∙ ap (λ k. if is_same k name.now then Some place else behind) key_is
+    ∙ ap (λ n. if is_same slot.variable name.now then Some n else behind) place_is
+    ∙ by (is_same slot.variable name.now)
+  where
+    by : (b : Bool) → (if b then Some slot.place else option_map (λ (s : Slot). s.place) (slot_of scope name.now)) ≡ option_map (λ (s : Slot). s.place) (if b then Some slot else slot_of scope name.now)
+    by true = refl
+    by false = refl
 
-  pub one_more : (variables : List Typed) (place left : ℕ) (variable : Typed) → left < length variables → variable ≡ get_or variables left variable →
-      (scope scope' : Scope) (slot : Slot) → slot ≡ record { variable = variable.name.name; range = range_of domain problem variable; place = place + left } → scope' ≡ scope ++ slot ∷ [] →
-      scope ≡ scope_inside domain problem (drop (left + 1) variables) (place + (left + 1)) [] → scope' ≡ scope_inside domain problem (drop left variables) (place + left) []
-  one_more variables place left variable within is scope scope' slot slot_is grown before =
-      let rest = drop (left + 1) variables in
-      let at : place + (left + 1) ≡ suc (place + left) = omega arith in
-      let whole : drop left variables ≡ variable ∷ rest = drop_at variables left variable within is in
-      grown ∙ ap (λ (s : Slot). scope ++ s ∷ []) slot_is
-      ∙ ap (λ (l : Scope). l ++ record { variable = variable.name.name; range = range_of domain problem variable; place = place + left } ∷ []) (before ∙ ap (λ (n : ℕ). scope_inside domain problem rest n []) at)
-      ∙ sym (outer_behind rest (suc (place + left)) [] (record { variable = variable.name.name; range = range_of domain problem variable; place = place + left } ∷ []))
-      ∙ ap (λ (l : List Typed). scope_inside domain problem l (place + left) []) (sym whole)
-    where
-      drop_at : (xs : List Typed) (i : ℕ) (x : Typed) → i < length xs → x ≡ get_or xs i x → drop i xs ≡ x ∷ drop (i + 1) xs
-      drop_at xs i x inside is = rw (add-one, drop-cons xs i x) (ap (λ (y : Typed). y ∷ drop (suc i) xs) (sym is))
-
-  pub all_inside : (variables : List Typed) (place : ℕ) (scope whole outer : Scope) → scope ≡ scope_inside domain problem (drop 0 variables) (place + 0) [] → whole ≡ scope ++ outer →
-      whole ≡ scope_inside domain problem variables place outer
-  all_inside variables place scope whole outer scope_is is =
-      let at : place + 0 ≡ place = omega arith in
-      is ∙ ap (λ (l : Scope). l ++ outer) (scope_is ∙ ap (λ (n : ℕ). scope_inside domain problem variables n []) at) ∙ sym (outer_behind variables place [] outer)
-
-  pub none_inside_yet : (variables : List Typed) (place : ℕ) (scope : Scope) → scope ≡ [] → scope ≡ scope_inside domain problem (drop (length variables) variables) place []
-  none_inside_yet variables place scope none = none ∙ ap (λ (l : List Typed). scope_inside domain problem l place []) (sym (drop_all variables))
-    where
-      drop_all : (xs : List Typed) → drop (length xs) xs ≡ []
-      drop_all [] = refl
-      drop_all (x ∷ xs) = drop_all xs
+pub one_more : (domain : Domain) (problem : Problem) (variables : List Typed) (place i : ℕ) (variable : Typed) → i < length variables → variable ≡ get_or variables i variable →
+    (slot : Slot) (scope scope' : Scope) → slot ≡ record { variable = variable.name.name; range = range_of domain problem variable; place = place + i } → scope' ≡ slot ∷ scope →
+    scope_inside domain problem (drop (i + 1) variables) (place + (i + 1)) scope' ≡ scope_inside domain problem (drop i variables) (place + i) scope
+one_more domain problem variables place i variable within is slot scope scope' slot_is grown =
+    let rest = drop (i + 1) variables in
+    let at : place + (i + 1) ≡ suc (place + i) = omega arith in
+    ap (λ (n : ℕ). scope_inside domain problem rest n scope') at
+    ∙ ap (λ (s : Scope). scope_inside domain problem rest (suc (place + i)) s) (grown ∙ ap (λ (s : Slot). s ∷ scope) slot_is)
+    ∙ sym (ap (λ (l : List Typed). scope_inside domain problem l (place + i) scope) (drop_at variables i variable within is))
+  where
+    drop_at : (xs : List Typed) (i : ℕ) (x : Typed) → i < length xs → x ≡ get_or xs i x → drop i xs ≡ x ∷ drop (i + 1) xs
+    drop_at xs i x inside is = rw (add-one, drop-cons xs i x) (ap (λ (y : Typed). y ∷ drop (suc i) xs) (sym is))

@@ -1,3 +1,4 @@
 pub mod Below
+pub mod InScope
 pub mod IsWritten
 pub mod Rows

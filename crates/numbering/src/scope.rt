@@ -1,16 +1,89 @@
 // The variables in scope.
-ghost use Rattle.std.specs.Prelude.{◌≡◌, ◌++◌, ◌∷◌, map, unwrap_or, IfOk, OnOk};
+ghost use Rattle.std.specs.Prelude.{◌≡◌, ◌∷◌, [], reverse, unwrap_or, IfOk};
 ghost use Rattle.std.specs.Option.{option_map};
-ghost use Rattle.normal_task.specs.Numbers as numbers;
 ghost use Rattle.normal_task.specs.Parts as spec;
 
 use crate::numbering::Numbering;
 use crate::numbers::sum;
 use crate::variable::Variable;
+use indexmap::IndexMap;
 use lists::List;
 use normal_task::Place;
 use pddl_parser::{Term, Typed};
 use std::alloc::{AllocError, Global};
+use std::marker::Model;
+
+/// The variables of the lists around a condition. A look-up goes through a table. Contracts see the variables, the
+/// innermost first.
+#[derive(Drop)]
+pub struct Scope<'n, 'a> {
+    /// The variables, the outermost first.
+    variables: Vec<Variable<'n, 'a>>,
+    /// The number of the innermost variable of each name.
+    numbers: IndexMap<&'a [u8], u64>,
+}
+
+impl<'n, 'a> Model for Scope<'n, 'a> {
+    ghost use Rattle.std.specs.Prelude.{List, reverse};
+    ghost use Rattle.normal_task.specs.Parts.{Slot};
+    ghost use Rattle.numbering.specs.InScope.{HasNumbers};
+
+    ghost Value = { List Slot };
+
+    ghost view = { λ scope. reverse scope.variables.items };
+
+    ghost invariant = { λ scope. HasNumbers (reverse scope.variables.items) scope.numbers };
+}
+
+impl<'n, 'a> Scope<'n, 'a> {
+    /// The scope of no variables.
+    pub fn new(alloc: Global) -> Scope<'n, 'a>
+        ensures { result ≡ [] }
+    {
+        Scope {
+            variables: Vec::new(alloc),
+            numbers: IndexMap::new(alloc),
+        }
+    }
+
+    /// The same scope.
+    fn copy(&self, alloc: Global) -> Result<Scope<'n, 'a>, AllocError>
+        ensures { IfOk result (λ copy. copy ≡ self.now) }
+    {
+        let mut scope = Scope::new(alloc);
+        for variable in self.variables() {
+            scope = scope.with(variable.copy())?;
+        }
+        Ok(scope)
+    }
+
+    /// The scope with one variable more, the innermost.
+    pub fn with(self, variable: Variable<'n, 'a>) -> Result<Scope<'n, 'a>, AllocError>
+        ensures { IfOk result (λ scope. scope ≡ variable.entry ∷ self.entry) }
+    {
+        let Scope {
+            mut variables,
+            mut numbers,
+        } = self;
+        numbers.insert(variable.name(), variable.place())?;
+        variables.push(variable)?;
+        Ok(Scope { variables, numbers })
+    }
+
+    /// The variables, the outermost first.
+    pub fn variables(&self) -> &[Variable<'n, 'a>]
+        ensures { reverse result.now ≡ self.now }
+    {
+        &self.variables
+    }
+
+    /// The number of the innermost variable of this name.
+    fn number(&self, name: &[u8]) -> u64
+        ensures { result ≡ unwrap_or (option_map (λ slot. slot.place) (spec.slot_of self.now name.now)) 0 }
+    {
+        self.numbers.get(name).copied().unwrap_or(0)
+    }
+}
 
 /// The scope inside a list of variables, which are numbered on from the given number.
 pub fn scope_inside<'n, 'a>(
@@ -18,53 +91,35 @@ pub fn scope_inside<'n, 'a>(
     numbering: &'n Numbering<'a>,
     variables: &'a [Typed],
     place: u64,
-    outer: &[Variable<'n, 'a>],
-) -> Result<Vec<Variable<'n, 'a>>, AllocError>
-    ensures { IfOk result (λ scope. scope.items ≡ spec.scope_inside numbering.now.domain numbering.now.problem variables.now place outer.now) }
+    outer: &Scope<'n, 'a>,
+) -> Result<Scope<'n, 'a>, AllocError>
+    ensures { IfOk result (λ scope. scope ≡ spec.scope_inside numbering.now.domain numbering.now.problem variables.now place outer.now) }
 {
-    let mut scope = Vec::new(alloc);
-    let mut left = variables.len();
-    while left > 0 {
-        left -= 1;
-        let number = sum(place, left as u64)?;
-        scope.push(Variable::new(numbering, &variables[left], number))?;
+    let mut scope = outer.copy(alloc)?;
+    for (index, variable) in variables.iter().enumerate() {
+        let number = sum(place, index as u64)?;
+        scope = scope.with(Variable::new(numbering, variable, number))?;
     }
-    push_variables(&mut scope, outer)?;
     Ok(scope)
 }
 
-fn push_variables<'n, 'a>(
-    scope: &mut Vec<Variable<'n, 'a>>,
-    more: &[Variable<'n, 'a>],
-) -> Result<(), AllocError>
-    ensures { OnOk result (scope.new.items ≡ scope.old.items ++ more.now) }
+/// The scope inside a list of variables that stands in no other.
+pub fn scope_of<'n, 'a>(
+    alloc: Global,
+    numbering: &'n Numbering<'a>,
+    variables: &'a [Typed],
+) -> Result<Scope<'n, 'a>, AllocError>
+    ensures { IfOk result (λ scope. scope ≡ spec.scope_inside numbering.now.domain numbering.now.problem variables.now 0 []) }
 {
-    for variable in more {
-        scope.push(variable.copy())?;
-    }
-    Ok(())
-}
-
-/// The number of the innermost variable of this name.
-fn variable_number(scope: &[Variable<'_, '_>], name: &[u8]) -> u64
-    ensures { result ≡ unwrap_or (option_map (λ slot. slot.place) (spec.slot_of scope.now name.now)) 0 }
-{
-    for variable in scope {
-        if variable.name() == name {
-            return variable.place();
-        }
-    }
-    0
+    scope_inside(alloc, numbering, variables, 0, &Scope::new(alloc))
 }
 
 /// What stands for the term.
-pub fn place_of(numbering: &Numbering<'_>, scope: &[Variable<'_, '_>], term: &Term) -> Place
+pub fn place_of(numbering: &Numbering<'_>, scope: &Scope<'_, '_>, term: &Term) -> Place
     ensures { result ≡ spec.place_of numbering.now.domain numbering.now.problem scope.now term.now }
 {
     match term {
-        Term::Variable(variable) => {
-            Place::Variable(variable_number(scope, variable.name.as_slice()))
-        }
+        Term::Variable(variable) => Place::Variable(scope.number(variable.name.as_slice())),
         Term::Object(object) => Place::Object(numbering.object(object.name.as_slice())),
     }
 }
@@ -73,7 +128,7 @@ pub fn place_of(numbering: &Numbering<'_>, scope: &[Variable<'_, '_>], term: &Te
 pub fn places_of(
     alloc: Global,
     numbering: &Numbering<'_>,
-    scope: &[Variable<'_, '_>],
+    scope: &Scope<'_, '_>,
     terms: &[Term],
 ) -> Result<List<Place>, AllocError>
     ensures { IfOk result (λ places. places ≡ spec.places_of numbering.now.domain numbering.now.problem scope.now terms.now) }

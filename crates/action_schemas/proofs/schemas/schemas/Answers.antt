@@ -11,5 +11,5 @@ returns c =
     let domain = c.args.numbering.now.domain in
     let problem = c.args.numbering.now.problem in
     subst (λ (s : Scope). IfOk c.schemas_in.result (IsMadeOf (schemas_in_scope domain problem c.args.action.now s c.args.next)))
-    (c.as_slice-variables.ensures.value ∙ c.in_ok-scope.ensures ∙ ap (λ (l : List Typed). scope_inside domain problem l 0 []) c.as_slice-parameters.ensures)
+    (c.in_ok-scope.ensures ∙ ap (λ (l : List Typed). scope_inside domain problem l 0 []) c.as_slice-parameters.ensures)
     c.schemas_in.ensures

@@ -1,9 +1,6 @@
-use Rattle.std.proofs.Common.{◌≡◌, ◌++◌, ◌≤◌, [], length, take}
+use Rattle.std.proofs.Common.{◌≡◌, [], drop}
 use Rattle.normal_task.specs.Parts as spec
 use Rattle.normal_rows.proofs.slots.renumbered.Given as goal
 
-abbrev pub decreases-loop-left : goal.decreases-loop-left
-decreases-loop-left l = l.left
-
-abbrev pub invariant-loop-left : goal.invariant-loop-left
-invariant-loop-left l = record { within : l.left ≤ length l.list; so_far : l.slots.items ++ spec.renumbered (take l.left l.list) 0 [] ≡ spec.renumbered l.list 0 [] }
+abbrev pub invariant-loop-index : goal.invariant-loop-index
+invariant-loop-index l = spec.renumbered (drop l.index l.list) l.index l.scope ≡ spec.renumbered l.list 0 []

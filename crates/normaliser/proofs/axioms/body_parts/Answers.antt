@@ -10,5 +10,5 @@ returns c =
     let domain = c.args.numbering.now.domain in
     let problem = c.args.numbering.now.problem in
     subst (λ (s : Scope). IfOk c.parts_in.result (IsMadeOf (parts domain problem c.args.rule.now.body true s (length c.args.rule.now.head.variables) c.args.next)))
-    (c.as_slice-list.ensures.value ∙ c.in_ok-scope.ensures ∙ ap (λ (l : List Typed). scope_inside domain problem l 0 []) c.as_slice-variables.ensures)
+    (c.in_ok-scope.ensures ∙ ap (λ (l : List Typed). scope_inside domain problem l 0 []) c.as_slice-variables.ensures)
     c.parts_in.ensures
