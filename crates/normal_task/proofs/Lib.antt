@@ -37,3 +37,5 @@ mod LawfulAxioms
 pub mod LawfulTask
 mod RisingRanges
 mod RefusedTasks
+mod CutNames
+mod StepCosts

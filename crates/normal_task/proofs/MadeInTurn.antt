@@ -1,9 +1,26 @@
 -- Where things made one after another stand.
-use Rattle.std.proofs.Common.{ℕ, ◌+◌, List, [], ◌∷◌, ◌++◌, map, length, refl, subst, inl, inr, ◌⊎◌}
-use Rattle.lists.proofs.Items.{Among, among_left, among_right}
+use Rattle.std.proofs.Common.{ℕ, ◌+◌, List, [], ◌∷◌, map, length, refl, subst, inl, inr, ◌⊎◌}
+use Rattle.lists.proofs.Items.{Among, among_left, among_right, among_which}
 use Rattle.normal_task.specs.Meaning.{State}
 use Rattle.normal_task.specs.Parts.{Made, in_turn}
 use Rattle.normal_task.proofs.PartsMean.{GivenIn, given-left, given-right}
+
+module _ {X A : Type 0} (make : X → ℕ → Made A) where
+  -- where an item was made
+  pub record Maker (xs : List X) (a : A) : Type 0 where
+    pub source : X
+    pub among : Among source xs
+    pub next : ℕ
+    pub inside : Among a (make source next).items
+
+  pub maker : (xs : List X) (start : ℕ) (a : A) → Among a (in_turn (map make xs) start).items → Maker xs a
+  maker [] start a there = absurd there
+  maker (x ∷ xs) start a there = by (among_which a (make x start).items (in_turn (map make xs) (start + length (make x start).fresh)).items there) (maker xs (start + length (make x start).fresh) a)
+    where
+      by : Among a (make x start).items ⊎ Among a (in_turn (map make xs) (start + length (make x start).fresh)).items →
+          (Among a (in_turn (map make xs) (start + length (make x start).fresh)).items → Maker xs a) → Maker (x ∷ xs) a
+      by (inl here) rest = record { source = x; among = inl refl; next = start; inside = here }
+      by (inr later) rest = let found = rest later in record { source = found.source; among = inr found.among; next = found.next; inside = found.inside }
 
 module _ {X A : Type 0} (make : X → ℕ → Made A) (declared : ℕ) (state : State) where
   -- a thing that was made where its new predicates are given, with items that are among all
@@ -33,15 +50,6 @@ module _ {X A : Type 0} (make : X → ℕ → Made A) (declared : ℕ) (state : 
     pub next : ℕ
     pub given : GivenIn declared state next (make source next).fresh
     pub inside : Among a (make source next).items
-
-  among_which : (item : A) (xs ys : List A) → Among item (xs ++ ys) → Among item xs ⊎ Among item ys
-  among_which item [] ys there = inr there
-  among_which item (x ∷ xs) ys (inl here) = inl (inl here)
-  among_which item (x ∷ xs) ys (inr there) = behind (among_which item xs ys there)
-    where
-      behind : Among item xs ⊎ Among item ys → Among item (x ∷ xs) ⊎ Among item ys
-      behind (inl first) = inl (inr first)
-      behind (inr second) = inr second
 
   pub origin : (xs : List X) (start : ℕ) → GivenIn declared state start (in_turn (map make xs) start).fresh → (a : A) → Among a (in_turn (map make xs) start).items → Origin xs a
   origin [] start given a there = absurd there

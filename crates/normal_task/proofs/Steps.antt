@@ -154,6 +154,15 @@ module _ (domain : Domain) (problem : Problem) where
     pub goal : GoalSound domain problem
     pub fit : fresh_fit (declared domain problem) 0 (first_fresh domain problem) ≡ true
 
+  -- known names are those of their numbers
+  pub shown-names : (names : List Name) → list_all (is_known domain problem) names ≡ true → map (task.object_name (planning domain problem)) (map (num domain problem) names) ≡ names
+  shown-names [] known = refl
+  shown-names (name ∷ names) known =
+      let parts = and_parts (is_known domain problem name) (list_all (is_known domain problem) names) known in
+      let here = name-of_number (object_names domain problem) name [] parts.0 in
+      let rest = shown-names names parts.1 in
+      cc (here, rest)
+
   module _ (full : holds.State) (numbered : State) (shows : ShowsFull domain problem full numbered) (action : Action) (sound : ActionSound action) (names : List Name) (among : Among names (pddl.choices domain problem action.parameters)) where
     abbrev named : pddl.Binding
     named = pddl.bound action.parameters names []
@@ -212,14 +221,6 @@ module _ (domain : Domain) (problem : Problem) where
 
     known-names : list_all (is_known domain problem) names ≡ true
     known-names = choices-known domain problem action.parameters names among
-
-    shown-names : (names : List Name) → list_all (is_known domain problem) names ≡ true → map (task.object_name (planning domain problem)) (map (num domain problem) names) ≡ names
-    shown-names [] known = refl
-    shown-names (name ∷ names) known =
-        let parts = and_parts (is_known domain problem name) (list_all (is_known domain problem) names) known in
-        let here = name-of_number (object_names domain problem) name [] parts.0 in
-        let rest = shown-names names parts.1 in
-        cc (here, rest)
 
     -- and the steps have the same name and cost
     same-step-name : (extra : List ℕ) (rows : List EffectRow) (part : Part) →

@@ -1,4 +1,5 @@
 pub mod Meaning
+pub mod TellCosts
 pub mod Numbers
 pub mod Parts
 pub mod Normalised

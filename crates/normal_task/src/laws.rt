@@ -16,6 +16,7 @@ ghost use Rattle.normal_task.specs.Normalised.{normal, once_after};
 ghost use Rattle.normal_task.specs.Parts.{Scope, parts};
 ghost use Rattle.normal_task.specs.Refused.{small, IsRefused};
 ghost use Rattle.normal_task.specs.Same.{Shows};
+ghost use Rattle.normal_task.specs.TellCosts.{NamesTellCosts};
 
 /// The normal task of a checked pair has the plans of the files, with the same names and costs, and reaches the same
 /// states.
@@ -23,6 +24,15 @@ pub fn same_task()
     ensures { (domain : Domain) (problem : Problem) → check_faults domain problem ≡ [] →
         MeansTheSame (pddl_task domain problem) (normal_task (normal domain problem)) (Shows domain problem) }
 {}
+
+/// Steps of the normal task of a checked pair that have one name have one cost: a name tells the action and the
+/// objects that are shown, and these tell the cost.
+pub fn names_tell_costs()
+    ensures { (domain : Domain) (problem : Problem) → IsWellSpelled domain → IsWellSpelledProblem problem → check_faults domain problem ≡ [] →
+        NamesTellCosts (normal_task (normal domain problem)) }
+{
+    type_checker::laws::declared_once();
+}
 
 /// A condition has as many parts as the bound on parts counts.
 pub fn as_many_parts()

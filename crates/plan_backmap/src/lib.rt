@@ -6,7 +6,9 @@ mod laws;
 mod lines;
 mod mapping;
 mod plan;
+mod text;
 
 pub use laws::{solutions_cost_the_total, worked_lines, worked_plans};
 pub use mapping::map_plan;
 pub use plan::{MapEnd, Mapped, Step};
+pub use text::plan_text;

@@ -1,6 +1,6 @@
 //! Tables of plan files: what each comes to beside a small task.
 
-use plan_backmap::{MapEnd, Mapped, Step, map_plan};
+use plan_backmap::{MapEnd, Mapped, Step, map_plan, plan_text};
 use sas_task::{SasTask, examples};
 use std::alloc::{AllocError, Global};
 use std::process::Abort;
@@ -133,4 +133,34 @@ fn steps_have_their_words_and_costs(rt: HostRuntime) -> Result<(), AllocError> {
     let task = examples::room(rt.alloc())?;
     assert_room_plan(&rt, rt.alloc(), &task);
     Ok(())
+}
+
+const ROOM_STEP_LINES: &str = "(enter room)\n(press)\n(toggle)\n(enter room)\n";
+
+/// Whether these are the lines on the plan for the room, with costs that are or aren't the operators' own.
+fn has_lines(alloc: Global, mapped: &Mapped, metric: bool, last: &str) -> Result<bool, AllocError> {
+    let text = plan_text(alloc, mapped, metric)?;
+    let wanted = format!(in alloc; "{ROOM_STEP_LINES}{last}")?;
+    Ok(text.as_slice() == wanted.as_bytes())
+}
+
+fn has_both_lines(alloc: Global, mapped: &Mapped) -> Result<bool, AllocError> {
+    let has_own = has_lines(alloc, mapped, true, "; cost = 16 (general cost)\n")?;
+    Ok(has_own && has_lines(alloc, mapped, false, "; cost = 16 (unit cost)\n")?)
+}
+
+fn assert_room_lines(rt: &impl Abort, alloc: Global, task: &SasTask) -> Result<(), AllocError> {
+    assert!(rt; ROOM_PLAN.len() < 1000);
+    let are_told = match &map_plan(alloc, task, ROOM_PLAN) {
+        Ok(mapped) => has_both_lines(alloc, mapped)?,
+        Err(_) => false,
+    };
+    assert!(rt; are_told);
+    Ok(())
+}
+
+#[test]
+fn a_mapped_plan_has_a_line_for_each_step(rt: HostRuntime) -> Result<(), AllocError> {
+    let task = examples::room(rt.alloc())?;
+    assert_room_lines(&rt, rt.alloc(), &task)
 }
