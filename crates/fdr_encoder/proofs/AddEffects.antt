@@ -16,8 +16,7 @@ use Rattle.fdr_encoder.specs.declared.rivals.Rival.{Rival}
 use Rattle.fdr_encoder.specs.Places.{Cover, pair, set_of, places, stands_in}
 use Rattle.fdr_encoder.specs.Effects.{rivals}
 use Rattle.fdr_encoder.specs.Rivals.{seen, rivals_of, conditions_on, AreRivals}
-use Rattle.lists.proofs.Members.{map_member}
-use Rattle.fdr_encoder.proofs.Marked.{filter_no}
+use Rattle.lists.proofs.Members.{map_member, filter_none}
 use Rattle.fdr_encoder.proofs.Rising.{IsBelowBy, range_rises, pairs_map}
 
 -- ---- keys that tie are the same
@@ -79,7 +78,7 @@ once_on var c (p ∷ ps) rises = by_case (eqb p.var var) refl (once_on var c ps 
 
     others : eqb p.var var ≡ true → filter (on var) (map (λ (q : Pair). (q.var, c)) ps) ≡ []
     others here =
-        filter_no (on var) (map (λ (q : Pair). (q.var, c)) ps) (λ r in'.
+        filter_none (on var) (map (λ (q : Pair). (q.var, c)) ps) (λ r in'.
         let q = map_member (λ (q : Pair). (q.var, c)) ps r in' in
         let more = later q.0 q.1 in
         let at = ap (λ (r : ℕ × Cond ℕ). r.0) q.2 in

@@ -9,8 +9,8 @@ use Rattle.sas_task.specs.Task.{Task}
 use Rattle.sas_task.specs.Alike.{IsAlike, HasAlike, AreAlike, RulesAgree}
 use Rattle.static_matcher.specs.declared.types.GoalRow.{GoalRow}
 use Rattle.static_matcher.specs.Literals.{initial}
-use Rattle.static_matcher.specs.Settled.{SameMembers}
-use Rattle.static_matcher.proofs.SameMembers.{mapped, filtered, permuted}
+use Rattle.lists.specs.SameMembers.{SameMembers}
+use Rattle.lists.proofs.SameMembers.{mapped, filtered, permuted}
 use Rattle.relaxed_reach.specs.declared.types.Fact.{Fact}
 use Rattle.relaxed_reach.specs.declared.types.Reached.{Reached}
 use Rattle.relaxed_reach.specs.declared.types.ReachedAction.{ReachedAction}

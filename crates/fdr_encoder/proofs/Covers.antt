@@ -1,5 +1,5 @@
 -- The covers meet what the encoding asks.
-use Rattle.std.proofs.Common.{◌≡◌, ℕ, ◌<◌, ◌≤◌, true, false, List, [], ◌∷◌, ◌++◌, map, length, refl, sym, ap, ◌∙◌, subst, inl, inr, arith}
+use Rattle.std.proofs.Common.{◌≡◌, ℕ, ◌<◌, ◌≤◌, Bool, true, false, List, [], ◌∷◌, ◌++◌, map, length, refl, sym, ap, ◌∙◌, subst, inl, inr, arith}
 use Rattle.std.specs.List.{Contains, All, range_with_len}
 use Rattle.std.specs.List.Sorted.{IsStrictlyIncreasing}
 use Rattle.std.proofs.lemmas.Bool.{both_ways, cases_eq, cases_lt}
@@ -13,7 +13,7 @@ use Rattle.fdr_encoder.specs.Places.{Cover, set_of}
 use Rattle.relaxed_reach.specs.Exclusive.{AtMostOne, IsExclusive}
 use Rattle.fdr_encoder.specs.Covers.{singles, IsGroupCover, MakesVariables, IsBasicGroup}
 use Rattle.group_cover.specs.Cover.{IsCover, AreParts, uncovered, single}
-use Rattle.group_cover.proofs.Parts.{covers_all, covers_once, lie_inside, are_filled, are_sorted, are_facts}
+use Rattle.group_cover.proofs.Parts.{covers_all, share_as_groups, lie_inside, are_filled, are_sorted, are_facts}
 
 -- a set of fewer than two facts is the one fact that it has
 one_fact : (set : List ℕ) (f : ℕ) → Contains set f → length set < 2 → set ≡ f ∷ []
@@ -40,10 +40,10 @@ exclusive_sets reached groups cover exclusive inside =
 pub exclusive_from_groups : (reached : Reached) (groups : List (List ℕ)) (cover : Cover) → All (IsExclusive reached) groups → IsGroupCover (length reached.facts) groups cover → All (IsExclusive reached) cover
 exclusive_from_groups reached groups cover exclusive is = exclusive_sets reached groups cover exclusive is.inside
 
-pub exclusive_by_groups : (reached : Reached) (groups : List (List ℕ)) (cover : Cover) → All (IsExclusive reached) groups → IsCover (length reached.facts) groups cover → All (IsExclusive reached) cover
-exclusive_by_groups reached groups cover exclusive is =
+pub exclusive_by_groups : (full : Bool) (reached : Reached) (groups : List (List ℕ)) (cover : Cover) → All (IsExclusive reached) groups → IsCover full (length reached.facts) groups cover → All (IsExclusive reached) cover
+exclusive_by_groups full reached groups cover exclusive is =
     exclusive_sets reached groups cover exclusive (λ var low large.
-    let group = lie_inside (length reached.facts) groups cover is (set_of cover var) (Contains-get_or cover var [] low) large in
+    let group = lie_inside full (length reached.facts) groups cover is (set_of cover var) (Contains-get_or cover var [] low) large in
     (group.group, group.of_groups, group.inside))
 
 pub cover_from_groups : (reached : Reached) (groups : List (List ℕ)) (cover : Cover) → All (IsBasicGroup reached) groups → IsGroupCover (length reached.facts) groups cover → MakesVariables reached cover
@@ -73,36 +73,37 @@ cover_from_groups reached groups cover are-groups is =
         ]
 
 -- the cover of facts by groups of facts
-pub cover_of_groups : (facts : ℕ) (groups : List (List ℕ)) (cover : Cover) → IsCover facts groups cover → ((group : List ℕ) → Contains groups group → (f : ℕ) → Contains group f → f < facts) → IsGroupCover facts groups cover
-cover_of_groups facts groups cover is below =
+pub cover_of_groups : (full : Bool) (facts : ℕ) (groups : List (List ℕ)) (cover : Cover) → IsCover full facts groups cover → ((group : List ℕ) → Contains groups group → (f : ℕ) → Contains group f → f < facts) → IsGroupCover facts groups cover
+cover_of_groups full facts groups cover is below =
     record {
       has_all = record {
-        are_facts = λ var fact low in'. are_facts facts groups cover is below (set_of cover var) (set_in var low) fact in';
-        filled = λ var low. let some = are_filled facts groups cover is (set_of cover var) (set_in var low) in omega arith;
-        covered = λ fact low. let at = covers_all facts groups cover is fact low in (at.0, at.1.within, at.1.in_set);
+        are_facts = λ var fact low in'. are_facts full facts groups cover is below (set_of cover var) (set_in var low) fact in';
+        filled = λ var low. let some = are_filled full facts groups cover is (set_of cover var) (set_in var low) in omega arith;
+        covered = λ fact low. let at = covers_all full facts groups cover is fact low in (at.0, at.1.within, at.1.in_set);
       };
-      inside = λ var low large. let group = lie_inside facts groups cover is (set_of cover var) (set_in var low) large in (group.group, group.of_groups, group.inside);
-      shared = λ var other fact low low' apart in' in''. absurd (apart (covers_once facts groups cover is fact var other (record { within = low; in_set = in' }) (record { within = low'; in_set = in'' })));
+      inside = λ var low large. let group = lie_inside full facts groups cover is (set_of cover var) (set_in var low) large in (group.group, group.of_groups, group.inside);
+      shared = λ var other fact low low' apart in' in''.
+          (set_of cover var, share_as_groups full facts groups cover is fact var other apart (record { within = low; in_set = in' }) (record { within = low'; in_set = in'' }), in');
     }
   where
     set_in : (var : ℕ) → var < length cover → Contains cover (set_of cover var)
     set_in var low = Contains-get_or cover var [] low
 
 -- what groups lend to the cover by them
-module _ (reached : Reached) (groups : List (List ℕ)) (cover : Cover) (are-groups : All (IsBasicGroup reached) groups) (is : IsCover (length reached.facts) groups cover) where
+module _ (full : Bool) (reached : Reached) (groups : List (List ℕ)) (cover : Cover) (are-groups : All (IsBasicGroup reached) groups) (is : IsCover full (length reached.facts) groups cover) where
   group_facts : (group : List ℕ) → Contains groups group → (f : ℕ) → Contains group f → f < length reached.facts
   group_facts group in' f f-in = All-contains (λ f. f < length reached.facts) group f (All-contains (IsBasicGroup reached) groups group are-groups in').facts f-in
 
   pub covered_by_groups : MakesVariables reached cover
-  covered_by_groups = cover_from_groups reached groups cover are-groups (cover_of_groups (length reached.facts) groups cover is group_facts)
+  covered_by_groups = cover_from_groups reached groups cover are-groups (cover_of_groups full (length reached.facts) groups cover is group_facts)
 
   pub sets_apart : All IsStrictlyIncreasing cover
-  sets_apart = all_from_members IsStrictlyIncreasing cover (are_sorted (length reached.facts) groups cover is (λ group in'. (All-contains (IsBasicGroup reached) groups group are-groups in').sorted))
+  sets_apart = all_from_members IsStrictlyIncreasing cover (are_sorted full (length reached.facts) groups cover is (λ group in'. (All-contains (IsBasicGroup reached) groups group are-groups in').sorted))
 
   pub sets_of_facts : All (λ set. All (λ fact. fact < length reached.facts) set) cover
   sets_of_facts =
       all_from_members (λ set. All (λ fact. fact < length reached.facts) set) cover (λ set in'.
-      all_from_members (λ fact. fact < length reached.facts) set (are_facts (length reached.facts) groups cover is group_facts set in'))
+      all_from_members (λ fact. fact < length reached.facts) set (are_facts full (length reached.facts) groups cover is group_facts set in'))
 
 -- single facts
 module _ (facts : ℕ) where
@@ -140,16 +141,16 @@ pub singles_exclusive : (reached : Reached) → All (IsExclusive reached) (singl
 singles_exclusive reached = exclusive_from_groups reached [] (singles (length reached.facts)) (λ k d below. absurd (omega arith)) (singles_cover (length reached.facts))
 
 -- without groups the cover has the single facts
-no_parts : (parts : List (List ℕ)) → AreParts [] [] parts → parts ≡ []
-no_parts [] are = refl
-no_parts (set ∷ parts) are = absurd (no_member are.0.group are.0.best.of_groups)
+no_parts : (full : Bool) (parts : List (List ℕ)) → AreParts full [] [] parts → parts ≡ []
+no_parts full [] are = refl
+no_parts full (set ∷ parts) are = absurd (no_member are.0.group are.0.best.of_groups)
 
 all_uncovered : (facts : List ℕ) → uncovered [] facts ≡ facts
 all_uncovered [] = refl
 all_uncovered (fact ∷ facts) = ap (λ l. fact ∷ l) (all_uncovered facts)
 
-pub cover_without_groups : (facts : ℕ) (cover : Cover) → IsCover facts [] cover → cover ≡ singles facts
-cover_without_groups facts cover is =
+pub cover_without_groups : (full : Bool) (facts : ℕ) (cover : Cover) → IsCover full facts [] cover → cover ≡ singles facts
+cover_without_groups full facts cover is =
     is.whole
-    ∙ ap (λ (parts : List (List ℕ)). parts ++ map single (uncovered parts (range_with_len 0 facts))) (no_parts is.parts is.in_turn)
+    ∙ ap (λ (parts : List (List ℕ)). parts ++ map single (uncovered parts (range_with_len 0 facts))) (no_parts full is.parts is.in_turn)
     ∙ ap (map single) (all_uncovered (range_with_len 0 facts))

@@ -16,7 +16,8 @@ use Rattle.sas_task.specs.Orders.{pair_cmp}
 use Rattle.sas_task.specs.Valid.{ComesBefore}
 use Rattle.sas_task.proofs.Orders.{pair_total}
 use Rattle.sas_orders.specs.InOrder.{sorted}
-use Rattle.sas_orders.proofs.Sorted.{same_ordered, sorted_member, member_sorted, sorted_ordered}
+use Rattle.lists.proofs.Ordered.{same_ordered}
+use Rattle.sas_orders.proofs.Sorted.{sorted_member, member_sorted, sorted_ordered}
 use Rattle.lists.proofs.Members.{no_member, member_first, member_later, member_cases, member_flat_map, flat_map_member, member_range, range_member, member_map, map_member, member_filter, filter_member}
 use Rattle.fdr_encoder.specs.Places.{Cover, pair, set_of, places, first_place, last_value}
 use Rattle.fdr_encoder.specs.Encoding.{is_groups, group_of}

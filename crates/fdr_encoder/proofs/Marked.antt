@@ -13,7 +13,7 @@ use Rattle.std.proofs.lemmas.List.Sorted.{IsPermutation-sym, All-permutation, li
 use Rattle.std.proofs.lemmas.List.Kept.{IsStrictlyIncreasing-filter, Contains-dedup_nat, Contains-from_dedup}
 use Rattle.lists.proofs.Items.{any_flat_map}
 use Rattle.sas_task.specs.declared.parts.Pair.{Pair}
-use Rattle.lists.proofs.Members.{member_first, member_later, member_range, flat_map_member, all_from_members, map_member, member_filter, filter_member, any_member, member_any, member_single}
+use Rattle.lists.proofs.Members.{member_first, member_range, filter_every, filter_none, flat_map_member, all_from_members, map_member, member_filter, filter_member, any_member, member_any, member_single}
 use Rattle.static_matcher.specs.declared.types.Cond.{Cond}
 use Rattle.fdr_encoder.specs.Places.{Cover, pair, set_of, places, first_place, last_value}
 use Rattle.fdr_encoder.specs.Split.{is_looked_at, is_left, values_left}
@@ -114,14 +114,6 @@ on_fit cover var marks fit =
 
 -- ---- the marks on a variable stand together
 
-filter_every : {X : Type 0} (p : X → Bool) (xs : List X) → ((x : X) → Contains xs x → p x ≡ true) → filter p xs ≡ xs
-filter_every p [] all = refl
-filter_every p (x ∷ xs) all = cond-true (p x) (x ∷ filter p xs) (filter p xs) (all x (member_first x xs)) ∙ ap (λ l. x ∷ l) (filter_every p xs (λ y in'. all y (member_later x y xs in')))
-
-pub filter_no : {X : Type 0} (p : X → Bool) (xs : List X) → ((x : X) → Contains xs x → p x ≡ false) → filter p xs ≡ []
-filter_no p [] none = refl
-filter_no p (x ∷ xs) none = cond-false (p x) (x ∷ filter p xs) (filter p xs) (none x (member_first x xs)) ∙ filter_no p xs (λ y in'. none y (member_later x y xs in'))
-
 module _ {X : Type 0} (key : X → ℕ) (var : ℕ) (marks : List X) (up : IsNonDecreasingBy key marks) (s k : ℕ) where
   abbrev keyed : List X → List X
   keyed = filter (λ x. eqb (key x) var)
@@ -132,9 +124,9 @@ module _ {X : Type 0} (key : X → ℕ) (var : ℕ) (marks : List X) (up : IsNon
   on_rest : IsPartitionPoint (λ p. ltb (key p) var ≡ true) (λ p. ltb (key p) var ≡ false) marks s → s ≤ length marks → IsPartitionPoint (λ p. leb (key p) var ≡ true) (λ p. leb (key p) var ≡ false) rest k → k ≤ length rest → take k rest ≡ keyed marks
   on_rest parted within parted' within' =
       sym (ap keyed (sym (take-append-drop s marks)) ∙ filter-append (λ p. eqb (key p) var) (take s marks) rest
-      ∙ ap (λ l. l ++ keyed rest) (filter_no (λ p. eqb (key p) var) (take s marks) low)
+      ∙ ap (λ l. l ++ keyed rest) (filter_none (λ p. eqb (key p) var) (take s marks) low)
       ∙ ap keyed (sym (take-append-drop k rest)) ∙ filter-append (λ p. eqb (key p) var) (take k rest) (drop k rest)
-      ∙ ap (λ l. keyed (take k rest) ++ l) (filter_no (λ p. eqb (key p) var) (drop k rest) high)
+      ∙ ap (λ l. keyed (take k rest) ++ l) (filter_none (λ p. eqb (key p) var) (drop k rest) high)
       ∙ append-nil (keyed (take k rest))
       ∙ filter_every (λ p. eqb (key p) var) (take k rest) here)
     where
@@ -191,7 +183,7 @@ one_passes test v n low only =
           (λ k in'. subst (Contains (filter test (range_with_len 0 n))) (member_single v k in') (member_filter test (range_with_len 0 n) v (member_range n v low) yes'))
           ∙ sym (cond-true (test v) (v ∷ []) [] yes')
       | inr no' ↦
-          filter_no test (range_with_len 0 n) (λ k in'. false_from_ne_true (test k) (λ h. both_ways (test v) no' (subst (λ j. test j ≡ true) (only k h) h)))
+          filter_none test (range_with_len 0 n) (λ k in'. false_from_ne_true (test k) (λ h. both_ways (test v) no' (subst (λ j. test j ≡ true) (only k h) h)))
           ∙ sym (cond-false (test v) (v ∷ []) [] no')
     ]
 

@@ -6,8 +6,7 @@ use Rattle.std.proofs.lemmas.List.{get_or-map, length-map}
 use Rattle.std.proofs.lemmas.List.Elements.{Contains-append_cases}
 use Rattle.std.proofs.lemmas.List.FromFn.{length-range_with_len, get_or-range_with_len}
 use Rattle.std.proofs.lemmas.List.Kept.{AllPairs-from_increasing, AllPairs-filter, AllPairs-cons}
-use Rattle.sas_orders.proofs.InOrder.{pairs_head, pairs_tail}
-use Rattle.sas_orders.proofs.Sorted.{same_ordered}
+use Rattle.lists.proofs.Ordered.{pairs_head, pairs_tail, same_ordered}
 use Rattle.lists.proofs.Members.{no_member, member_first, member_later, flat_map_member, all_from_members, map_member, member_single}
 
 abbrev pub IsBelowBy : {X : Type 0} → (X → ℕ) → X → X → Type 0

@@ -1,6 +1,6 @@
 // The encoding, put together.
 
-ghost use Rattle.std.specs.Prelude.{◌≡◌, ℕ, ◌^◌, ◌<◌, ◌++◌, length, map, All, IfOk};
+ghost use Rattle.std.specs.Prelude.{◌≡◌, ℕ, Bool, ◌^◌, ◌<◌, ◌++◌, length, map, All, IfOk};
 ghost use Rattle.std.specs.List.{flat_map};
 ghost use Rattle.std.specs.List.Sorted.{IsStrictlyIncreasing};
 ghost use Rattle.sas_task.specs.Valid.{IsValid};
@@ -43,7 +43,7 @@ pub fn encode(
     layers: &[u64],
 ) -> Result<SasTask, AllocError>
     requires lawful { IsLawful reached.now }
-    requires cover { IsCover (length reached.now.facts) groups.now.groups cover.now.sets }
+    requires cover { (full : Bool) × IsCover full (length reached.now.facts) groups.now.groups cover.now.sets }
     requires groups { All (IsBasicGroup reached.now) groups.now.groups }
     requires layers { AreLayers reached.now layers.now }
     ensures encoding { IfOk result (parts.IsEncoding cover.now.sets groups.now.groups layers.now reached.now) }

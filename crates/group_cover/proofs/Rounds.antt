@@ -1,14 +1,14 @@
 -- One set more, and what it covers.
-use Rattle.std.proofs.Common.{◌≡◌, ℕ, ◌+◌, ◌≤◌, Bool, true, false, not, ◌||◌, ◌⊎◌, List, [], ◌∷◌, ◌++◌, append_assoc, append-nil, map, length, inl, inr, refl, sym, ap, ◌∙◌, subst, arith, nat_eq}
+use Rattle.std.proofs.Common.{◌≡◌, ℕ, suc, ◌+◌, ◌≤◌, Bool, true, false, not, ◌||◌, ◌⊎◌, List, [], ◌∷◌, ◌++◌, append_assoc, append-nil, map, length, inl, inr, refl, sym, ap, ◌∙◌, subst, arith, nat_eq}
 use Rattle.std.specs.List.{list_any, filter, range_with_len}
 use Rattle.std.specs.Cmp.{nat_eq_equiv}
 use Rattle.std.proofs.Math.Bool.{or-false}
 use Rattle.std.proofs.lemmas.List.{map-append}
 use Rattle.std.proofs.lemmas.List.Elements.{filter-append}
 use Rattle.lists.proofs.LoopSteps.{range_next}
-use Rattle.std.proofs.lemmas.Bool.{true≢false, cases_Bool, or_left, or_right, not_from_true, eq-eqb}
+use Rattle.std.proofs.lemmas.Bool.{true≢false, cases_Bool, or_left, or_right, not_from_true}
 use Rattle.lists.proofs.Items.{Among, among_filter, any_append, any_passes, filter_yes, filter_no}
-use Rattle.group_cover.specs.Cover.{is_covered, uncovered, count, single, IsBest, IsPart, AreParts}
+use Rattle.group_cover.specs.Cover.{is_covered, uncovered, part_of, count, single, IsBest, IsPart, AreParts}
 
 -- the facts of one set more are covered too
 pub covered-more : (sets : List (List ℕ)) (set : List ℕ) (fact : ℕ) → is_covered (sets ++ set ∷ []) fact ≡ (is_covered sets fact || list_any (nat_eq fact) set)
@@ -49,28 +49,43 @@ count-falls sets set group = keeps-fewer (λ fact. not (is_covered (sets ++ set 
     still : (fact : ℕ) → not (is_covered (sets ++ set ∷ []) fact) ≡ true → not (is_covered sets fact) ≡ true
     still fact is = open_before (is_covered sets fact) (list_any (nat_eq fact) set) (sym (ap not (covered-more sets set fact)) ∙ is)
 
--- a group whose uncovered part is added has none
-pub part-closes : (sets : List (List ℕ)) (group : List ℕ) → count (sets ++ uncovered sets group ∷ []) group ≡ 0
-part-closes sets group = ap (λ (l : List ℕ). length l) (keeps-none (λ fact. not (is_covered (sets ++ uncovered sets group ∷ []) fact)) group closed)
+pub all-open : (group : List ℕ) → count [] group ≡ length group
+all-open [] = refl
+all-open (fact ∷ facts) = ap suc (all-open facts)
+
+pub at-most-all : (sets : List (List ℕ)) (group : List ℕ) → count sets group ≤ length group
+at-most-all sets group =
+    let fewer = keeps-fewer (λ fact. not (is_covered sets fact)) (λ fact. not (is_covered [] fact)) group (λ fact is. refl) in
+    let all = all-open group in
+    omega (arith, fewer, all)
+
+-- what is open of a group is in its set
+open-in-part : (full : Bool) (sets : List (List ℕ)) (group : List ℕ) (fact : ℕ) → Among fact group → is_covered sets fact ≡ false → Among fact (part_of full sets group)
+open-in-part true sets group fact there isnt = there
+open-in-part false sets group fact there isnt = among_filter (λ fact. not (is_covered sets fact)) fact group there (ap not isnt)
+
+-- a group whose set is added has no uncovered fact
+pub part-closes : (full : Bool) (sets : List (List ℕ)) (group : List ℕ) → count (sets ++ part_of full sets group ∷ []) group ≡ 0
+part-closes full sets group = ap (λ (l : List ℕ). length l) (keeps-none (λ fact. not (is_covered (sets ++ part_of full sets group ∷ []) fact)) group closed)
   where
-    closed : (fact : ℕ) → Among fact group → not (is_covered (sets ++ uncovered sets group ∷ []) fact) ≡ false
+    closed : (fact : ℕ) → Among fact group → not (is_covered (sets ++ part_of full sets group ∷ []) fact) ≡ false
     closed fact there = elim (cases_Bool (is_covered sets fact)) [
-      | inl is ↦ not_from_true _ (covered-more sets (uncovered sets group) fact ∙ or_left (is_covered sets fact) (list_any (nat_eq fact) (uncovered sets group)) is)
+      | inl is ↦ not_from_true _ (covered-more sets (part_of full sets group) fact ∙ or_left (is_covered sets fact) (list_any (nat_eq fact) (part_of full sets group)) is)
       | inr isnt ↦
-          let added = among_filter (λ fact. not (is_covered sets fact)) fact group there (ap not isnt) in
-          not_from_true _ (covered-more sets (uncovered sets group) fact ∙ or_right (is_covered sets fact) (list_any (nat_eq fact) (uncovered sets group)) (any_passes (nat_eq fact) fact (uncovered sets group) added (nat_eq_equiv.refl fact)))
+          let added = open-in-part full sets group fact there isnt in
+          not_from_true _ (covered-more sets (part_of full sets group) fact ∙ or_right (is_covered sets fact) (list_any (nat_eq fact) (part_of full sets group)) (any_passes (nat_eq fact) fact (part_of full sets group) added (nat_eq_equiv.refl fact)))
     ]
 
 -- ---- sets in turn
 
-parts-more : (groups before sets : List (List ℕ)) (set : List ℕ) → AreParts groups before sets → IsPart groups (before ++ sets) set → AreParts groups before (sets ++ set ∷ [])
-parts-more groups before [] set parts part = (subst (λ s. IsPart groups s set) (append-nil before) part, tt)
-parts-more groups before (first ∷ sets) set parts part =
-    (parts.0, parts-more groups (before ++ first ∷ []) sets set parts.1 (subst (λ s. IsPart groups s set) (sym (append_assoc before (first ∷ []) sets)) part))
+parts-more : (full : Bool) (groups before sets : List (List ℕ)) (set : List ℕ) → AreParts full groups before sets → IsPart full groups (before ++ sets) set → AreParts full groups before (sets ++ set ∷ [])
+parts-more full groups before [] set parts part = (subst (λ s. IsPart full groups s set) (append-nil before) part, tt)
+parts-more full groups before (first ∷ sets) set parts part =
+    (parts.0, parts-more full groups (before ++ first ∷ []) sets set parts.1 (subst (λ s. IsPart full groups s set) (sym (append_assoc before (first ∷ []) sets)) part))
 
-pub round-goes : (groups sets : List (List ℕ)) (group set : List ℕ) (after : List (List ℕ)) → AreParts groups [] sets → IsBest groups sets group → set ≡ uncovered sets group → after ≡ sets ++ set ∷ [] → AreParts groups [] after
-round-goes groups sets group set after parts best part made =
-    subst (AreParts groups []) (sym made) (parts-more groups [] sets set parts (record { group = group; best = best; part = part }))
+pub round-goes : (full : Bool) (groups sets : List (List ℕ)) (group set : List ℕ) (after : List (List ℕ)) → AreParts full groups [] sets → IsBest groups sets group → set ≡ part_of full sets group → after ≡ sets ++ set ∷ [] → AreParts full groups [] after
+round-goes full groups sets group set after parts best part made =
+    subst (AreParts full groups []) (sym made) (parts-more full groups [] sets set parts (record { group = group; best = best; part = part }))
 
 -- ---- a set for each fact that is left
 

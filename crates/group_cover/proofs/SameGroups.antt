@@ -2,8 +2,9 @@
 use Rattle.std.proofs.Common.{◌≡◌, ℕ, Bool, List, [], ◌∷◌, ◌++◌, nat_lt, sym, ◌∙◌}
 use Rattle.std.specs.List.{list_any}
 use Rattle.lists.proofs.Items.{among_contains, contains_among, same_items_any}
+use Rattle.lists.specs.SameMembers.{SameMembers}
 use Rattle.group_cover.specs.Cover.{count, is_before, IsBest, IsPart, AreParts, NoneIsLeft, IsCover}
-use Rattle.group_cover.specs.Laws.{SameMembers, OneCoverOfSame}
+use Rattle.group_cover.specs.Laws.{OneCoverOfSame}
 use Rattle.group_cover.proofs.One.{one_cover}
 
 module _ (groups others : List (List ℕ)) (same : SameMembers groups others) where
@@ -17,18 +18,18 @@ module _ (groups others : List (List ℕ)) (same : SameMembers groups others) wh
   best sets group is =
       record { of_groups = (same group).0 is.of_groups; several = is.several; first = sym (any-same (λ other. is_before sets other group)) ∙ is.first }
 
-  part : (sets : List (List ℕ)) (set : List ℕ) → IsPart groups sets set → IsPart others sets set
-  part sets set is = record { group = is.group; best = best sets is.group is.best; part = is.part }
+  part : (full : Bool) (sets : List (List ℕ)) (set : List ℕ) → IsPart full groups sets set → IsPart full others sets set
+  part full sets set is = record { group = is.group; best = best sets is.group is.best; part = is.part }
 
-  parts : (before sets : List (List ℕ)) → AreParts groups before sets → AreParts others before sets
-  parts before [] are = are
-  parts before (set ∷ more) are = (part before set are.0, parts (before ++ set ∷ []) more are.1)
+  parts : (full : Bool) (before sets : List (List ℕ)) → AreParts full groups before sets → AreParts full others before sets
+  parts full before [] are = are
+  parts full before (set ∷ more) are = (part full before set are.0, parts full (before ++ set ∷ []) more are.1)
 
   none-left : (sets : List (List ℕ)) → NoneIsLeft groups sets → NoneIsLeft others sets
   none-left sets none = sym (any-same (λ group. nat_lt 1 (count sets group))) ∙ none
 
-  cover : (facts : ℕ) (sets : List (List ℕ)) → IsCover facts groups sets → IsCover facts others sets
-  cover facts sets is = record { parts = is.parts; in_turn = parts [] is.parts is.in_turn; none_left = none-left is.parts is.none_left; whole = is.whole }
+  cover : (full : Bool) (facts : ℕ) (sets : List (List ℕ)) → IsCover full facts groups sets → IsCover full facts others sets
+  cover full facts sets is = record { parts = is.parts; in_turn = parts full [] is.parts is.in_turn; none_left = none-left is.parts is.none_left; whole = is.whole }
 
 pub one_cover_of_same : OneCoverOfSame
-one_cover_of_same facts groups others sets sets' same one other = one_cover facts others sets sets' (cover groups others same facts sets one) other
+one_cover_of_same full facts groups others sets sets' same one other = one_cover full facts others sets sets' (cover groups others same full facts sets one) other

@@ -11,6 +11,21 @@ fn rows(alloc: Global, rows: &[&[u64]]) -> Result<List<List<u64>>, AllocError> {
     Ok(List::from_vec(lists))
 }
 
+/// Whether these are the sets of the cover, or of that with whole groups.
+fn has_sets(
+    alloc: Global,
+    facts: u64,
+    groups: &[&[u64]],
+    full: bool,
+    sets: &[&[u64]],
+) -> Result<bool, AllocError> {
+    let groups = Groups {
+        groups: rows(alloc, groups)?,
+    };
+    let cover = cover(alloc, facts, &groups, full)?;
+    Ok(cover.sets == rows(alloc, sets)?)
+}
+
 /// Whether these are the sets of the cover.
 fn are_sets(
     alloc: Global,
@@ -18,11 +33,17 @@ fn are_sets(
     groups: &[&[u64]],
     sets: &[&[u64]],
 ) -> Result<bool, AllocError> {
-    let groups = Groups {
-        groups: rows(alloc, groups)?,
-    };
-    let cover = cover(alloc, facts, &groups)?;
-    Ok(cover.sets == rows(alloc, sets)?)
+    has_sets(alloc, facts, groups, false, sets)
+}
+
+/// Whether these are the sets of the cover with whole groups.
+fn are_whole_sets(
+    alloc: Global,
+    facts: u64,
+    groups: &[&[u64]],
+    sets: &[&[u64]],
+) -> Result<bool, AllocError> {
+    has_sets(alloc, facts, groups, true, sets)
 }
 
 #[test]
@@ -39,7 +60,7 @@ fn the_largest_uncovered_part_is_taken(rt: HostRuntime) -> Result<(), AllocError
     let pair_and_three: &[&[u64]] = &[&[0, 1], &[1, 2, 3]];
     assert!(rt; are_sets(rt.alloc(), 4, pair_and_three, &[&[1, 2, 3], &[0]])?);
 
-    // After the first group, the second has two uncovered facts and the third has one.
+    // After the first group, the other two have the same two uncovered facts, and only one of them is taken.
     let overlapping: &[&[u64]] = &[&[0, 1, 2, 3], &[2, 3, 4, 5], &[1, 4, 5]];
     let taken: &[&[u64]] = &[&[0, 1, 2, 3], &[4, 5], &[6]];
     assert!(rt; are_sets(rt.alloc(), 7, overlapping, taken)?);
@@ -68,6 +89,46 @@ fn of_equal_counts_the_first_list_is_taken(rt: HostRuntime) -> Result<(), AllocE
 }
 
 #[test]
+fn a_fact_stands_in_each_whole_group_that_is_taken(rt: HostRuntime) -> Result<(), AllocError> {
+    let three: &[&[u64]] = &[&[0, 1, 2], &[0, 3, 4], &[0, 5, 6]];
+    assert!(rt; are_whole_sets(rt.alloc(), 7, three, three)?);
+    assert!(rt; are_sets(rt.alloc(), 7, three, &[&[0, 1, 2], &[3, 4], &[5, 6]])?);
+
+    // The second group is as long as the first, but has fewer uncovered facts than the third.
+    let shorter: &[&[u64]] = &[&[0, 1, 2, 3, 4], &[0, 1, 2, 5, 6], &[7, 8, 9]];
+    let taken: &[&[u64]] = &[&[0, 1, 2, 3, 4], &[7, 8, 9], &[0, 1, 2, 5, 6]];
+    assert!(rt; are_whole_sets(rt.alloc(), 10, shorter, taken)?);
+    Ok(())
+}
+
+#[test]
+fn of_equal_counts_the_first_whole_list_is_taken(rt: HostRuntime) -> Result<(), AllocError> {
+    let tied: &[&[u64]] = &[&[0, 1, 2], &[1, 4, 5], &[0, 6, 7]];
+    let taken: &[&[u64]] = &[&[0, 1, 2], &[0, 6, 7], &[1, 4, 5], &[3]];
+    assert!(rt; are_whole_sets(rt.alloc(), 8, tied, taken)?);
+
+    // Two groups have the same two uncovered facts: the second of them has none when the first is taken.
+    let overlapping: &[&[u64]] = &[&[0, 1, 2, 3], &[2, 3, 4, 5], &[1, 4, 5]];
+    let kept: &[&[u64]] = &[&[0, 1, 2, 3], &[1, 4, 5], &[6]];
+    assert!(rt; are_whole_sets(rt.alloc(), 7, overlapping, kept)?);
+    Ok(())
+}
+
+#[test]
+fn no_whole_group_is_taken_without_two_uncovered_facts(rt: HostRuntime) -> Result<(), AllocError> {
+    let alone: &[&[u64]] = &[&[0], &[1], &[2]];
+    assert!(rt; are_whole_sets(rt.alloc(), 0, &[], &[])?);
+    assert!(rt; are_whole_sets(rt.alloc(), 3, &[], alone)?);
+    assert!(rt; are_whole_sets(rt.alloc(), 3, &[&[1]], alone)?);
+
+    // A group that stands there twice, or inside another, is taken once, and a last fact stands alone.
+    assert!(rt; are_whole_sets(rt.alloc(), 2, &[&[0, 1], &[0, 1]], &[&[0, 1]])?);
+    assert!(rt; are_whole_sets(rt.alloc(), 3, &[&[1, 2], &[0, 1, 2]], &[&[0, 1, 2]])?);
+    assert!(rt; are_whole_sets(rt.alloc(), 4, &[&[0, 1, 2], &[2, 3]], &[&[0, 1, 2], &[3]])?);
+    Ok(())
+}
+
+#[test]
 fn many_groups_are_taken_in_order(rt: HostRuntime) -> Result<(), AllocError> {
     let alloc = rt.alloc();
     let pairs = 200_000u64;
@@ -79,7 +140,7 @@ fn many_groups_are_taken_in_order(rt: HostRuntime) -> Result<(), AllocError> {
     let groups = Groups {
         groups: List::from_vec(groups),
     };
-    let cover = cover(alloc, 2 * pairs + 1, &groups)?;
+    let cover = cover(alloc, 2 * pairs + 1, &groups, false)?;
     let mut sets = Vec::new(alloc);
     for pair in 0..pairs {
         sets.push(List::from_vec(vec![in alloc; 2 * pair, 2 * pair + 1]?))?;

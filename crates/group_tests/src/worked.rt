@@ -64,7 +64,7 @@ fn has_cover(alloc: Global, domain: &str, problem: &str, rows: &[Names]) -> bool
 
 fn is_covered(alloc: Global, grouped: &Grouped, rows: &[Names]) -> bool {
     let facts = grouped.reached.facts.as_slice();
-    match cover(alloc, facts.len() as u64, &grouped.groups) {
+    match cover(alloc, facts.len() as u64, &grouped.groups, false) {
         Ok(cover) => are_sets(facts, cover.sets.as_slice(), rows),
         Err(_) => false,
     }

@@ -10,19 +10,19 @@ use Rattle.fdr_encoder.proofs.encoding.encode.Goals as goal
 pub new-requires-clause-facts : goal.new-requires-clause-facts
 new-requires-clause-facts c =
     subst (λ n. All (λ set. All (λ fact. fact < n) set) c.as_slice-2.result.now) (sym (ap (λ (fs : List Fact). length fs) c.as_slice.ensures))
-    (subst (All (λ set. All (λ fact. fact < length c.args.reached.now.facts) set)) (sym c.as_slice-2.ensures) (sets_of_facts c.args.reached.now c.args.groups.now.groups c.args.cover.now.sets c.requires.groups c.requires.cover))
+    (subst (All (λ set. All (λ fact. fact < length c.args.reached.now.facts) set)) (sym c.as_slice-2.ensures) (sets_of_facts c.requires.cover.0 c.args.reached.now c.args.groups.now.groups c.args.cover.now.sets c.requires.groups c.requires.cover.1))
 
 pub new-requires-clause-apart : goal.new-requires-clause-apart
 new-requires-clause-apart c =
-    subst (All IsStrictlyIncreasing) (sym c.as_slice-2.ensures) (sets_apart c.args.reached.now c.args.groups.now.groups c.args.cover.now.sets c.requires.groups c.requires.cover)
+    subst (All IsStrictlyIncreasing) (sym c.as_slice-2.ensures) (sets_apart c.requires.cover.0 c.args.reached.now c.args.groups.now.groups c.args.cover.now.sets c.requires.groups c.requires.cover.1)
 
 pub encode_over-requires-clause-cover : goal.encode_over-requires-clause-cover
 encode_over-requires-clause-cover c =
-    subst (MakesVariables c.args.reached.now) (sym (c.in_ok-index.ensures ∙ c.as_slice-2.ensures)) (covered_by_groups c.args.reached.now c.args.groups.now.groups c.args.cover.now.sets c.requires.groups c.requires.cover)
+    subst (MakesVariables c.args.reached.now) (sym (c.in_ok-index.ensures ∙ c.as_slice-2.ensures)) (covered_by_groups c.requires.cover.0 c.args.reached.now c.args.groups.now.groups c.args.cover.now.sets c.requires.groups c.requires.cover.1)
 
 pub encode_over-requires-clause-apart : goal.encode_over-requires-clause-apart
 encode_over-requires-clause-apart c =
-    subst (All IsStrictlyIncreasing) (sym (c.in_ok-index.ensures ∙ c.as_slice-2.ensures)) (sets_apart c.args.reached.now c.args.groups.now.groups c.args.cover.now.sets c.requires.groups c.requires.cover)
+    subst (All IsStrictlyIncreasing) (sym (c.in_ok-index.ensures ∙ c.as_slice-2.ensures)) (sets_apart c.requires.cover.0 c.args.reached.now c.args.groups.now.groups c.args.cover.now.sets c.requires.groups c.requires.cover.1)
 
 pub encode_over-requires-clause-groups : goal.encode_over-requires-clause-groups
 encode_over-requires-clause-groups c = subst (All (IsBasicGroup c.args.reached.now)) (sym c.as_slice-3.ensures) c.requires.groups
