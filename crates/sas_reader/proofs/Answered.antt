@@ -1,0 +1,53 @@
+-- What an answer that the text gives says.
+use Rattle.std.proofs.Common.{◌≡◌, ◌<◌, ◌^◌, ℕ, length, List, Some, None, Result, Ok, Err, refl, sym, ap, ◌∙◌}
+use Rattle.std.specs.Prelude.{IsOk, IfOk, OnOk}
+use Rattle.std.proofs.lemmas.Option.{none-some, same_Some}
+use Rattle.sas_task.specs.Task.{Task}
+use Rattle.sas_reader.specs.declared.fault.SasFault.{SasFault}
+use Rattle.sas_reader.specs.declared.fault.ReadTaskEnd.{ReadTaskEnd}
+use Rattle.sas_reader.specs.declared.fault.ReadTaskEnd.TheVariants as ends
+use Rattle.sas_reader.specs.Answers.{IfFault, UnlessNoMemory, Tells}
+use Rattle.sas_reader.specs.Forms.{unread}
+use Rattle.sas_reader.specs.Text.{task, read_of, reading_of, fault_of, line_fault, IsTextOf}
+use Rattle.sas_task.specs.Output.{text_of}
+use Rattle.sas_task.specs.Valid.{IsValid}
+use Rattle.sas_reader.proofs.Kept.{read_same}
+use Rattle.sas_reader.proofs.AgainRest.{text_again}
+use Rattle.sas_reader.proofs.WholeText.{task_read}
+
+pub told_text : (bytes : List ℕ) (r : Result Task ReadTaskEnd) → Tells r (task (unread bytes)) → IfOk r (λ t. IsTextOf bytes t)
+told_text bytes (Ok t) told = (task_read bytes t told.0 told.1).1
+told_text bytes (Err e) told = tt
+
+pub told_read : (bytes : List ℕ) (r : Result Task ReadTaskEnd) → Tells r (task (unread bytes)) → IfOk r (λ t. reading_of bytes ≡ Ok t)
+told_read bytes (Ok t) told = ap read_of told.1
+told_read bytes (Err e) told = tt
+
+pub told_lawful : (bytes : List ℕ) (r : Result Task ReadTaskEnd) → Tells r (task (unread bytes)) → OnOk r (line_fault bytes ≡ None)
+told_lawful bytes (Ok t) told = ap fault_of told.1
+told_lawful bytes (Err e) told = tt
+
+pub told_first : (bytes : List ℕ) (r : Result Task ReadTaskEnd) → Tells r (task (unread bytes)) → IfFault r (λ fault. line_fault bytes ≡ Some fault)
+told_first bytes (Ok t) told = tt
+told_first bytes (Err (ends.Fault fault)) told = ap fault_of told
+told_first bytes (Err ends.NoMemory) told = tt
+
+pub told_ok : (bytes : List ℕ) (r : Result Task ReadTaskEnd) → Tells r (task (unread bytes)) → line_fault bytes ≡ None → UnlessNoMemory r (IsOk r)
+told_ok bytes (Ok t) told none = refl
+told_ok bytes (Err (ends.Fault fault)) told none = absurd (none-some fault (sym none ∙ ap fault_of told))
+told_ok bytes (Err ends.NoMemory) told none = tt
+
+pub told_fault : (bytes : List ℕ) (r : Result Task ReadTaskEnd) → Tells r (task (unread bytes)) → (fault : SasFault) → line_fault bytes ≡ Some fault → UnlessNoMemory r (r ≡ Err (ends.Fault fault))
+told_fault bytes (Ok t) told fault is = absurd (none-some fault (sym (ap fault_of told.1) ∙ is))
+told_fault bytes (Err (ends.Fault other)) told fault is = ap (λ f. Err (ends.Fault f)) (same_Some other fault (sym (ap fault_of told) ∙ is))
+told_fault bytes (Err ends.NoMemory) told fault is = tt
+
+pub told_again : (bytes : List ℕ) (r : Result Task ReadTaskEnd) → length bytes < 2 ^ 32 → Tells r (task (unread bytes)) → (t : Task) → IsValid t → bytes ≡ text_of t → UnlessNoMemory r (r ≡ Ok t)
+told_again bytes (Ok x) short told t valid is =
+    let a = text_again bytes t valid short is in
+    ap Ok (read_same x t told.0 a.0 (sym told.1 ∙ a.1)).0
+told_again bytes (Err (ends.Fault fault)) short told t valid is =
+    let a = text_again bytes t valid short is in
+    let both : Err fault ≡ Ok (t, a.0) = sym told ∙ a.1 in
+    absurd cc
+told_again bytes (Err ends.NoMemory) short told t valid is = tt
