@@ -3,4 +3,6 @@
 pub enum PassKind {
     /// The variables are ordered by how many operators have an effect on them.
     Order,
+    /// What can't influence the goal is left out.
+    Relevance,
 }

@@ -1,5 +1,6 @@
 //! A book with passes, applied to the room with a lamp.
 
+use crate::tasks::{SWITCH, task_of};
 use order_variables::order_variables;
 use pass_book::{AddEnd, ApplyEnd, Book, Pass, PassKind};
 use sas_task::{SasTask, examples};
@@ -144,6 +145,23 @@ fn a_copy_has_the_same_text(rt: HostRuntime) -> Result<(), AllocError> {
     let alloc = rt.alloc();
     assert!(rt; copies_have_one_text(alloc, &examples::switch(alloc)?)?);
     assert!(rt; copies_have_one_text(alloc, &examples::room(alloc)?)?);
+    Ok(())
+}
+
+/// Whether a copy of the task of this text has the text.
+fn copy_has_text(alloc: Global, text: &[u8]) -> Result<bool, AllocError> {
+    let task = task_of(alloc, text)?;
+    has_copy_of_text(alloc, &task, text)
+}
+
+fn has_copy_of_text(alloc: Global, task: &SasTask, text: &[u8]) -> Result<bool, AllocError> {
+    let copy = task.copy(alloc)?;
+    has_text(alloc, &copy, text)
+}
+
+#[test]
+fn a_copy_of_the_lamp_has_its_text(rt: HostRuntime) -> Result<(), AllocError> {
+    assert!(rt; copy_has_text(rt.alloc(), SWITCH)?);
     Ok(())
 }
 

@@ -1,6 +1,5 @@
 mod Pairs
 mod Pieces
-mod Exact
 mod Places
 mod Rising
 mod Shape
@@ -8,6 +7,7 @@ mod Completed
 mod Steps
 mod Assembled
 -- what a pass owes and gets, which crates above cite
+pub mod Exact
 pub mod Numbers
 pub mod Alike
 pub mod Shown
@@ -17,5 +17,9 @@ pub mod Stands
 pub mod Arranged
 pub mod Told
 pub mod AllValues
+pub mod Renumbered
 pub mod Order
 pub mod Reordered
+pub mod Relevance
+pub mod Reduced
+pub mod OneProof

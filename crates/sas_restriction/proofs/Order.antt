@@ -1,5 +1,5 @@
 -- All variables in their order, with all values and all operators, meet the condition of the law.
-use Rattle.std.proofs.Common.{◌≡◌, ◌≢◌, ℕ, ◌<◌, Bool, true, false, cond, List, [], ◌∷◌, length, get_or, ◌⊎◌, refl, sym, subst, inl, inr}
+use Rattle.std.proofs.Common.{◌≡◌, ◌≢◌, ℕ, ◌<◌, Bool, true, false, cond, List, [], ◌∷◌, length, refl, sym, subst, inl, inr}
 use Rattle.std.specs.List.{Contains, All, AllPairs, range_with_len}
 use Rattle.std.specs.Ordering.{is_gt}
 use Rattle.std.specs.declared.cmp.Ordering.{Ordering}
@@ -9,15 +9,17 @@ use Rattle.sas_task.specs.Task.{Task}
 use Rattle.sas_task.specs.Valid.{IsValid}
 use Rattle.lists.proofs.Members.{no_member, member_first, member_later, member_range, range_member, all_from_members}
 use Rattle.sas_orders.specs.InOrder.{put_in, in_order}
-use Rattle.sas_orders.proofs.InOrder.{pairs_head, pairs_tail, put_member, ordered_member, member_ordered}
+use Rattle.lists.proofs.Ordered.{pairs_head, pairs_tail}
+use Rattle.sas_orders.proofs.InOrder.{put_member, ordered_member, member_ordered}
 use Rattle.sas_restriction.specs.Choice.{IsChoice, is_shown}
 use Rattle.sas_restriction.specs.MayStand.{MayStand, TellsAll}
 use Rattle.sas_restriction.specs.Everything.{all_values, everything}
 use Rattle.sas_restriction.specs.Reordered.{variable_cmp, variable_order}
 use Rattle.sas_restriction.proofs.Numbers.{member_any}
-use Rattle.sas_restriction.proofs.Closed.{has_always, sets_always, rule_has}
+use Rattle.sas_restriction.proofs.Closed.{has_always, sets_always}
 use Rattle.sas_restriction.proofs.Told.{may_where_told}
-use Rattle.sas_restriction.proofs.AllValues.{range_increasing, range_once, value_member, member_value, facts_left, all_closed}
+use Rattle.sas_restriction.proofs.AllValues.{range_once, all_closed}
+use Rattle.sas_restriction.proofs.Renumbered.{choice_of}
 
 -- what holds of all pairs of a list, in both ways, holds of all pairs of the ordered list
 module _ {X : Type 0} (cmp : X → X → Ordering) (R : X → X → Type 0) (turned : (x y : X) → R x y → R y x) where
@@ -56,17 +58,7 @@ module _ (T : Task) where
     tells v below = inl (shown v below)
 
     pub choice : IsChoice (everything T (variable_order T)) T
-    choice =
-        record {
-          inside = order_below;
-          once = ordered_pairs (variable_cmp T) (λ v w. v ≢ w) (λ v w no same. no (sym same)) (range_with_len 0 (length T.variables)) (range_once (length T.variables));
-          in_order = λ v below. range_increasing _;
-          are_values = λ v x below in'. member_value T v x in';
-          initial = λ v below. value_member T v (get_or T.state v 0) (valid.state v below);
-          by_rules = λ r in' stays. rule_has T valid (λ v x. Contains (all_values T v) x) (all_closed T valid) r in';
-          two_valued = tt;
-          goal_left = λ none. facts_left T T.goal valid.goal.facts;
-        }
+    choice = choice_of T valid (variable_order T) (λ o. true) order_below (ordered_pairs (variable_cmp T) (λ v w. v ≢ w) (λ v w no same. no (sym same)) (range_with_len 0 (length T.variables)) (range_once (length T.variables)))
 
     pub may : MayStand (everything T (variable_order T)) T
     may =

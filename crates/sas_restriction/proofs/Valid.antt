@@ -66,7 +66,7 @@ pair_less p q e =
       | inr both ↦ inr (nat_equal p.var q.var both.0, nat_less p.val q.val both.1)
     ]
 
-sorted_pairs : (ps : List Pair) → AllPairs ComesBefore (sorted pair_cmp ps)
+pub sorted_pairs : (ps : List Pair) → AllPairs ComesBefore (sorted pair_cmp ps)
 sorted_pairs ps i j d lt below = pair_less (get_or (sorted pair_cmp ps) i d) (get_or (sorted pair_cmp ps) j d) (sorted_ordered pair_cmp pair_total ps i j d lt below)
 
 -- conditions name a variable once

@@ -7,3 +7,6 @@ pub mod Everything
 pub mod Reordered
 pub mod Examples
 pub mod KeepsCosts
+pub mod KeepsPart
+pub mod Relevant
+pub mod Reduced

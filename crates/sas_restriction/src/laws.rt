@@ -10,7 +10,9 @@ ghost use Rattle.sas_restriction.specs.Restriction.{Restricts};
 ghost use Rattle.sas_restriction.specs.MayStand.{MayStand, TellsAll};
 ghost use Rattle.sas_restriction.specs.KeepsCosts.{KeepsCosts};
 ghost use Rattle.sas_restriction.specs.Reordered.{changing_operators, variable_order, renumbered, IsReordered};
-ghost use Rattle.sas_restriction.specs.Examples.{room_reordered};
+ghost use Rattle.sas_restriction.specs.KeepsPart.{KeepsPart};
+ghost use Rattle.sas_restriction.specs.Reduced.{has_effect_on, reduced, HasRelevantAlone, IsReduced};
+ghost use Rattle.sas_restriction.specs.Examples.{room_reordered, belfry, belfry_reduced};
 
 /// A restriction of a valid task is valid. It may stand for the task where the choice meets `MayStand`, and where all
 /// variables are told too, each solution of the task whose every step changes the state is a solution of the
@@ -36,4 +38,22 @@ pub fn reordered_example()
     ensures counts { changing_operators room 1 ≡ 2 }
     ensures order { variable_order room ≡ 2 ∷ 3 ∷ 0 ∷ 1 ∷ [] }
     ensures reordered { renumbered (variable_order room) room ≡ room_reordered }
+{}
+
+/// A valid task without what can't influence its goal is valid and may stand for the task. More exactly, of a solution of
+/// the task the operators that have an effect on a relevant variable are, in their order and with their names and costs,
+/// a solution of the task with its relevant variables alone. The new task is one task, and its operators have the names
+/// and costs of the task's.
+pub fn reduction_keeps()
+    ensures valid { (task new : Task) → IsValid task → IsReduced task new → IsValid new }
+    ensures stands { (task new : Task) → IsValid task → IsReduced task new → Keeps task new }
+    ensures relevant_steps { (task new : Task) → IsValid task → (part : HasRelevantAlone task new) → KeepsPart (has_effect_on part.vars) task new }
+    ensures costs { (task new : Task) → IsReduced task new → KeepsCosts task new }
+    ensures one { (task new other : Task) → IsReduced task new → IsReduced task other → new ≡ other }
+{}
+
+/// A room with a lamp and a bell, worked by hand. Without the bell two operators are one, so are two groups, and a third
+/// group has one fact left and goes. A rule that stands there twice stays so.
+pub fn reduced_example()
+    ensures { reduced (1 ∷ 2 ∷ 4 ∷ []) belfry ≡ belfry_reduced }
 {}

@@ -4,7 +4,7 @@ use Rattle.std.proofs.lemmas.List.{ext_get_or}
 use Rattle.std.proofs.lemmas.List.Kept.{AllPairs-from_increasing}
 use Rattle.sas_task.specs.Task.{Task}
 use Rattle.task_simplifier.specs.Projection.{project_to, values_in, IsProjection}
-use Rattle.sas_orders.proofs.Sorted.{same_ordered}
+use Rattle.lists.proofs.Ordered.{same_ordered}
 
 -- there is one projection
 pub one_projection : (T a b : Task) → IsProjection T a → IsProjection T b → a ≡ b

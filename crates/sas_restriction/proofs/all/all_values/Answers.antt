@@ -1,8 +1,7 @@
 -- The values are those of the task's variables, and rise.
-use Rattle.std.proofs.Common.{◌<◌, ℕ, List, length, sym, subst, ap, ◌∙◌}
+use Rattle.std.proofs.Common.{◌<◌, ℕ, List, length, sym, subst}
 use Rattle.std.specs.List.{All}
 use Rattle.std.specs.List.Sorted.{IsStrictlyIncreasing}
-use Rattle.sas_restriction.specs.Listed.{Listed}
 use Rattle.sas_restriction.proofs.AllValues.{all_within, all_rise}
 use Rattle.sas_restriction.proofs.all.all_values.Goals as goal
 

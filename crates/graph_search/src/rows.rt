@@ -1,0 +1,58 @@
+// Lists by number, which grow at their ends.
+
+ghost use Rattle.std.specs.Prelude.{◌≡◌, ◌==◌, [], ◌∷◌, replicate, IfOk, OnOk, if◌then◌else◌};
+ghost use Rattle.graph_search.specs.Rows.{row_of, Adds};
+
+use std::alloc::{AllocError, Global};
+use std::marker::Model;
+
+/// A list of items for each number below a count.
+#[derive(Drop)]
+pub(crate) struct Rows<T> {
+    rows: Vec<Vec<T>>,
+}
+
+impl<T> Model for Rows<T> {
+    ghost use Rattle.std.specs.Prelude.{List, map};
+    ghost use Rattle.std.specs.Coded.{coded_list};
+
+    ghost Value = { List (List T) };
+
+    ghost coded = { coded_list (coded_list T.code) };
+
+    ghost view = { λ rows. map (λ row. row.items) rows.rows.items };
+}
+
+impl<T: Drop> Rows<T> {
+    /// Empty lists for the numbers below the count.
+    pub(crate) fn new(alloc: Global, count: u64) -> Result<Rows<T>, AllocError>
+        ensures { IfOk result (λ rows. rows ≡ replicate count []) }
+    {
+        let mut rows = Vec::new(alloc);
+        for _ in 0..count {
+            rows.push(Vec::new(alloc))?;
+        }
+        Ok(Rows { rows })
+    }
+
+    /// Adds the item to the number's list, if there is one.
+    pub(crate) fn push(&mut self, number: u64, item: T) -> Result<(), AllocError>
+        ensures { OnOk result (Adds (λ other. if number == other then item ∷ [] else []) self.old self.new) }
+    {
+        let place = number as usize;
+        if place < self.rows.len() {
+            self.rows[place].push(item)?;
+        }
+        Ok(())
+    }
+
+    /// The number's list.
+    pub(crate) fn row(&self, number: u64) -> &[T]
+        ensures { result.now ≡ row_of self.now number }
+    {
+        match self.rows.as_slice().get(number as usize) {
+            Some(row) => row.as_slice(),
+            None => &[],
+        }
+    }
+}

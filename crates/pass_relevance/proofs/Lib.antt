@@ -1,0 +1,4 @@
+mod Pieces
+mod Left
+mod Disagreeing
+mod Reaching

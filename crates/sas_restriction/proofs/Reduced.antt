@@ -1,0 +1,159 @@
+-- The task without what can't influence its goal is the restriction to its relevant variables, and may stand for it.
+use Rattle.std.proofs.Common.{◌≡◌, ◌≢◌, ℕ, ◌<◌, true, false, ◌&&◌, ltb, List, [], ◌∷◌, map, filter, length, get_or, append-nil, ◌⊎◌, refl, sym, ap, ◌∙◌, subst, inl, inr}
+use Rattle.std.specs.List.{Contains}
+use Rattle.std.proofs.lemmas.List.Elements.{All-contains}
+use Rattle.runs.specs.Systems.{IsFollowedWhere}
+use Rattle.runs.proofs.Systems.{part_follows}
+use Rattle.sas_task.specs.declared.parts.Pair.{Pair}
+use Rattle.sas_task.specs.declared.parts.Group.{Group}
+use Rattle.sas_task.specs.declared.parts.Effect.{Effect}
+use Rattle.sas_task.specs.declared.parts.Operator.{Operator}
+use Rattle.sas_task.specs.declared.parts.Rule.{Rule}
+use Rattle.sas_task.specs.Task.{Task}
+use Rattle.sas_task.specs.Valid.{IsValid, IsValidGroup}
+use Rattle.sas_task.specs.Solution.{system}
+use Rattle.sas_task.specs.Keeps.{Keeps}
+use Rattle.sas_task.specs.Orders.{group_cmp, effect_cmp, operator_cmp, rule_cmp}
+use Rattle.sas_task.proofs.KeepsLaws.{keeps_itself}
+use Rattle.sas_task.proofs.Orders.{operator_total}
+use Rattle.sas_task.proofs.ValidParts.{operator_law, effect_law}
+use Rattle.lists.proofs.Members.{map_member, filter_member}
+use Rattle.sas_orders.specs.InOrder.{sorted, in_order}
+use Rattle.sas_orders.proofs.Sorted.{sorted_member}
+use Rattle.sas_restriction.specs.declared.chosen.Once.{Once}
+use Rattle.sas_restriction.specs.Choice.{Choice, new_val, new_variable, variable_at, new_group, effect_stays, new_effect, is_busy, operator_stays, rule_stays, new_rule, busy_alone}
+use Rattle.sas_restriction.specs.Restriction.{restriction, new_operator, new_groups, Restricts}
+use Rattle.sas_restriction.specs.Everything.{everything}
+use Rattle.sas_restriction.specs.KeepsCosts.{KeepsCosts}
+use Rattle.sas_restriction.specs.KeepsPart.{KeepsPart}
+use Rattle.sas_restriction.specs.Relevant.{is_among, AreRelevant}
+use Rattle.sas_restriction.specs.Reordered.{renumbered_pairs, renumbered_effect, renumbered_rule}
+use Rattle.sas_restriction.specs.Reduced.{reduced_group, has_effect_on, reduced_operator, reduced, HasRelevantAlone, IsReduced}
+use Rattle.sas_restriction.proofs.AllValues.{facts_left}
+use Rattle.sas_restriction.proofs.Relevance.{one_list, relevant_below, busy_is, busy_effect, choice, may}
+use Rattle.sas_restriction.proofs.Renumbered.{agree, left_agree, an_operator, pairs_are, group_is, effect_left, effect_is, rule_left, rule_is, variable_is, start_is}
+use Rattle.sas_restriction.proofs.Assembled.{assembled}
+use Rattle.sas_restriction.proofs.Valid.{restriction_valid}
+use Rattle.sas_restriction.proofs.Arranged.{restricts}
+use Rattle.sas_restriction.proofs.Steps.{Shows, followed_busy}
+use Rattle.sas_restriction.proofs.Stands.{keeps}
+
+-- operators and groups that stand there twice go
+abbrev pub some_go : Once
+some_go = record { effects = false; operators = true; groups = true; rules = false }
+
+module _ (T : Task) (valid : IsValid T) (vars : List ℕ) (are : AreRelevant T vars) where
+  abbrev C : Choice
+  C = busy_alone (everything T vars)
+
+  groups_are : new_groups C T ≡ filter (λ (g : Group). ltb 1 (length g.facts)) (map (reduced_group vars) T.groups)
+  groups_are =
+      ap (filter (λ (g : Group). ltb 1 (length g.facts))) (agree (new_group C) (reduced_group vars) T.groups (λ g in'. group_is T valid vars g (All-contains (IsValidGroup T) T.groups g valid.groups in')))
+
+  -- what an operator with an effect on a relevant variable needs is relevant
+  operator_is : (o : Operator) → Contains T.operators o → has_effect_on vars o ≡ true → new_operator some_go C o ≡ reduced_operator vars o
+  operator_is o in-o busy =
+      ap (λ ps. an_operator o ps (in_order effect_cmp (map (new_effect C) (filter (effect_stays C) o.effects))))
+      (pairs_are T valid vars o.conditions (operator_law T valid o in-o).conditions.facts (λ p in'. let e = busy_effect T valid vars are o busy in are.closed.operators o e.0 p in-o e.1 e.2 in'))
+      ∙ ap (λ es. an_operator o (renumbered_pairs vars o.conditions) (in_order effect_cmp es))
+      (left_agree (effect_stays C) (λ (e : Effect). is_among vars e.var) (new_effect C) (renumbered_effect vars) o.effects
+      (λ e in-e. effect_left T valid vars e (effect_law T valid o in-o e in-e))
+      (λ e in-e is. effect_is T valid vars e (effect_law T valid o in-o e in-e) (λ p in'. are.closed.effects o e p in-o in-e is in')))
+
+  operators_are : map (new_operator some_go C) (filter (operator_stays C) T.operators) ≡ map (reduced_operator vars) (filter (has_effect_on vars) T.operators)
+  operators_are =
+      left_agree (operator_stays C) (has_effect_on vars) (new_operator some_go C) (reduced_operator vars) T.operators
+      (λ o in-o. ap (λ b. b && is_busy (everything T vars) o) (facts_left T o.conditions (operator_law T valid o in-o).conditions.facts) ∙ busy_is T valid vars are o in-o)
+      operator_is
+
+  rules_are : map (new_rule C) (filter (rule_stays C) T.rules) ≡ map (renumbered_rule vars) (filter (λ (r : Rule). is_among vars r.var) T.rules)
+  rules_are =
+      left_agree (rule_stays C) (λ (r : Rule). is_among vars r.var) (new_rule C) (renumbered_rule vars) T.rules
+      (λ r in-r. rule_left T valid vars r in-r)
+      (λ r in-r is. rule_is T valid vars r in-r (λ p in'. are.closed.rules r p in-r is in'))
+
+  var_below : (v : ℕ) → Contains vars v → v < length T.variables
+  var_below v in' = All-contains (λ v. v < length T.variables) vars v (relevant_below T valid vars are) in'
+
+  pub reduced_is : reduced vars T ≡ restriction some_go (busy_alone (everything T vars)) T
+  reduced_is =
+      let new = reduced vars T in
+      assembled some_go C T new.metric new.variables new.groups new.state new.goal new.operators new.rules refl
+      (sym (append-nil (map (new_variable C T) vars) ∙ agree (new_variable C T) (variable_at T) vars (λ v in'. variable_is T valid vars v)))
+      (sym (ap (sorted group_cmp) groups_are))
+      (sym (append-nil (map (λ v. new_val C v (get_or T.state v 0)) vars) ∙ agree (λ v. new_val C v (get_or T.state v 0)) (λ v. get_or T.state v 0) vars (λ v in'. start_is T valid vars v (var_below v in'))))
+      (sym (pairs_are T valid vars T.goal valid.goal.facts (λ p in'. are.closed.goal p in')))
+      (sym (ap (sorted operator_cmp) operators_are))
+      (sym (ap (in_order rule_cmp) rules_are))
+
+  is_restriction : Restricts C T (restriction some_go C T)
+  is_restriction = restricts some_go C T valid (choice T valid vars are)
+
+  pub part_valid : IsValid (reduced vars T)
+  part_valid = subst IsValid (sym reduced_is) (restriction_valid C T (restriction some_go C T) valid (choice T valid vars are) is_restriction)
+
+  pub part_keeps : Keeps T (reduced vars T)
+  part_keeps = subst (Keeps T) (sym reduced_is) (keeps C T (restriction some_go C T) valid (choice T valid vars are) is_restriction (may T valid vars are))
+
+  -- of a solution the operators with an effect on a relevant variable are a solution
+  pub part_solves : KeepsPart (has_effect_on vars) T (reduced vars T)
+  part_solves =
+      subst (KeepsPart (has_effect_on vars) T) (sym reduced_is) (part_follows (system T) (system (restriction some_go C T)) (has_effect_on vars) Show followed)
+    where
+      Show : List ℕ → List ℕ → Type 0
+      Show = Shows C T (restriction some_go C T) valid (choice T valid vars are) is_restriction (may T valid vars are)
+
+      busy : IsFollowedWhere (system T) (system (restriction some_go C T)) (is_busy C) (Shows C T (restriction some_go C T) valid (choice T valid vars are) is_restriction (may T valid vars are))
+      busy = followed_busy C T (restriction some_go C T) valid (choice T valid vars are) is_restriction (may T valid vars are)
+
+      followed : IsFollowedWhere (system T) (system (restriction some_go C T)) (has_effect_on vars) Show
+      followed =
+          record {
+            starts = busy.starts;
+            steps = λ s t related o next takes passes. busy.steps s t related o next takes (busy_is T valid vars are o takes.of_task ∙ passes);
+            others = λ s t related o next takes fails. busy.others s t related o next takes (busy_is T valid vars are o takes.of_task ∙ fails);
+            goals = busy.goals;
+          }
+
+empty_or_not : (ps : List Pair) → (ps ≡ []) ⊎ (ps ≢ [])
+empty_or_not [] = inl refl
+empty_or_not (p ∷ ps) = inr (λ e. cc)
+
+-- so of the whole
+pub reduced_valid : (T T' : Task) → IsValid T → IsReduced T T' → IsValid T'
+reduced_valid T T' valid is =
+    elim (empty_or_not T.goal) [
+      | inl none ↦ subst IsValid (sym (is.empty_goal none)) valid
+      | inr some ↦ let part = is.some_goal some in subst IsValid (sym part.same) (part_valid T valid part.vars part.are)
+    ]
+
+pub reduced_keeps : (T T' : Task) → IsValid T → IsReduced T T' → Keeps T T'
+reduced_keeps T T' valid is =
+    elim (empty_or_not T.goal) [
+      | inl none ↦ subst (Keeps T) (sym (is.empty_goal none)) (keeps_itself T)
+      | inr some ↦ let part = is.some_goal some in subst (Keeps T) (sym part.same) (part_keeps T valid part.vars part.are)
+    ]
+
+pub reduced_solves : (T T' : Task) → IsValid T → (part : HasRelevantAlone T T') → KeepsPart (has_effect_on part.vars) T T'
+reduced_solves T T' valid part = subst (KeepsPart (has_effect_on part.vars) T) (sym part.same) (part_solves T valid part.vars part.are)
+
+-- operators have the names and costs of the task's
+pub reduced_costs : (T T' : Task) → IsReduced T T' → KeepsCosts T T'
+reduced_costs T T' is o' in' =
+    elim (empty_or_not T.goal) [
+      | inl none ↦ (o', subst (λ (t : Task). Contains t.operators o') (is.empty_goal none) in', refl, refl)
+      | inr some ↦ of_part (is.some_goal some)
+    ]
+  where
+    of_part : HasRelevantAlone T T' → (o : Operator) × Contains T.operators o × (o.name ≡ o'.name) × (o.cost ≡ o'.cost)
+    of_part part =
+        let from = map_member (reduced_operator part.vars) (filter (has_effect_on part.vars) T.operators) o' (sorted_member operator_cmp operator_total (map (reduced_operator part.vars) (filter (has_effect_on part.vars) T.operators)) o' (subst (λ (t : Task). Contains t.operators o') part.same in')) in
+        (from.0, (filter_member (has_effect_on part.vars) T.operators from.0 from.1).0, ap (λ (o : Operator). o.name) from.2, ap (λ (o : Operator). o.cost) from.2)
+
+-- and it is one task
+pub reduced_once : (T T' T'' : Task) → IsReduced T T' → IsReduced T T'' → T' ≡ T''
+reduced_once T T' T'' is is' =
+    elim (empty_or_not T.goal) [
+      | inl none ↦ is.empty_goal none ∙ sym (is'.empty_goal none)
+      | inr some ↦ let a = is.some_goal some in let b = is'.some_goal some in a.same ∙ ap (λ vars. reduced vars T) (one_list T a.vars b.vars a.are b.are) ∙ sym b.same
+    ]
