@@ -4,7 +4,7 @@ ghost use Rattle.std.specs.Prelude.{◌≡◌, IfOk, map, option_map, string_byt
 ghost use Rattle.std.specs.List.{list_all};
 ghost use Rattle.std.specs.Char.{is_ascii_digit};
 ghost use Rattle.clap.specs.Words.{found_of, rows_of};
-ghost use Rattle.command_line.specs.Accepted.{accepted, asked_by, asked_of, number_within, source_by, source_of};
+ghost use Rattle.command_line.specs.Accepted.{accepted, asked_by, asked_of, is_set, number_within, source_by, source_of};
 
 use crate::command::command;
 use clap::ArgMatches;
@@ -25,6 +25,8 @@ pub enum Source<'a> {
 pub struct Settings {
     /// The greatest number of candidates for invariants that are tried.
     pub max_candidates: u32,
+    /// Whether the mutex groups that are chosen for variables are kept whole.
+    pub full_encoding: bool,
 }
 
 /// What the words ask for, where they are accepted.
@@ -34,6 +36,10 @@ pub struct Accepted<'a> {
     pub settings: Settings,
     /// The name of the output file.
     pub output: &'a str,
+    /// The name of the plan file that is mapped back.
+    pub plan: Option<&'a str>,
+    /// The names of the passes, with commas between them.
+    pub passes: Option<&'a str>,
 }
 
 /// Reads the words of a command line, the program's name first: `None` where they are refused.
@@ -67,9 +73,24 @@ fn asked<'a>(matches: &ArgMatches<'a>) -> Option<Accepted<'a>>
     };
     Some(Accepted {
         source,
-        settings: Settings { max_candidates },
+        settings: Settings {
+            max_candidates,
+            full_encoding: is_set(matches.get_str("full-encoding")),
+        },
         output: matches.get_str("sas-file").unwrap_or("output.sas"),
+        plan: matches.get_str("map-plan"),
+        passes: matches.get_str("pass"),
     })
+}
+
+/// Whether a flag is given, by its value.
+fn is_set(value: Option<&str>) -> bool
+    ensures { result ≡ is_set (option_map (λ text. text.now) value.entry) }
+{
+    match value {
+        Some(text) => text == "true",
+        None => false,
+    }
 }
 
 /// Where the task comes from, by the two names and the number of balls.

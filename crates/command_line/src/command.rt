@@ -16,9 +16,12 @@ pub(crate) fn command<'a>(alloc: Global) -> Result<Command<'a>, AllocError>
         .arg(Arg::new(alloc, "problem"))?
         .arg(option(alloc, "sas-file"))?
         .arg(option(alloc, "invariant-generation-max-candidates"))?
+        .arg(option(alloc, "map-plan"))?
         .arg(option(alloc, "make"))?
+        .arg(option(alloc, "pass"))?
         .arg(flag(alloc, "keep-unimportant-variables"))?
-        .arg(flag(alloc, "skip-variable-reordering"))
+        .arg(flag(alloc, "skip-variable-reordering"))?
+        .arg(flag(alloc, "full-encoding"))
 }
 
 /// An option with its long name alone, which takes one value.

@@ -4,7 +4,7 @@ use crate::{Accepted, Settings, Source, read_words};
 use std::alloc::{AllocError, Global};
 
 /// Lines that are refused.
-static REFUSED: [&str; 48] = [
+static REFUSED: [&str; 59] = [
     // No word at all.
     "",
     "translate",
@@ -54,6 +54,7 @@ static REFUSED: [&str; 48] = [
     "translate d p --make 4",
     "translate --make 4 d",
     "translate d --make=4 p",
+    "translate --map-plan f",
     "translate --sas-file o",
     // A number of balls is one from 1 to 200, in decimal digits only.
     "translate --make",
@@ -62,7 +63,20 @@ static REFUSED: [&str; 48] = [
     "translate --make 4 --make 4",
     "translate --make 4 --make 5",
     "translate --make 4 --invariant-generation-max-candidates 2147483648",
-    "translate d p --map-plan f",
+    // A plan file has a name, and is one.
+    "translate d p --map-plan",
+    "translate d p --map-plan f --map-plan f",
+    "translate d p --map-plan -f",
+    "translate --make 4 --map-plan",
+    // A list of passes is given once, and is one.
+    "translate d p --pass",
+    "translate d p --pass order --pass order",
+    "translate d p --map f",
+    // The flag for whole groups.
+    "translate d p --full-encoding=x",
+    "translate d p --full-encoding=",
+    "translate d p --full-encoding --full-encoding",
+    "translate d p --full",
 ];
 
 /// The fronts of two lines that a number ends.
@@ -149,6 +163,34 @@ static BEFORE_BALLS: [&str; 2] = ["translate --make ", "translate --make="];
 /// Numbers of balls that are accepted.
 static ACCEPTED_BALLS: [(&str, u32); 4] = [("1", 1), ("4", 4), ("0004", 4), ("200", 200)];
 
+/// Lines with a plan file that are accepted, with its name.
+static ACCEPTED_PLANS: [(&str, &str); 6] = [
+    ("translate d p --map-plan f", "f"),
+    ("translate --map-plan f d p", "f"),
+    ("translate d --map-plan=f p", "f"),
+    ("translate d p --map-plan=", ""),
+    ("translate d p --map-plan -", "-"),
+    ("translate d p --map-plan=-f", "-f"),
+];
+
+/// Lines with a list of passes that are accepted, with the list as it is written.
+static ACCEPTED_PASSES: [(&str, &str); 6] = [
+    ("translate d p --pass order", "order"),
+    ("translate --pass order,order d p", "order,order"),
+    ("translate d --pass=order, p", "order,"),
+    ("translate d p --pass=", ""),
+    ("translate d p --pass ,ORDER", ",ORDER"),
+    ("translate d p --pass none", "none"),
+];
+
+/// Lines that ask for whole groups, with the number of balls of the made texts.
+static ACCEPTED_WHOLE: [(&str, Option<u32>); 4] = [
+    ("translate d p --full-encoding", None),
+    ("translate --full-encoding d p", None),
+    ("translate --full-encoding -- d p", None),
+    ("translate --make 4 --full-encoding", Some(4)),
+];
+
 #[test]
 fn refuses(rt: HostRuntime) -> Result<(), AllocError> {
     for line in REFUSED {
@@ -175,8 +217,11 @@ fn accepts(rt: HostRuntime) -> Result<(), AllocError> {
             source: Source::Files { domain, problem },
             settings: Settings {
                 max_candidates: 100_000,
+                full_encoding: false,
             },
             output,
+            plan: None,
+            passes: None,
         };
         assert!(rt; reads(rt.alloc(), line, Some(wanted))?, "{line}");
     }
@@ -191,8 +236,13 @@ fn accepts_numbers(rt: HostRuntime) -> Result<(), AllocError> {
                 domain: "d",
                 problem: "p",
             },
-            settings: Settings { max_candidates },
+            settings: Settings {
+                max_candidates,
+                full_encoding: false,
+            },
             output: "output.sas",
+            plan: None,
+            passes: None,
         };
         assert!(rt;
             reads_number(rt.alloc(), &BEFORE_A_NUMBER, digits, Some(wanted))?,
@@ -202,21 +252,38 @@ fn accepts_numbers(rt: HostRuntime) -> Result<(), AllocError> {
     Ok(())
 }
 
+/// The made texts with this number of balls, or the files `d` and `p`, and this plan file.
+fn asked<'a>(balls: Option<u32>, plan: Option<&'a str>) -> Accepted<'a> {
+    let source = match balls {
+        Some(balls) => Source::Made { balls },
+        None => Source::Files {
+            domain: "d",
+            problem: "p",
+        },
+    };
+    Accepted {
+        source,
+        settings: Settings {
+            max_candidates: 100_000,
+            full_encoding: false,
+        },
+        output: "output.sas",
+        plan,
+        passes: None,
+    }
+}
+
 #[test]
 fn accepts_balls(rt: HostRuntime) -> Result<(), AllocError> {
     for (digits, balls) in ACCEPTED_BALLS {
-        let wanted = Accepted {
-            source: Source::Made { balls },
-            settings: Settings {
-                max_candidates: 100_000,
-            },
-            output: "output.sas",
-        };
+        let wanted = Some(asked(Some(balls), None));
         assert!(rt;
-            reads_number(rt.alloc(), &BEFORE_BALLS, digits, Some(wanted))?,
+            reads_number(rt.alloc(), &BEFORE_BALLS, digits, wanted)?,
             "{digits}"
         );
     }
+    let wanted = Some(asked(Some(4), Some("f")));
+    assert!(rt; reads(rt.alloc(), "translate --map-plan f --make 4", wanted)?);
     Ok(())
 }
 
@@ -227,6 +294,37 @@ fn refuses_balls(rt: HostRuntime) -> Result<(), AllocError> {
             reads_number(rt.alloc(), &BEFORE_BALLS, digits, None)?,
             "{digits}"
         );
+    }
+    Ok(())
+}
+
+#[test]
+fn accepts_plans(rt: HostRuntime) -> Result<(), AllocError> {
+    for (line, plan) in ACCEPTED_PLANS {
+        assert!(rt;
+            reads(rt.alloc(), line, Some(asked(None, Some(plan))))?,
+            "{line}"
+        );
+    }
+    Ok(())
+}
+
+#[test]
+fn accepts_passes(rt: HostRuntime) -> Result<(), AllocError> {
+    for (line, passes) in ACCEPTED_PASSES {
+        let mut wanted = asked(None, None);
+        wanted.passes = Some(passes);
+        assert!(rt; reads(rt.alloc(), line, Some(wanted))?, "{line}");
+    }
+    Ok(())
+}
+
+#[test]
+fn accepts_whole_groups(rt: HostRuntime) -> Result<(), AllocError> {
+    for (line, balls) in ACCEPTED_WHOLE {
+        let mut wanted = asked(balls, None);
+        wanted.settings.full_encoding = true;
+        assert!(rt; reads(rt.alloc(), line, Some(wanted))?, "{line}");
     }
     Ok(())
 }

@@ -2,6 +2,7 @@
 
 ghost use Rattle.std.specs.Prelude.{◌≤◌};
 
+use pass_book::Book;
 use std::alloc::{AllocError, Global};
 use std::test::*;
 use tl_device::{FileCall, MemConsole, MemFiles};
@@ -9,6 +10,7 @@ use translator::{Status, translate};
 
 mod calls;
 mod fronts;
+mod made;
 mod prints;
 
 const DOMAIN: &[u8] = b"(define (domain switch) ; a lamp
@@ -70,6 +72,21 @@ Translator operators: 1
 Translator axioms: 0
 ";
 
+/// A plan of the switch task.
+const PLAN: &[u8] = b"(flip)\n";
+
+/// What is printed where it is mapped back.
+const MAPPED: &[u8] = b"Translator candidates: 3
+Translator invariants: 2
+Translator variables: 1
+Translator facts: 2
+Translator mutex groups: 1
+Translator operators: 1
+Translator axioms: 0
+(flip)
+; cost = 1 (unit cost)
+";
+
 /// What stood in the place of the output.
 const OLDER: &[u8] = b"an older task";
 
@@ -80,12 +97,12 @@ struct Outside {
     console: MemConsole,
 }
 
-/// How a run ends, what it prints, and what the output file holds then.
+/// How a run ends, what it prints, and what the output file holds then, if there is one.
 #[derive(Clone, Copy)]
 struct Ending<'a> {
     status: Status,
     printed: &'a [u8],
-    output: &'a [u8],
+    output: Option<&'a [u8]>,
 }
 
 impl Outside {
@@ -95,9 +112,20 @@ impl Outside {
         self.files.add(name, bytes)
     }
 
-    /// Makes room for so many bytes of output.
-    fn room(&mut self, bytes: u64) -> Result<(), AllocError> {
-        self.files.room("output.sas", bytes)
+    /// Adds the input files and an older output, and makes some room for it, for a new one and on the console.
+    fn prepare(&mut self, problem: &[u8]) -> Result<(), AllocError> {
+        self.add("d.pddl", DOMAIN)?;
+        self.add("p.pddl", problem)?;
+        self.add("plan", PLAN)?;
+        self.add("output.sas", OLDER)?;
+        self.room("output.sas", 1000)?;
+        self.room("new.sas", 1000)?;
+        self.console_room(1000)
+    }
+
+    /// Makes room for so many bytes in the file of this name.
+    fn room(&mut self, name: &str, bytes: u64) -> Result<(), AllocError> {
+        self.files.room(name, bytes)
     }
 
     /// Makes room for so many bytes on the console.
@@ -123,47 +151,51 @@ impl Outside {
         self.console.fail(nth)
     }
 
-    fn answer(&mut self, alloc: Global, words: Vec<String>) -> Status {
-        translate(alloc, words, &mut self.files, &mut self.console)
+    fn answer(&mut self, alloc: Global, words: Vec<String>, book: &Book) -> Status {
+        translate(alloc, words, &mut self.files, &mut self.console, book)
     }
 
-    /// Whether the file holds these bytes.
-    fn holds(&self, name: &str, bytes: &[u8]) -> bool {
-        matches!(self.files.content(name), Some(content) if content == bytes)
+    /// Whether the file holds these bytes, or there is none of the name.
+    fn holds(&self, name: &str, bytes: Option<&[u8]>) -> bool {
+        match (self.files.content(name), bytes) {
+            (Some(held), Some(bytes)) => held == bytes,
+            (None, None) => true,
+            _ => false,
+        }
     }
 
     fn printed(&self) -> &[u8] {
         self.console.printed()
     }
 
-    /// Whether this is printed, and the files hold this output and these two texts.
-    fn stands(&self, ending: &Ending<'_>, domain: &[u8], problem: &[u8]) -> bool {
+    /// Whether this is printed, the output file holds this, and the other files what they held.
+    fn stands(&self, ending: &Ending<'_>, output: &str, problem: &[u8]) -> bool {
         self.printed() == ending.printed
-            && self.holds("output.sas", ending.output)
-            && self.holds("d.pddl", domain)
-            && self.holds("p.pddl", problem)
+            && self.holds(output, ending.output)
+            && self.holds("d.pddl", Some(DOMAIN))
+            && self.holds("p.pddl", Some(problem))
+            && self.holds("plan", Some(PLAN))
+            && (output == "output.sas" || self.holds("output.sas", Some(OLDER)))
     }
 }
 
-/// The two files and an older output, with room for all that is written. A call takes sixteen bytes at most.
-fn prepared(alloc: Global, domain: &[u8], problem: &[u8]) -> Result<Outside, AllocError> {
+/// The switch domain, a problem, a plan and an older output, with room for what is written. A call takes sixteen bytes at most.
+fn prepared(alloc: Global, problem: &[u8]) -> Result<Outside, AllocError> {
     let mut outside = Outside {
         files: MemFiles::new(alloc),
         console: MemConsole::new(alloc),
     };
-    outside.add("d.pddl", domain)?;
-    outside.add("p.pddl", problem)?;
-    outside.add("output.sas", OLDER)?;
-    outside.room(1000)?;
-    outside.console_room(1000)?;
     outside.most(16);
+    outside.prepare(problem)?;
     Ok(outside)
 }
 
-fn words(alloc: Global, names: &[&str]) -> Result<Vec<String>, AllocError> {
+/// How a run with these words ends, with a book without passes.
+fn answer(alloc: Global, outside: &mut Outside, names: &[&str]) -> Result<Status, AllocError> {
     let mut words = Vec::new(alloc);
     for name in names {
         words.push(String::from_str(alloc, name)?)?;
     }
-    Ok(words)
+    let book = Book::new(alloc);
+    Ok(outside.answer(alloc, words, &book))
 }

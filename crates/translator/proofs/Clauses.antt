@@ -8,39 +8,30 @@ use Rattle.std.specs.FinMap.{get, insert}
 use Rattle.tl_device.specs.Contents.{Contents, OthersStay, IsTold, IsAskedFor, GrownInPart, emptied, grow}
 use Rattle.tl_device.proofs.Grown.{get-emptied_other, get-grown_other}
 use Rattle.tl_device.specs.Causes.{Rose}
-use Rattle.command_line.specs.Accepted.{Asked}
+use Rattle.translator.specs.Asked.{Asked}
 use Rattle.translator.specs.declared.outcome.Message.{Message}
 use Rattle.translator.specs.declared.outcome.Status.{Status}
 use Rattle.translator.specs.declared.outcome.Status.TheVariants as statuses
 use Rattle.translator.specs.declared.outcome.Summary.{Summary}
 use Rattle.translator.specs.Ending.{Ending, Gives, Absent, Refused}
 use Rattle.translator.specs.RunTask.{Output}
-use Rattle.translator.specs.Run.{of_source, ComesTo, no_file, faulty, made, RunsTo, LacksFile, HasFault}
+use Rattle.translator.specs.Run.{ComesTo, RunsTo, LacksFile, HasFault}
+use Rattle.translator.specs.OneRun.{OneEnding}
 use Rattle.translator.specs.Store.{Store, IsUntouched, Screen}
-use Rattle.translator.specs.Messages.{refusal_line, unreadable_line, summary_lines}
+use Rattle.translator.specs.Messages.{refusal_line, unreadable_line, task_lines}
 use Rattle.translator.specs.Call.{IsWritten, IsWrittenInPart, Ends, misused, starved, unread, refused, unwritten, written, whole, part, Called, called}
 use Rattle.translator.proofs.FirstBytes.{capital, usage_small, memory_small, unreadable_small, unwritable_small, refusal_small, begins_capital, printed_is}
 
--- ---- what a run comes to is one ending, whatever task is made
-
-abbrev forgotten : {A : Type 0} → Ending A → Ending (Unit {0})
-forgotten (Gives value) = Gives tt
-forgotten (Absent name) = Absent name
-forgotten (Refused name message) = Refused name message
-
-by_source : (held : Contents) (asked : Asked) (e : Ending Output) → ComesTo held asked e → forgotten e ≡ forgotten (of_source held asked.source)
-by_source held asked e (no_file name is) = sym (ap forgotten is)
-by_source held asked e (faulty name message is) = sym (ap forgotten is)
-by_source held asked e (made pair found task is is_made) = sym (ap forgotten is)
+-- ---- what a run comes to is one ending
 
 -- where the words ask for this, and the files are told
-pub one_ending : (files : Option Contents) (words : Option Asked) (asked : Asked) (e e' : Ending Output) → words ≡ Some asked → RunsTo files words e → IfSome files (λ held. ComesTo held asked e') → forgotten e ≡ forgotten e'
-one_ending None None asked e e' named runs comes = absurd runs
-one_ending None (Some other) asked e e' named runs comes = absurd runs
-one_ending (Some held) None asked e e' named runs comes = absurd runs
-one_ending (Some held) (Some other) asked e e' named runs comes =
+one_ending : OneEnding → (files : Option Contents) (words : Option Asked) (asked : Asked) (e e' : Ending Output) → words ≡ Some asked → RunsTo files words e → IfSome files (λ held. ComesTo held asked e') → e ≡ e'
+one_ending one None None asked e e' named runs comes = absurd runs
+one_ending one None (Some other) asked e e' named runs comes = absurd runs
+one_ending one (Some held) None asked e e' named runs comes = absurd runs
+one_ending one (Some held) (Some other) asked e e' named runs comes =
     let same : other ≡ asked = cc (named) in
-    by_source held asked e (subst (λ (a : Asked). ComesTo held a e) same runs) ∙ sym (by_source held asked e' comes)
+    one held asked e e' (subst (λ (a : Asked). ComesTo held a e) same runs) comes
 
 -- what comes where the files are told, the run comes to, if they are told
 run_to : (files : Option Contents) (words : Option Asked) (asked : Asked) (e : Ending Output) → words ≡ Some asked → IsTold files → IfSome files (λ held. ComesTo held asked e) → RunsTo files words e
@@ -89,7 +80,7 @@ record Wrote (before now : Store) (words : Option Asked) (meant : Status) : Type
   pub reads : now.reads ≡ before.reads
   pub meant_so : (meant ≡ statuses.Done) ⊎ (meant ≡ statuses.Device)
 
-module _ (before now : Store) (words : Option Asked) where
+module _ (one : OneEnding) (before now : Store) (words : Option Asked) where
   wrote : (meant : Status) (text : List ℕ) → Ends before now words meant text → IsUntouched before now ⊎ Wrote before now words meant
   wrote meant text (misused none untouched reads) = inl untouched
   wrote meant text (starved untouched reads) = inl untouched
@@ -115,8 +106,8 @@ module _ (before now : Store) (words : Option Asked) where
 
   -- a run that is stopped writes nothing
   unstopped : (asked : Asked) (output : Output) → words ≡ Some asked → IfSome before.files (λ held. ComesTo held asked (Gives output)) → Stopped → ⊥
-  unstopped asked output named comes (inl lacks) = let e = one_ending before.files words asked (Absent lacks.0) (Gives output) named lacks.1 comes in cc (e)
-  unstopped asked output named comes (inr has) = let e = one_ending before.files words asked (Refused has.0 has.1.0) (Gives output) named has.1.1 comes in cc (e)
+  unstopped asked output named comes (inl lacks) = let e = one_ending one before.files words asked (Absent lacks.0) (Gives output) named lacks.1 comes in cc (e)
+  unstopped asked output named comes (inr has) = let e = one_ending one before.files words asked (Refused has.0 has.1.0) (Gives output) named has.1.1 comes in cc (e)
 
   module _ (screen screen_now : Screen) where
     pub usage : (status : Status) → Called before now words screen screen_now status → status ≡ statuses.Usage → words ≡ None
@@ -168,7 +159,7 @@ module _ (before now : Store) (words : Option Asked) where
     absent_input status (called meant text (misused none untouched reads) (whole grows same)) lacks = absurd (unasked before.files words (Absent lacks.0) none lacks.1)
     absent_input status (called meant text (starved untouched reads) (whole grows same)) lacks = inr refl
     absent_input status (called meant text (unread asked name named untouched why) (whole grows same)) lacks = inl refl
-    absent_input status (called meant text (refused asked name message named untouched why) (whole grows same)) lacks = absurd (let e = one_ending before.files words asked (Absent lacks.0) (Refused name message) named lacks.1 why.told in cc (e))
+    absent_input status (called meant text (refused asked name message named untouched why) (whole grows same)) lacks = absurd (let e = one_ending one before.files words asked (Absent lacks.0) (Refused name message) named lacks.1 why.told in cc (e))
     absent_input status (called meant text (unwritten asked output named why) (whole grows same)) lacks = inl refl
     absent_input status (called meant text (written asked output named is reads writes) (whole grows same)) lacks = absurd (unstopped asked output named is.comes (inl lacks))
 
@@ -188,7 +179,7 @@ module _ (before now : Store) (words : Option Asked) where
     refused_input status (called meant text (unread asked name named untouched why) (whole grows same)) has =
         elim why.cause [
           | inl rose ↦ inr (inr (refl, inl rose))
-          | inr absent ↦ absurd (let e = one_ending before.files words asked (Refused has.0 has.1.0) (Absent name) named has.1.1 (told_so before.files _ absent) in cc (e))
+          | inr absent ↦ absurd (let e = one_ending one before.files words asked (Refused has.0 has.1.0) (Absent name) named has.1.1 (told_so before.files _ absent) in cc (e))
         ]
     refused_input status (called meant text (refused asked name message named untouched why) (whole grows same)) has = inl refl
     refused_input status (called meant text (unwritten asked output named why) (whole grows same)) has = absurd (unstopped asked output named why.comes (inr has))
@@ -208,14 +199,14 @@ module _ (before now : Store) (words : Option Asked) where
     abbrev Wholly : Asked → Type 0
     Wholly asked = (output : Output) × IsWritten before.files now.files asked output
 
-    pub done : (status : Status) → Called before now words screen screen_now status → status ≡ statuses.Done → IsSomeAnd words (λ asked. (output : Output) × (IsWritten before.files now.files asked output × (screen_now.printed ≡ append_known screen.printed (summary_lines output.summary))))
+    pub done : (status : Status) → Called before now words screen screen_now status → status ≡ statuses.Done → IsSomeAnd words (λ asked. (output : Output) × (IsWritten before.files now.files asked output × (screen_now.printed ≡ append_known screen.printed (task_lines output.summary output.plan))))
     done status (called meant text ends (part broke rose)) meant_so = absurd cc
     done status (called meant text (misused none untouched reads) (whole grows same)) meant_so = absurd cc
     done status (called meant text (starved untouched reads) (whole grows same)) meant_so = absurd cc
     done status (called meant text (unread asked name named untouched why) (whole grows same)) meant_so = absurd cc
     done status (called meant text (refused asked name message named untouched why) (whole grows same)) meant_so = absurd cc
     done status (called meant text (unwritten asked output named why) (whole grows same)) meant_so = absurd cc
-    done status (called meant text (written asked output named is reads writes) (whole grows same)) meant_so = subst (λ (w : Option Asked). IsSomeAnd w (λ asked. (output : Output) × (IsWritten before.files now.files asked output × (screen_now.printed ≡ append_known screen.printed (summary_lines output.summary))))) (sym named) (output, (is, grows))
+    done status (called meant text (written asked output named is reads writes) (whole grows same)) meant_so = subst (λ (w : Option Asked). IsSomeAnd w (λ asked. (output : Output) × (IsWritten before.files now.files asked output × (screen_now.printed ≡ append_known screen.printed (task_lines output.summary output.plan))))) (sym named) (output, (is, grows))
 
     pub untouched_unless_written : (status : Status) → Called before now words screen screen_now status → status ≢ statuses.Done → status ≢ statuses.Device → IsUntouched before now
     untouched_unless_written status (called meant text ends (part broke rose)) not_done no_device = absurd (no_device refl)
@@ -258,7 +249,7 @@ module _ (before now : Store) (words : Option Asked) where
     fault_printed status (called meant text (starved untouched reads) (whole grows same)) name' message' runs meant_so = absurd cc
     fault_printed status (called meant text (unread asked name named untouched why) (whole grows same)) name' message' runs meant_so = absurd cc
     fault_printed status (called meant text (refused asked name message named untouched why) (whole grows same)) name' message' runs meant_so =
-        let e = one_ending before.files words asked (Refused name' message') (Refused name message) named runs why.told in
+        let e = one_ending one before.files words asked (Refused name' message') (Refused name message) named runs why.told in
         let same_name : name ≡ name' = cc (e) in
         let same_message : message ≡ message' = cc (e) in
         grows ∙ ap (λ (n : List ℕ). append_known screen.printed (refusal_line n message)) same_name ∙ ap (λ (m : Message). append_known screen.printed (refusal_line name' m)) same_message
@@ -282,7 +273,7 @@ module _ (before now : Store) (words : Option Asked) where
         elim why.cause [
           | inl rose ↦ absurd (sound rose)
           | inr absent ↦
-              let e = one_ending before.files words asked (Absent name') (Absent name) named runs (told_so before.files _ absent) in
+              let e = one_ending one before.files words asked (Absent name') (Absent name) named runs (told_so before.files _ absent) in
               let same_name : name ≡ name' = cc (e) in
               grows ∙ ap (λ (n : List ℕ). append_known screen.printed (unreadable_line n)) same_name
         ]
@@ -299,13 +290,13 @@ module _ (before now : Store) (words : Option Asked) where
     begun_with meant text (unwritten asked output named why) rest is = absurd (unwritable_small asked.output rest is)
     begun_with meant text (written asked output named whole_so reads writes) rest is = subst (λ (w : Option Asked). IsSomeAnd w Wholly) (sym named) (output, whole_so)
 
-    pub summary_begun : (status : Status) → Called before now words screen screen_now status → (summary : Summary) (before front rest : List ℕ) (byte : ℕ) → screen.printed ≡ Some before
-        → screen_now.printed ≡ Some (before ++ byte ∷ front) → summary_lines summary ≡ (byte ∷ front) ++ rest → IsSomeAnd words Wholly
-    summary_begun status (called meant text ends (whole grows same)) summary before front rest byte told now begins =
+    pub summary_begun : (status : Status) → Called before now words screen screen_now status → (summary : Summary) (plan before front rest : List ℕ) (byte : ℕ) → screen.printed ≡ Some before
+        → screen_now.printed ≡ Some (before ++ byte ∷ front) → task_lines summary plan ≡ (byte ∷ front) ++ rest → IsSomeAnd words Wholly
+    summary_begun status (called meant text ends (whole grows same)) summary plan before front rest byte told now begins =
         let is = printed_is screen.printed screen_now.printed before text (byte ∷ front) told now grows in
-        let letter = begins_capital summary byte (front ++ rest) begins in
+        let letter = begins_capital summary plan byte (front ++ rest) begins in
         begun_with meant text ends front (is ∙ ap (λ (b : ℕ). b ∷ front) letter)
-    summary_begun status (called meant text ends (part broke rose)) summary before front rest byte told now begins =
+    summary_begun status (called meant text ends (part broke rose)) summary plan before front rest byte told now begins =
         let is = printed_is screen.printed screen_now.printed before broke.written (byte ∷ front) told now broke.grows in
-        let letter = begins_capital summary byte (front ++ rest) begins in
+        let letter = begins_capital summary plan byte (front ++ rest) begins in
         begun_with meant text ends (front ++ broke.left) (broke.parts ∙ ap (λ (w : List ℕ). w ++ broke.left) is ∙ ap (λ (b : ℕ). b ∷ (front ++ broke.left)) letter)

@@ -5,9 +5,8 @@ use Rattle.std.specs.declared.option.Option.TheVariants.{Some, None}
 use Rattle.std.specs.Io.KnownBytes.{append_known}
 use Rattle.std.proofs.lemmas.List.{append_cancel_left}
 use Rattle.translator.specs.declared.outcome.Message.{Message}
-use Rattle.translator.specs.declared.outcome.Message.TheVariants as messages
 use Rattle.translator.specs.declared.outcome.Summary.{Summary}
-use Rattle.translator.specs.Messages.{usage_line, memory_line, unreadable_line, unwritable_line, fault_line, refusal_line, summary_lines}
+use Rattle.translator.specs.Messages.{usage_line, memory_line, unreadable_line, unwritable_line, fault_line, refusal_line, summary_lines, task_lines}
 
 -- T
 abbrev pub capital : ℕ
@@ -39,11 +38,11 @@ unwritable_first name = refl
 
 refusal_first : (name : List ℕ) (message : Message) → first (refusal_line name message) ≡ 116
 unfolding fault_line first
-refusal_first name (messages.Fault fault) = refl
+refusal_first name message = refl
 
-summary_first : (summary : Summary) → first (summary_lines summary) ≡ 84
+task_first : (summary : Summary) (plan : List ℕ) → first (task_lines summary plan) ≡ 84
 unfolding summary_lines first
-summary_first summary = refl
+task_first summary plan = refl
 
 small : (bytes rest : List ℕ) (byte : ℕ) → first bytes ≡ byte → byte ≢ 84 → bytes ≢ capital ∷ rest
 small bytes rest byte is other begins_so = other (sym is ∙ begins bytes rest begins_so)
@@ -63,9 +62,9 @@ unwritable_small name rest = small (unwritable_line name) rest 116 (unwritable_f
 pub refusal_small : (name : List ℕ) (message : Message) (rest : List ℕ) → refusal_line name message ≢ capital ∷ rest
 refusal_small name message rest = small (refusal_line name message) rest 116 (refusal_first name message) (λ e. omega (arith, e))
 
-pub begins_capital : (summary : Summary) (byte : ℕ) (rest : List ℕ) → summary_lines summary ≡ byte ∷ rest → byte ≡ capital
+pub begins_capital : (summary : Summary) (plan : List ℕ) (byte : ℕ) (rest : List ℕ) → task_lines summary plan ≡ byte ∷ rest → byte ≡ capital
 unfolding first
-begins_capital summary byte rest is = sym (ap first is) ∙ summary_first summary
+begins_capital summary plan byte rest is = sym (ap first is) ∙ task_first summary plan
 
 -- what was printed, where it is told
 pub printed_is : (printed printed_now : Option (List ℕ)) (before text bytes : List ℕ) → printed ≡ Some before → printed_now ≡ Some (before ++ bytes) → printed_now ≡ append_known printed text → text ≡ bytes

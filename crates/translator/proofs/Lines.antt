@@ -1,8 +1,6 @@
 -- Each line is its pieces, one after another.
 use Rattle.std.proofs.Common.{◌≡◌, ℕ, List, [], ◌∷◌, ◌++◌, refl, sym, ◌∙◌, append-nil, append_assoc}
 use Rattle.std.specs.Prelude.{fold, codes, decimal}
-use Rattle.pddl_lexer.specs.Kinds.{text}
-use Rattle.pddl_lexer.specs.declared.fault.Fault.{Fault}
 use Rattle.translator.specs.declared.outcome.Summary.{Summary}
 use Rattle.translator.specs.declared.message.Phrase.TheVariants as phrases
 use Rattle.translator.specs.Messages.{usage_line, memory_line, named_line, unreadable_line, unwritable_line, fault_line, summary_lines}
@@ -32,10 +30,10 @@ pub unwritable_is : (name : List ℕ) → named_line (bytes_of phrases.CannotWri
 unfolding bytes_of unwritable_line
 unwritable_is name = refl
 
-pub fault_pieces : (name : List ℕ) (fault : Fault) →
-    joined (bytes_of phrases.Prefix ∷ name ∷ bytes_of phrases.BeforeLine ∷ decimal fault.line ∷ bytes_of phrases.AfterLine ∷ text fault.kind ∷ bytes_of phrases.LineFeed ∷ []) ≡ fault_line name fault
+pub fault_pieces : (name : List ℕ) (line : ℕ) (words : List ℕ) →
+    joined (bytes_of phrases.Prefix ∷ name ∷ bytes_of phrases.BeforeLine ∷ decimal line ∷ bytes_of phrases.AfterLine ∷ words ∷ bytes_of phrases.LineFeed ∷ []) ≡ fault_line name line words
 unfolding bytes_of fault_line
-fault_pieces name fault = run_on (codes "translate: ") (name ∷ codes ":" ∷ decimal fault.line ∷ codes ": " ∷ text fault.kind ∷ codes "\n" ∷ [])
+fault_pieces name line words = run_on (codes "translate: ") (name ∷ codes ":" ∷ decimal line ∷ codes ": " ∷ words ∷ codes "\n" ∷ [])
 
 pub summary_pieces : (summary : Summary) →
     joined (bytes_of phrases.Candidates ∷ decimal summary.candidates ∷ bytes_of phrases.Invariants ∷ decimal summary.invariants

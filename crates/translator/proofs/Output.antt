@@ -5,13 +5,13 @@ use Rattle.std.specs.declared.option.Option.TheVariants.{Some, None}
 use Rattle.tl_device.specs.Contents.{Contents, IsTold, GrownInPart, emptied, grown}
 use Rattle.tl_device.specs.Causes.{Rose}
 use Rattle.tl_device.proofs.Grown.{grown_at, part_at}
-use Rattle.command_line.specs.Accepted.{Asked}
+use Rattle.translator.specs.Asked.{Asked}
 use Rattle.translator.specs.declared.outcome.Status.TheVariants as statuses
 use Rattle.translator.specs.Ending.{Gives}
 use Rattle.translator.specs.RunTask.{Output}
 use Rattle.translator.specs.Run.{ComesTo}
 use Rattle.translator.specs.Store.{Store, IsUntouched}
-use Rattle.translator.specs.Messages.{summary_lines, unwritable_line}
+use Rattle.translator.specs.Messages.{task_lines, unwritable_line}
 use Rattle.translator.specs.Call.{Ends, written, unwritten}
 use Rattle.translator.specs.Stages.{IsRead}
 
@@ -48,7 +48,7 @@ module _ (output : List ℕ) (before mid now : Option Contents) (here text : Lis
 
 module _ (before mid now : Store) (words : Option Asked) (asked : Asked) (output : Output) (text : List ℕ) (named : words ≡ Some asked) (untouched : IsUntouched before mid)
     (read : IsRead before mid (λ held. ComesTo held asked (Gives output))) (same : text ≡ output.text) where
-  pub work_written : IsWhole asked.output mid.files now.files text → now.writes ≡ mid.writes → now.reads ≡ mid.reads → Ends before now words statuses.Done (summary_lines output.summary)
+  pub work_written : IsWhole asked.output mid.files now.files text → now.writes ≡ mid.writes → now.reads ≡ mid.reads → Ends before now words statuses.Done (task_lines output.summary output.plan)
   work_written grows writes reads =
       let from_before = grows ∙ ap (λ (f : Option Contents). grown (emptied f asked.output) asked.output text) untouched.files in
       written asked output named (record { comes = read.1; whole = from_before ∙ ap (grown (emptied before.files asked.output) asked.output) same }) (reads ∙ read.0) (writes ∙ untouched.writes)

@@ -1,13 +1,15 @@
 -- How stages that read from a store follow one another, and what the source comes to by them.
-use Rattle.std.proofs.Common.{◌≡◌, ℕ, ◌≤◌, List, [], ◌∷◌, Result, Ok, Err, refl, sym, ap, ◌∙◌, subst, inl, inr}
+use Rattle.std.proofs.Common.{◌≡◌, ℕ, ◌≤◌, List, [], ◌∷◌, ◌++◌, Result, Ok, Err, refl, sym, ap, ◌∙◌, subst, inl, inr}
 use Rattle.std.specs.Prelude.{Contains, IfSome, IsSomeAnd, IfOk, IfErr, codes}
 use Rattle.std.specs.Result.{IsErrAnd}
 use Rattle.std.specs.declared.option.Option.{Option}
 use Rattle.std.specs.declared.option.Option.TheVariants.{Some, None}
+use Rattle.std.proofs.lemmas.List.Elements.{Contains-append_left, Contains-append_right}
 use Rattle.lists.proofs.Members.{no_member, member_first, member_later, member_single}
 use Rattle.tl_device.specs.Contents.{Contents, IsAskedFor}
 use Rattle.tl_device.specs.Causes.{Rose}
-use Rattle.command_line.specs.Accepted.{Asked, Files, Made as OfBalls}
+use Rattle.command_line.specs.Accepted.{Files, Made as OfBalls}
+use Rattle.translator.specs.Asked.{Asked}
 use Rattle.command_line.specs.declared.accepted.Settings.{Settings}
 use Rattle.type_checker.specs.Checked.{Pair}
 use Rattle.invariant_guess.specs.declared.types.Found.{Found}
@@ -18,8 +20,10 @@ use Rattle.translator.specs.declared.translation.Made.{Made}
 use Rattle.translator.specs.declared.outcome.End.TheVariants as ends
 use Rattle.translator.specs.Ending.{Ending, Gives, Absent, Refused, ◌>>=◌}
 use Rattle.translator.specs.declared.outcome.Summary.{Summary}
-use Rattle.translator.specs.RunTask.{Output, summary_of, output_of}
-use Rattle.translator.specs.Run.{Text, text, read, of_texts, of_source, inputs, titles, names_read, made_domain, made_problem, ComesTo, no_file, faulty, made}
+use Rattle.translator.specs.Plan.{of_plan, plan_names}
+use Rattle.pass_book.specs.Passes.{IsChain}
+use Rattle.translator.specs.RunTask.{Output, IsTaskOf, PassesTranslate, summary_of, output_of}
+use Rattle.translator.specs.Run.{Text, text, read, of_texts, of_source, inputs, titles, all_inputs, all_titles, names_read, made_domain, made_problem, ComesTo, no_file, faulty, made}
 use Rattle.translator.specs.Store.{Store, IsUntouched, AsksForNoOther}
 use Rattle.translator.specs.Call.{Ends, misused, starved, unread, refused}
 use Rattle.translator.specs.Outcome.{Outcome, status_of, line_of}
@@ -173,12 +177,12 @@ module _ (domain problem : List ℕ) where
     texts_stop_so (Ok value) stops = tt
     texts_stop_so (Err end) stops = texts_stop end stops
 
-    pub texts_made_so : (settings : Settings) (result : Result Made End) → IfOk result (λ made. IsMadeOf (of_texts (text domain bytes') (text problem other')) settings made.found made.task)
-        → IfOk result (λ made. IsRead before now (λ held. IsMadeOf (of_source held (Files domain problem)) settings made.found made.task))
+    pub texts_made_so : (settings : Settings) (result : Result Made End) → IfOk result (λ made. IsMadeOf (of_texts (text domain bytes') (text problem other')) settings [] made.found made.task)
+        → IfOk result (λ made. IsRead before now (λ held. IsMadeOf (of_source held (Files domain problem)) settings [] made.found made.task))
     texts_made_so settings (Ok it) is_made = (
       is.0,
       if_told (λ held. of_source held (Files domain problem) ≡ of_texts (text domain bytes') (text problem other')) _ before.files
-          (λ held comes. subst (λ (e : Ending Pair). IsMadeOf e settings it.found it.task) (sym comes) is_made) handed_on.1,
+          (λ held comes. subst (λ (e : Ending Pair). IsMadeOf e settings [] it.found it.task) (sym comes) is_made) handed_on.1,
     )
     texts_made_so settings (Err end) is_made = tt
 
@@ -209,44 +213,86 @@ module _ (balls : ℕ) (before : Store) where
   made_stops_so (Ok value) stops = tt
   made_stops_so (Err end) stops = made_stops end stops
 
-  pub made_so : (settings : Settings) (result : Result Made End) → IfOk result (λ made. IsMadeOf (of_texts made_domain (made_problem balls)) settings made.found made.task)
-      → IfOk result (λ made. IsRead before before (λ held. IsMadeOf (of_source held (OfBalls balls)) settings made.found made.task))
-  made_so settings (Ok it) is_made = (refl, always _ before.files (λ held. subst (λ (e : Ending Pair). IsMadeOf e settings it.found it.task) (sym (comes_to_texts held)) is_made))
+  pub made_so : (settings : Settings) (result : Result Made End) → IfOk result (λ made. IsMadeOf (of_texts made_domain (made_problem balls)) settings [] made.found made.task)
+      → IfOk result (λ made. IsRead before before (λ held. IsMadeOf (of_source held (OfBalls balls)) settings [] made.found made.task))
+  made_so settings (Ok it) is_made = (refl, always _ before.files (λ held. subst (λ (e : Ending Pair). IsMadeOf e settings [] it.found it.task) (sym (comes_to_texts held)) is_made))
   made_so settings (Err end) is_made = tt
 
 -- ---- the run
 
+within_left : (xs ys : List (List ℕ)) → IsWithin xs (xs ++ ys)
+within_left xs ys name = Contains-append_left xs ys name
+
+within_right : (xs ys : List (List ℕ)) → IsWithin ys (xs ++ ys)
+within_right xs ys name = Contains-append_right xs ys name
+
 module _ (asked : Asked) where
   -- what stops the source stops the run
-  pub run_stops : (before now : Store) (end : End) → StopsReading before now (inputs asked.source) (titles asked.source) (λ held e. of_source held asked.source ≡ e) end → StopsReading before now (inputs asked.source) (titles asked.source) (λ held. ComesTo held asked) end
+  pub run_stops : (before now : Store) (end : End) → StopsReading before now (inputs asked.source) (titles asked.source) (λ held e. of_source held asked.source ≡ e) end → StopsReading before now (all_inputs asked) (all_titles asked) (λ held. ComesTo held asked) end
   run_stops before now =
-      stops_later before before now (inputs asked.source) (titles asked.source) (inputs asked.source) (titles asked.source) (λ held e. of_source held asked.source ≡ e) (λ held. ComesTo held asked) (same_store before) refl (λ name in'. in') (λ name in'. in')
+      stops_later before before now (inputs asked.source) (titles asked.source) (all_inputs asked) (all_titles asked) (λ held e. of_source held asked.source ≡ e) (λ held. ComesTo held asked) (same_store before) refl
+      (within_left (inputs asked.source) (plan_names asked.plan)) (within_left (titles asked.source) (plan_names asked.plan))
       (always _ before.files (λ held. record { absent = no_file; refused = faulty }))
 
-  comes_made : (held : Contents) (found : Found) (task : Task) (e : Ending Pair) → of_source held asked.source ≡ e → IsMadeOf e asked.settings found task → ComesTo held asked (Gives (output_of found task))
-  comes_made held found task (Gives pair) is is_made = made pair found task is is_made
-  comes_made held found task (Absent name) is is_made = absurd is_made
-  comes_made held found task (Refused name message) is is_made = absurd is_made
+  -- what the passes make of the task that is made of the source
+  pub passed_so : (before mid : Store) (found found' : Found) (first task : Task) → PassesTranslate → found' ≡ found → IsChain asked.passes first task
+      → IsRead before mid (λ held. IsMadeOf (of_source held asked.source) asked.settings [] found first) → IsRead before mid (λ held. IsMadeOf (of_source held asked.source) asked.settings asked.passes found' task)
+  passed_so before mid found found' first task law same chain made_so =
+      (made_so.0, if_told (λ held. IsMadeOf (of_source held asked.source) asked.settings [] found first) _ before.files (λ held. by_ending (of_source held asked.source)) made_so.1)
+    where
+      by_ending : (e : Ending Pair) → IsMadeOf e asked.settings [] found first → IsMadeOf e asked.settings asked.passes found' task
+      by_ending (Gives pair) is_made = subst (λ (f : Found). IsTaskOf pair asked.settings asked.passes f task) (sym same) (law pair asked.settings asked.passes found first task is_made chain)
+      by_ending (Absent name) is_made = absurd is_made
+      by_ending (Refused name message) is_made = absurd is_made
 
-  -- what is made of the source is written
-  pub run_writes : (before now : Store) (found : Found) (task : Task) (bytes : List ℕ) (summary : Summary) → bytes ≡ text_of task → summary ≡ summary_of found task
-      → IsRead before now (λ held. IsMadeOf (of_source held asked.source) asked.settings found task) → IsRead before now (λ held. ComesTo held asked (Gives (record { text = bytes; summary = summary })))
-  run_writes before now found task bytes summary is is' made_so =
-      let same : output_of found task ≡ record { text = bytes; summary = summary } =
-      sym (ap (λ (b : List ℕ). let o : Output = record { text = b; summary = summary } in o) is ∙ ap (λ (s : Summary). let o : Output = record { text = text_of task; summary = s } in o) is') in (
-        made_so.0,
-        if_told (λ held. IsMadeOf (of_source held asked.source) asked.settings found task) _ before.files
-            (λ held is_made. subst (λ (o : Output). ComesTo held asked (Gives o)) same (comes_made held found task (of_source held asked.source) refl is_made)) made_so.1,
-      )
+  comes_by_plan : (held : Contents) (found : Found) (task : Task) (e : Ending Pair) → of_source held asked.source ≡ e → IsMadeOf e asked.settings asked.passes found task
+      → (p : Ending (List ℕ)) → of_plan held asked.plan task ≡ p → ComesTo held asked (p >>= λ lines. Gives (output_of found task lines))
+  comes_by_plan held found task (Gives pair) is is_made p mapped =
+      subst (λ (q : Ending (List ℕ)). ComesTo held asked (q >>= λ lines. Gives (output_of found task lines))) mapped (made pair found task is is_made)
+  comes_by_plan held found task (Absent name) is is_made p mapped = absurd is_made
+  comes_by_plan held found task (Refused name message) is is_made p mapped = absurd is_made
+
+  module _ (before mid : Store) (found : Found) (task : Task) (untouched : IsUntouched before mid) (made_so : IsRead before mid (λ held. IsMadeOf (of_source held asked.source) asked.settings asked.passes found task)) (now : Store) where
+    -- what stops the plan stops the run
+    pub plan_stops : (end : End) → StopsReading mid now (plan_names asked.plan) (plan_names asked.plan) (λ held e. of_plan held asked.plan task ≡ e) end → StopsReading before now (all_inputs asked) (all_titles asked) (λ held. ComesTo held asked) end
+    plan_stops =
+        stops_later before mid now (plan_names asked.plan) (plan_names asked.plan) (all_inputs asked) (all_titles asked) (λ held e. of_plan held asked.plan task ≡ e) (λ held. ComesTo held asked) untouched made_so.0
+        (within_right (inputs asked.source) (plan_names asked.plan)) (within_right (titles asked.source) (plan_names asked.plan))
+        (if_told (λ held. IsMadeOf (of_source held asked.source) asked.settings asked.passes found task) _ before.files
+        (λ held is_made. record {
+          absent = λ name comes. comes_by_plan held found task (of_source held asked.source) refl is_made (Absent name) comes;
+          refused = λ name message comes. comes_by_plan held found task (of_source held asked.source) refl is_made (Refused name message) comes;
+        }) made_so.1)
+
+    -- what is made of the source, and what the plan is mapped to, are written
+    pub run_writes : (lines bytes : List ℕ) (summary : Summary) → bytes ≡ text_of task → summary ≡ summary_of found task
+        → IsRead mid now (λ held. of_plan held asked.plan task ≡ Gives lines) → IsRead before now (λ held. ComesTo held asked (Gives (record { text = bytes; summary = summary; plan = lines })))
+    run_writes lines bytes summary is is' mapped =
+        let same : output_of found task lines ≡ record { text = bytes; summary = summary; plan = lines } =
+        sym (ap (λ (b : List ℕ). let o : Output = record { text = b; summary = summary; plan = lines } in o) is ∙ ap (λ (s : Summary). let o : Output = record { text = text_of task; summary = s; plan = lines } in o) is') in
+        let later = read_later before mid now (λ held. of_plan held asked.plan task ≡ Gives lines) untouched made_so.0 mapped in (
+          later.0,
+          both_told (λ held. IsMadeOf (of_source held asked.source) asked.settings asked.passes found task) (λ held. of_plan held asked.plan task ≡ Gives lines) _ before.files
+              (λ held is_made gives. subst (λ (o : Output). ComesTo held asked (Gives o)) same (comes_by_plan held found task (of_source held asked.source) refl is_made (Gives lines) gives)) made_so.1 later.1,
+        )
 
 -- ---- what is asked for
 
-pub asks_as_named : (before now : Store) (words : Option Asked) (asked : Asked) → words ≡ Some asked → AsksForNoOther before now (inputs asked.source) → AsksForNoOther before now (names_read words)
+pub asks_as_named : (before now : Store) (words : Option Asked) (asked : Asked) → words ≡ Some asked → AsksForNoOther before now (all_inputs asked) → AsksForNoOther before now (names_read words)
 asks_as_named before now words asked named asks = subst (λ (w : Option Asked). AsksForNoOther before now (names_read w)) (sym named) asks
 
 -- nothing was asked for after that
 pub asks_before : (before mid now : Store) (names : List (List ℕ)) → AsksForNoOther before mid names → now.asked ≡ mid.asked → AsksForNoOther before now names
 asks_before before mid now names asks same = asks_too before mid now names [] names (λ name in'. in') (λ name in'. absurd (no_member name in')) asks (inl same)
+
+module _ (asked : Asked) (before mid : Store) where
+  -- the source's files are among the run's
+  pub asks_for_source : AsksForNoOther before mid (inputs asked.source) → AsksForNoOther before mid (all_inputs asked)
+  asks_for_source asks = asks_too before mid mid (inputs asked.source) [] (all_inputs asked) (within_left (inputs asked.source) (plan_names asked.plan)) (λ name in'. absurd (no_member name in')) asks (inl refl)
+
+  pub asks_for_plan : (now : Store) → AsksForNoOther before mid (inputs asked.source) → AsksForNoOther mid now (plan_names asked.plan) → AsksForNoOther before now (all_inputs asked)
+  asks_for_plan now =
+      asks_too before mid now (inputs asked.source) (plan_names asked.plan) (all_inputs asked) (within_left (inputs asked.source) (plan_names asked.plan)) (within_right (inputs asked.source) (plan_names asked.plan))
 
 -- ---- how the work ends where nothing is written
 
@@ -254,6 +300,11 @@ asks_before before mid now names asks same = asks_too before mid now names [] na
 pub stops_too : {A : Type 0} (P : End → Type 0) (end : End) (result : Result A End) → IsErrAnd result (λ e. e ≡ end) → P end → IfErr result P
 stops_too P end (Ok value) is stops = tt
 stops_too P end (Err e) is stops = subst P (sym is) stops
+
+-- want of memory, where no read failed
+pub starved_reading : {A B : Type 0} (before now : Store) (names titles : List (List ℕ)) (Comes : Contents → Ending B → Type 0) (result : Result A End) → IsErrAnd result (λ e. e ≡ ends.NoMemory) → now.reads ≡ before.reads
+    → IfErr result (StopsReading before now names titles Comes)
+starved_reading before now names titles Comes result is reads = stops_too (StopsReading before now names titles Comes) ends.NoMemory result is reads
 
 pub ends_too : (before now : Store) (words : Option Asked) (end : End) (result : Outcome) → IsErrAnd result (λ e. e ≡ end) → Ends before now words (status_of (Err end)) (line_of (Err end)) → Ends before now words (status_of result) (line_of result)
 ends_too before now words end (Ok value) is ends = absurd is
@@ -267,7 +318,7 @@ unaccepted before words (ends.CannotWrite name) refusal = absurd refusal
 unaccepted before words (ends.Refused name message) refusal = absurd refusal
 
 pub stopped : (before now : Store) (words : Option Asked) (asked : Asked) → words ≡ Some asked → IsUntouched before now
-    → (end : End) → StopsReading before now (inputs asked.source) (titles asked.source) (λ held. ComesTo held asked) end → Ends before now words (status_of (Err end)) (line_of (Err end))
+    → (end : End) → StopsReading before now (all_inputs asked) (all_titles asked) (λ held. ComesTo held asked) end → Ends before now words (status_of (Err end)) (line_of (Err end))
 stopped before now words asked named untouched ends.NoMemory stops = starved untouched stops
 stopped before now words asked named untouched (ends.CannotRead name) stops = unread asked name.now named untouched stops
 stopped before now words asked named untouched (ends.Refused name message) stops = refused asked name.now message named untouched stops

@@ -1,5 +1,5 @@
 -- The task that the passes make of a domain and a problem translates them: the laws of the passes, one after another.
-use Rattle.std.proofs.Common.{◌≡◌, ℕ, ◌<◌, true, false, List, length, subst}
+use Rattle.std.proofs.Common.{◌≡◌, ℕ, Bool, ◌<◌, true, false, List, [], length, refl, sym, ◌∙◌, subst}
 use Rattle.std.specs.Prelude.{◌^◌, Result, Ok, Err, IfOk, All}
 use Rattle.std.specs.List.{list_all}
 use Rattle.lists.proofs.Members.{all_from_members}
@@ -32,9 +32,16 @@ use Rattle.group_cover.specs.Cover.{IsCover}
 use Rattle.fdr_encoder.specs.Covers.{IsBasicGroup}
 use Rattle.fdr_encoder.specs.Encoding.{IsEncoding}
 use Rattle.fdr_encoder.specs.Simulates.{Correspond, Simulates}
+use Rattle.plan_backmap.specs.Plans.{steps}
+use Rattle.plan_backmap.specs.Solutions.{NamesTellCosts, SolutionsCostTheTotal, step_names}
+use Rattle.sas_restriction.specs.KeepsCosts.{KeepsCosts}
+use Rattle.pass_book.specs.declared.kind.PassKind.{PassKind}
+use Rattle.pass_book.specs.Passes.{IsChain}
 use Rattle.sas_task.specs.Task.{Task}
+use Rattle.sas_task.specs.Valid.{IsValid}
 use Rattle.sas_task.specs.Solution.{HasSolution, system as solutions}
 use Rattle.sas_task.specs.Keeps.{HasShorterSolution, Keeps, KeepsChanging}
+use Rattle.sas_task.proofs.KeepsLaws.{shorter_through}
 use Rattle.translator.specs.RunTask.{IsRunEncoding}
 use Rattle.translator.specs.Theorem.{Translates}
 
@@ -75,8 +82,43 @@ module _ (domain : Domain) (problem : Problem) (reached : Reached) (sets : List 
       let busy = left_plan (pddl_task domain problem) names cost plan left in
       record { names' = _; cost' = _; shorter = busy.1; no_dearer = left.no_dearer; solution = solution_of _ _ busy.0 }
 
-  pub translates : Translates domain problem task
-  translates = record { no_more = plan_of; complete = solution_of; no_less = shorter; idle = idle; sound = kept.sound same.is_sound }
+  pub translates : IsValid task → NamesTellCosts task.operators → SolutionsCostTheTotal → Translates [] domain problem task
+  translates valid tells costs =
+      record {
+        no_more = plan_of;
+        complete = λ none. solution_of;
+        no_less = shorter;
+        idle = idle;
+        mapped = λ plan cost solution. subst (HasPlan domain problem (step_names (steps task.operators plan))) (costs task plan cost valid tells solution) (plan_of (step_names (steps task.operators plan)) cost solution);
+        sound = kept.sound same.is_sound;
+      }
+
+-- ---- with passes
+
+-- a task whose operators have the names and costs of another's
+pub tells_too : (old new : Task) → KeepsCosts old new → NamesTellCosts old.operators → NamesTellCosts new.operators
+tells_too old new keeps tells a b in-a in-b same =
+    let from-a = keeps a in-a in
+    let from-b = keeps b in-b in
+    sym from-a.3 ∙ tells from-a.0 from-b.0 from-a.1 from-b.1 (from-a.2 ∙ same ∙ sym from-b.2) ∙ from-b.3
+
+-- what passes make of a task that translates a pair translates it too
+pub passed_translates : (passes : List PassKind) (domain : Domain) (problem : Problem) (first task : Task) → Translates [] domain problem first → IsChain passes first task
+    → Keeps first task → IsValid task → NamesTellCosts task.operators → SolutionsCostTheTotal → Translates passes domain problem task
+passed_translates passes domain problem first task translates chain kept valid tells costs =
+    record {
+      no_more = plan_of_new;
+      complete = λ none names cost busy.
+          let same : task ≡ first = subst (λ (kinds : List PassKind). IsChain kinds first task) none chain in
+          subst (λ (t : Task). HasSolution t names cost) (sym same) (translates.complete refl names cost busy);
+      no_less = λ names cost plan. shorter_through first task kept names cost (translates.no_less names cost plan);
+      idle = translates.idle;
+      mapped = λ plan cost solution. subst (HasPlan domain problem (step_names (steps task.operators plan))) (costs task plan cost valid tells solution) (plan_of_new (step_names (steps task.operators plan)) cost solution);
+      sound = kept.sound translates.sound;
+    }
+  where
+    plan_of_new : (names : List Name) (cost : ℕ) → HasSolution task names cost → HasPlan domain problem names cost
+    plan_of_new names cost has = translates.no_more names cost (kept.no_more names cost has)
 
 -- ---- what the calls give, put together
 
@@ -86,11 +128,11 @@ reached_of_instances made grounded (Ok reached) is_ground is_reached = record { 
 reached_of_instances made grounded (Err end) is_ground is_reached = tt
 
 -- the passes' results up to the encoding are those of the run
-pub encoding_of_run : {E : Type 0} (made : Normal) (found : Found) (reached : Reached) (layers layers' : List ℕ) (groups sets : List (List ℕ)) (facts : ℕ) (result : Result Task E)
+pub encoding_of_run : {E : Type 0} (full : Bool) (made : Normal) (found : Found) (reached : Reached) (layers layers' : List ℕ) (groups sets : List (List ℕ)) (facts : ℕ) (result : Result Task E)
     → IsReachedOf made reached → AreLayers reached layers → layers' ≡ layers → AreGroups made found.accepted reached groups
-    → facts ≡ length reached.facts → facts < 2 ^ 64 → IsCover facts groups sets
-    → IfOk result (IsEncoding sets groups layers' reached) → IfOk result (IsRunEncoding made found)
-encoding_of_run made found reached layers layers' groups sets facts (Ok encoded) is_reached are same are_groups all few is_cover encodes =
+    → facts ≡ length reached.facts → facts < 2 ^ 64 → IsCover full facts groups sets
+    → IfOk result (IsEncoding sets groups layers' reached) → IfOk result (IsRunEncoding full made found)
+encoding_of_run full made found reached layers layers' groups sets facts (Ok encoded) is_reached are same are_groups all few is_cover encodes =
     record {
       reached = reached;
       layers = layers;
@@ -100,7 +142,7 @@ encoding_of_run made found reached layers layers' groups sets facts (Ok encoded)
       few = subst (λ n. n < 2 ^ 64) all few;
       are_layers = are;
       are_groups = are_groups;
-      is_cover = subst (λ n. IsCover n groups sets) all is_cover;
+      is_cover = subst (λ n. IsCover full n groups sets) all is_cover;
       encodes = subst (λ (l : List ℕ). IsEncoding sets groups l reached encoded) same encodes;
     }
-encoding_of_run made found reached layers layers' groups sets facts (Err end) is_reached are same are_groups all few is_cover encodes = tt
+encoding_of_run full made found reached layers layers' groups sets facts (Err end) is_reached are same are_groups all few is_cover encodes = tt

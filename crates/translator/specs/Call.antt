@@ -5,15 +5,15 @@ use Rattle.std.specs.declared.option.Option.TheVariants.{Some, None}
 use Rattle.std.specs.Io.KnownBytes.{append_known}
 use Rattle.tl_device.specs.Contents.{Contents, IsAskedFor, GrownInPart, PrintedInPart, emptied, grown}
 use Rattle.tl_device.specs.Causes.{Rose}
-use Rattle.command_line.specs.Accepted.{Asked}
+use Rattle.translator.specs.Asked.{Asked}
 use Rattle.translator.specs.declared.outcome.Message.{Message}
 use Rattle.translator.specs.declared.outcome.Status.{Status}
 use Rattle.translator.specs.declared.outcome.Status.TheVariants as statuses
 use Rattle.translator.specs.Ending.{Gives, Absent, Refused}
 use Rattle.translator.specs.RunTask.{Output}
-use Rattle.translator.specs.Run.{ComesTo, inputs, titles}
+use Rattle.translator.specs.Run.{ComesTo, all_inputs, all_titles}
 use Rattle.translator.specs.Store.{Store, IsUntouched, Screen}
-use Rattle.translator.specs.Messages.{usage_line, memory_line, unreadable_line, unwritable_line, refusal_line, summary_lines}
+use Rattle.translator.specs.Messages.{usage_line, memory_line, unreadable_line, unwritable_line, refusal_line, task_lines}
 
 -- The file of this name, which is one of these, can't be read: it was asked for last, and reading failed, or, where the files are told, it is absent.
 pub record IsUnread (before now : Store) (names : List (List ℕ)) (name : List ℕ) (IsAbsent : Contents → Type 0) : Type 0 where
@@ -51,12 +51,12 @@ pub data Ends (before now : Store) (words : Option Asked) : Status → List ℕ 
   misused : words ≡ None → IsUntouched before now → now.reads ≡ before.reads → Ends before now words statuses.Usage usage_line
   starved : IsUntouched before now → now.reads ≡ before.reads → Ends before now words statuses.NoMemory memory_line
   unread : (asked : Asked) (name : List ℕ) → words ≡ Some asked → IsUntouched before now
-      → IsUnread before now (inputs asked.source) name (λ held. ComesTo held asked (Absent name)) → Ends before now words statuses.Device (unreadable_line name)
+      → IsUnread before now (all_inputs asked) name (λ held. ComesTo held asked (Absent name)) → Ends before now words statuses.Device (unreadable_line name)
   refused : (asked : Asked) (name : List ℕ) (message : Message) → words ≡ Some asked → IsUntouched before now
-      → IsRefused before now (titles asked.source) name (λ held. ComesTo held asked (Refused name message)) → Ends before now words statuses.InputFault (refusal_line name message)
+      → IsRefused before now (all_titles asked) name (λ held. ComesTo held asked (Refused name message)) → Ends before now words statuses.InputFault (refusal_line name message)
   unwritten : (asked : Asked) (output : Output) → words ≡ Some asked → IsUnwritten before now asked output → Ends before now words statuses.Device (unwritable_line asked.output)
   written : (asked : Asked) (output : Output) → words ≡ Some asked → IsWritten before.files now.files asked output
-      → now.reads ≡ before.reads → now.writes ≡ before.writes → Ends before now words statuses.Done (summary_lines output.summary)
+      → now.reads ≡ before.reads → now.writes ≡ before.writes → Ends before now words statuses.Done (task_lines output.summary output.plan)
 
 -- What was printed. The console took the whole text, or it failed after a front of it.
 pub data Printed (text : List ℕ) (meant : Status) (before now : Screen) : Status → Type 0 where

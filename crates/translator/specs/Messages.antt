@@ -1,7 +1,6 @@
 -- What is printed at the end of a run.
 use Rattle.std.specs.Prelude.{ℕ, List, ◌++◌, codes, decimal}
 use Rattle.pddl_lexer.specs.Kinds.{text}
-use Rattle.pddl_lexer.specs.declared.fault.Fault.{Fault}
 use Rattle.translator.specs.declared.outcome.Summary.{Summary}
 use Rattle.translator.specs.declared.outcome.Message.{Message}
 use Rattle.translator.specs.declared.outcome.Message.TheVariants as messages
@@ -26,13 +25,25 @@ unreadable_line name = named_line (codes "translate: cannot read ") name
 unfoldable pub unwritable_line : List ℕ → List ℕ
 unwritable_line name = named_line (codes "translate: cannot write ") name
 
--- the line on a fault, with its file and its line
-unfoldable pub fault_line : List ℕ → Fault → List ℕ
-fault_line name fault = codes "translate: " ++ name ++ codes ":" ++ decimal fault.line ++ codes ": " ++ text fault.kind ++ codes "\n"
+-- the line that says this of a line of the text of this name
+unfoldable pub fault_line : List ℕ → ℕ → List ℕ → List ℕ
+fault_line name line words = codes "translate: " ++ name ++ codes ":" ++ decimal line ++ codes ": " ++ words ++ codes "\n"
 
--- the line on a file that is refused
+-- the line of the text that a message is about
+abbrev pub line_at : Message → ℕ
+line_at (messages.Fault fault) = fault.line
+line_at (messages.BadPlanLine line) = line
+line_at (messages.UnknownStep line) = line
+
+-- what it says
+abbrev pub words_of : Message → List ℕ
+words_of (messages.Fault fault) = text fault.kind
+words_of (messages.BadPlanLine line) = codes "malformed plan line"
+words_of (messages.UnknownStep line) = codes "unknown step"
+
+-- the line on a text that is refused
 abbrev pub refusal_line : List ℕ → Message → List ℕ
-refusal_line name (messages.Fault fault) = fault_line name fault
+refusal_line name message = fault_line name (line_at message) (words_of message)
 
 -- the seven lines on the search for invariants and on the written task
 unfoldable pub summary_lines : Summary → List ℕ
@@ -41,3 +52,7 @@ summary_lines summary =
     ++ codes "\nTranslator variables: " ++ decimal summary.variables ++ codes "\nTranslator facts: " ++ decimal summary.facts
     ++ codes "\nTranslator mutex groups: " ++ decimal summary.mutex_groups ++ codes "\nTranslator operators: " ++ decimal summary.operators
     ++ codes "\nTranslator axioms: " ++ decimal summary.axioms ++ codes "\n"
+
+-- the lines on a written task: those seven, and those on a plan that is mapped back
+abbrev pub task_lines : Summary → List ℕ → List ℕ
+task_lines summary plan = summary_lines summary ++ plan

@@ -2,10 +2,10 @@
 use Rattle.std.specs.Prelude.{ℕ, List, Result, Ok, Err}
 use Rattle.translator.specs.declared.outcome.Status.{Status}
 use Rattle.translator.specs.declared.outcome.Status.TheVariants as statuses
-use Rattle.translator.specs.declared.outcome.Summary.{Summary}
+use Rattle.translator.specs.declared.outcome.Report.{Report}
 use Rattle.translator.specs.declared.outcome.End.{End}
 use Rattle.translator.specs.declared.outcome.End.TheVariants as ends
-use Rattle.translator.specs.Messages.{usage_line, memory_line, unreadable_line, unwritable_line, refusal_line, summary_lines}
+use Rattle.translator.specs.Messages.{usage_line, memory_line, unreadable_line, unwritable_line, refusal_line, task_lines}
 
 abbrev pub code_of : Status → ℕ
 code_of statuses.Done = 0
@@ -14,12 +14,12 @@ code_of statuses.NoMemory = 20
 code_of statuses.Device = 30
 code_of statuses.InputFault = 31
 
--- the numbers that are printed, or why no task is written
+-- what is printed of a task, or why none is written
 abbrev pub Outcome : Type 0
-Outcome = Result Summary End
+Outcome = Result Report End
 
 abbrev pub status_of : Outcome → Status
-status_of (Ok summary) = statuses.Done
+status_of (Ok report) = statuses.Done
 status_of (Err ends.Usage) = statuses.Usage
 status_of (Err ends.NoMemory) = statuses.NoMemory
 status_of (Err (ends.CannotRead name)) = statuses.Device
@@ -27,7 +27,7 @@ status_of (Err (ends.CannotWrite name)) = statuses.Device
 status_of (Err (ends.Refused name message)) = statuses.InputFault
 
 abbrev pub line_of : Outcome → List ℕ
-line_of (Ok summary) = summary_lines summary
+line_of (Ok report) = task_lines report.summary report.plan.items
 line_of (Err ends.Usage) = usage_line
 line_of (Err ends.NoMemory) = memory_line
 line_of (Err (ends.CannotRead name)) = unreadable_line name.now

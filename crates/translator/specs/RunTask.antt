@@ -1,5 +1,5 @@
 -- What a run makes of a pair: the invariants that it finds, the task that the passes make, one after another, and what is written of both.
-use Rattle.std.specs.Prelude.{ℕ, ◌^◌, ◌<◌, List, length, sum_by}
+use Rattle.std.specs.Prelude.{ℕ, Bool, ◌^◌, ◌<◌, List, [], length, sum_by}
 use Rattle.command_line.specs.declared.accepted.Settings.{Settings}
 use Rattle.type_checker.specs.Checked.{Pair}
 use Rattle.normal_task.specs.declared.task.Normal.{Normal}
@@ -13,14 +13,17 @@ use Rattle.mutex_groups.specs.Laws.{IsReachedOf}
 use Rattle.group_cover.specs.Cover.{IsCover}
 use Rattle.fdr_encoder.specs.Encoding.{IsEncoding}
 use Rattle.task_simplifier.specs.Projection.{IsProjection}
+use Rattle.pass_book.specs.declared.kind.PassKind.{PassKind}
+use Rattle.pass_book.specs.Passes.{IsChain}
+use Rattle.plan_backmap.specs.Solutions.{NamesTellCosts}
 use Rattle.sas_task.specs.Task.{Task}
 use Rattle.sas_task.specs.Valid.{IsValid}
 use Rattle.sas_task.specs.Output.{text_of}
 use Rattle.translator.specs.declared.outcome.Summary.{Summary}
 use Rattle.translator.specs.Theorem.{Translates}
 
--- The task encodes what can be reached of the instances of the normal task, over the cover of the facts by the mutex groups of the candidates that were found.
-pub record IsRunEncoding (made : Normal) (found : Found) (encoded : Task) : Type 0 where
+-- The task encodes what can be reached of the instances of the normal task, over the cover of the facts by the mutex groups of the candidates that were found, with `full` by whole groups.
+pub record IsRunEncoding (full : Bool) (made : Normal) (found : Found) (encoded : Task) : Type 0 where
   pub reached : Reached
   pub layers : List ℕ
   pub groups : List (List ℕ)
@@ -30,21 +33,24 @@ pub record IsRunEncoding (made : Normal) (found : Found) (encoded : Task) : Type
   pub few : length reached.facts < 2 ^ 64
   pub are_layers : AreLayers reached layers
   pub are_groups : AreGroups made found.accepted reached groups
-  pub is_cover : IsCover (length reached.facts) groups sets
+  pub is_cover : IsCover full (length reached.facts) groups sets
   pub encodes : IsEncoding sets groups layers reached encoded
 
 -- the task is the projection of such an encoding
-pub record IsRunTask (made : Normal) (found : Found) (task : Task) : Type 0 where
+pub record IsRunTask (full : Bool) (made : Normal) (found : Found) (task : Task) : Type 0 where
   pub encoded : Task
-  pub encoding : IsRunEncoding made found encoded
+  pub encoding : IsRunEncoding full made found encoded
   pub projection : IsProjection encoded task
 
--- The passes make this task of the pair, and find these invariants, over as many candidates at most as the settings say. It is valid, and translates the pair.
-pub record IsTaskOf (pair : Pair) (settings : Settings) (found : Found) (task : Task) : Type 0 where
+-- A run makes this task of the pair, and finds these invariants, over as many candidates at most as the settings say: its own task, over whole groups where they say so, changed by the passes that are asked for, one after another. It is valid, operators of one name have one cost, and it translates the pair.
+pub record IsTaskOf (pair : Pair) (settings : Settings) (passes : List PassKind) (found : Found) (task : Task) : Type 0 where
   pub is_found : IsFound (normal pair.domain pair.problem) settings.max_candidates found
-  pub is_run_task : IsRunTask (normal pair.domain pair.problem) found task
+  pub first : Task
+  pub is_run_task : IsRunTask settings.full_encoding (normal pair.domain pair.problem) found first
+  pub chain : IsChain passes first task
   pub valid : IsValid task
-  pub translates : Translates pair.domain pair.problem task
+  pub tells : NamesTellCosts task.operators
+  pub translates : Translates passes pair.domain pair.problem task
 
 -- how many candidates for invariants were tried and accepted, and the sizes of the task; the facts are the sum of the ranges of all variables
 abbrev pub summary_of : Found → Task → Summary
@@ -59,10 +65,16 @@ summary_of found task =
       axioms = length task.rules;
     }
 
--- what is written: the text of a task, and the numbers that are printed
+-- what is written: the text of a task, the numbers that are printed, and the lines on a plan that is mapped back
 pub record Output : Type 0 where
   pub text : List ℕ
   pub summary : Summary
+  pub plan : List ℕ
 
-abbrev pub output_of : Found → Task → Output
-output_of found task = record { text = text_of task; summary = summary_of found task }
+abbrev pub output_of : Found → Task → List ℕ → Output
+output_of found task plan = record { text = text_of task; summary = summary_of found task; plan = plan }
+
+-- What passes make of the task of a run without passes is a task of the run with them.
+abbrev pub PassesTranslate : Type 0
+PassesTranslate =
+    (pair : Pair) (settings : Settings) (passes : List PassKind) (found : Found) (first task : Task) → IsTaskOf pair settings [] found first → IsChain passes first task → IsTaskOf pair settings passes found task

@@ -3,10 +3,11 @@ use Rattle.std.specs.Prelude.{◌≡◌, ℕ, List, Result, Ok, Err, IfSome, ⊤
 use Rattle.std.specs.declared.option.Option.{Option}
 use Rattle.std.specs.declared.option.Option.TheVariants.{None}
 use Rattle.tl_device.specs.Contents.{Contents}
-use Rattle.command_line.specs.Accepted.{Asked}
+use Rattle.translator.specs.Asked.{Asked}
 use Rattle.command_line.specs.declared.accepted.Settings.{Settings}
 use Rattle.type_checker.specs.Checked.{Pair}
 use Rattle.invariant_guess.specs.declared.types.Found.{Found}
+use Rattle.pass_book.specs.declared.kind.PassKind.{PassKind}
 use Rattle.sas_task.specs.Task.{Task}
 use Rattle.translator.specs.declared.outcome.End.{End}
 use Rattle.translator.specs.declared.outcome.End.TheVariants as ends
@@ -14,7 +15,7 @@ use Rattle.translator.specs.declared.translation.Input.{Input}
 use Rattle.translator.specs.declared.work.Written.{Written}
 use Rattle.translator.specs.Ending.{Ending, Gives, Absent, Refused}
 use Rattle.translator.specs.RunTask.{Output, IsTaskOf}
-use Rattle.translator.specs.Run.{Text, text}
+use Rattle.translator.specs.Texts.{Text, text}
 use Rattle.translator.specs.Store.{Store}
 use Rattle.translator.specs.Call.{IsUnread, IsRefused}
 
@@ -22,7 +23,7 @@ abbrev pub text_by : Input → Text
 text_by input = text input.name.now input.bytes.now
 
 abbrev pub output_by : Written → Output
-output_by written = record { text = written.text.items; summary = written.summary }
+output_by written = record { text = written.text.items; summary = written.report.summary; plan = written.report.plan.items }
 
 -- why the words ask for nothing
 abbrev pub IsRefusal : Option Asked → End → Type 0
@@ -44,10 +45,10 @@ Answers e (Ok value) = e ≡ Gives value
 Answers e (Err end) = StopsWhere e end
 
 -- a pair is given, and this task is made of it
-abbrev pub IsMadeOf : Ending Pair → Settings → Found → Task → Type 0
-IsMadeOf (Gives pair) settings found task = IsTaskOf pair settings found task
-IsMadeOf (Absent name) settings found task = ⊥
-IsMadeOf (Refused name message) settings found task = ⊥
+abbrev pub IsMadeOf : Ending Pair → Settings → List PassKind → Found → Task → Type 0
+IsMadeOf (Gives pair) settings passes found task = IsTaskOf pair settings passes found task
+IsMadeOf (Absent name) settings passes found task = ⊥
+IsMadeOf (Refused name message) settings passes found task = ⊥
 
 -- ---- stages that read from a store
 

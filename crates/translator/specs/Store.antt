@@ -35,7 +35,7 @@ pub record IsUntouched (before now : Store) : Type 0 where
   pub created : now.created ≡ before.created
   pub writes : now.writes ≡ before.writes
 
--- No file was asked for but these: the name that was asked for last is as before, or is one of these names.
+-- The name that was asked for last is as before, or is one of these names.
 abbrev pub AsksForNoOther : Store → Store → List (List ℕ) → Type 0
 AsksForNoOther before now names = (now.asked ≡ before.asked) ⊎ ((name : List ℕ) × Contains names name × IsAskedFor now.asked name)
 

@@ -1,24 +1,28 @@
-//! The law over all passes. The function does nothing: its clauses are the law.
+//! The laws over all stages. The functions do nothing: their clauses are the laws.
 
+ghost use Rattle.std.specs.Prelude.{[]};
 ghost use Rattle.command_line.specs.declared.accepted.Settings.{Settings};
 ghost use Rattle.type_checker.specs.Checked.{Pair, IsChecked};
 ghost use Rattle.normal_task.specs.Normalised.{normal};
 ghost use Rattle.invariant_guess.specs.declared.types.Found.{Found};
 ghost use Rattle.invariant_guess.specs.Trial.{IsFound};
 ghost use Rattle.sas_task.specs.Task.{Task};
-ghost use Rattle.translator.specs.RunTask.{IsRunTask, IsTaskOf};
+ghost use Rattle.translator.specs.RunTask.{IsRunTask, IsTaskOf, PassesTranslate};
 
 use fdr_encoder::laws::{covers, exclusive_covers, simulation, validity};
 use invariant_guess::laws::finds;
 use mutex_groups::laws::{groups_are_exclusive, groups_of_facts};
-use normal_task::laws::same_task;
+use normal_task::laws::{names_tell_costs, same_task};
+use operator_costs::laws::operators_tell_costs;
+use pass_book::laws::passes_keep;
 use pddl_parser::laws::idle_steps;
+use plan_backmap::solutions_cost_the_total;
 use task_simplifier::laws::projection_keeps;
 
-/// The task that the passes make of a pair without faults is valid, and translates the pair.
+/// The task that a run without passes makes of a pair without faults is valid, and translates the pair.
 pub(crate) fn run_task_translates()
     ensures { (pair : Pair) (settings : Settings) (found : Found) (task : Task) → IsChecked pair → IsFound (normal pair.domain pair.problem) settings.max_candidates found →
-        IsRunTask (normal pair.domain pair.problem) found task → IsTaskOf pair settings found task }
+        IsRunTask settings.full_encoding (normal pair.domain pair.problem) found task → IsTaskOf pair settings [] found task }
 {
     idle_steps();
     same_task();
@@ -38,4 +42,15 @@ pub(crate) fn run_task_translates()
     validity();
     simulation();
     projection_keeps();
+    names_tell_costs();
+    operators_tell_costs();
+    solutions_cost_the_total();
+}
+
+/// What passes make of it is valid, and translates the pair.
+pub(crate) fn passes_translate()
+    ensures { PassesTranslate }
+{
+    passes_keep();
+    solutions_cost_the_total();
 }

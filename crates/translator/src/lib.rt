@@ -6,7 +6,9 @@ mod law;
 pub mod laws;
 mod message;
 mod outcome;
+mod plan;
 mod process;
+mod request;
 mod translation;
 mod work;
 

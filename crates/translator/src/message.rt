@@ -5,13 +5,12 @@ ghost use Rattle.std.specs.List.{flat_map};
 ghost use Rattle.std.specs.Io.KnownBytes.{append_known};
 ghost use Rattle.tl_device.specs.Causes.{HasCause};
 ghost use Rattle.tl_device.specs.Contents.{PrintedInPart};
-ghost use Rattle.translator.specs.Messages.{named_line, fault_line, summary_lines};
+ghost use Rattle.translator.specs.Messages.{named_line, refusal_line, summary_lines, task_lines};
 ghost use Rattle.translator.specs.Outcome.{line_of};
 ghost use Rattle.translator.specs.Pieces.{bytes_of, piece_bytes};
 
-use crate::outcome::{End, Message, Summary};
+use crate::outcome::{End, Message, Report, Summary};
 use itoa::Buffer;
-use pddl_lexer::Fault;
 use tl_device::{Console, Failed, say_all};
 
 /// A fixed part of what is printed.
@@ -123,6 +122,16 @@ fn say_summary<C: Console>(console: &mut C, summary: &Summary) -> Result<(), Fai
     say_pieces(console, &pieces)
 }
 
+/// Says the sizes of a written task, and the lines on the plan that is mapped back.
+fn say_report<C: Console>(console: &mut C, report: &Report) -> Result<(), Failed>
+    ensures ok { OnOk result (C.printed console.new ≡ append_known (C.printed console.old) (task_lines report.now.summary report.now.plan.items)) }
+    ensures err { OnErr result (PrintedInPart (C.printed console.old) (C.printed console.new) (task_lines report.now.summary report.now.plan.items)) }
+    ensures cause { HasCause (C.faults console.old) (C.faults console.new) result }
+{
+    say_summary(console, &report.summary)?;
+    say_all(console, &report.plan)
+}
+
 /// Says this of the file of this name.
 fn say_named<C: Console>(console: &mut C, phrase: Phrase, name: &str) -> Result<(), Failed>
     ensures ok { OnOk result (C.printed console.new ≡ append_known (C.printed console.old) (named_line (bytes_of phrase) name.now)) }
@@ -137,18 +146,19 @@ fn say_named<C: Console>(console: &mut C, phrase: Phrase, name: &str) -> Result<
     say_pieces(console, &pieces)
 }
 
-fn say_fault<C: Console>(console: &mut C, name: &str, fault: Fault) -> Result<(), Failed>
-    ensures ok { OnOk result (C.printed console.new ≡ append_known (C.printed console.old) (fault_line name.now fault)) }
-    ensures err { OnErr result (PrintedInPart (C.printed console.old) (C.printed console.new) (fault_line name.now fault)) }
+/// Says this of a line of the text of this name.
+fn say_refusal<C: Console>(console: &mut C, name: &str, message: &Message) -> Result<(), Failed>
+    ensures ok { OnOk result (C.printed console.new ≡ append_known (C.printed console.old) (refusal_line name.now message.now)) }
+    ensures err { OnErr result (PrintedInPart (C.printed console.old) (C.printed console.new) (refusal_line name.now message.now)) }
     ensures cause { HasCause (C.faults console.old) (C.faults console.new) result }
 {
     let pieces = [
         Piece::Fixed(Phrase::Prefix),
         Piece::Name(name),
         Piece::Fixed(Phrase::BeforeLine),
-        Piece::Number(fault.line as u128),
+        Piece::Number(message.line() as u128),
         Piece::Fixed(Phrase::AfterLine),
-        Piece::Name(fault.kind.text()),
+        Piece::Name(message.words()),
         Piece::Fixed(Phrase::LineFeed),
     ];
     say_pieces(console, &pieces)
@@ -158,18 +168,18 @@ fn say_fault<C: Console>(console: &mut C, name: &str, fault: Fault) -> Result<()
 #[tactic(auto, using(crate::proofs::Lines::usage_is, crate::proofs::Lines::memory_is, crate::proofs::Lines::unreadable_is, crate::proofs::Lines::unwritable_is))]
 pub(crate) fn say_outcome<C: Console>(
     console: &mut C,
-    outcome: &Result<Summary, End<'_>>,
+    outcome: &Result<Report, End<'_>>,
 ) -> Result<(), Failed>
     ensures ok { OnOk result (C.printed console.new ≡ append_known (C.printed console.old) (line_of outcome.now)) }
     ensures err { OnErr result (PrintedInPart (C.printed console.old) (C.printed console.new) (line_of outcome.now)) }
     ensures cause { HasCause (C.faults console.old) (C.faults console.new) result }
 {
     match outcome {
-        Ok(summary) => say_summary(console, summary),
+        Ok(report) => say_report(console, report),
         Err(End::Usage) => say_phrase(console, Phrase::Usage),
         Err(End::NoMemory) => say_phrase(console, Phrase::OutOfMemory),
         Err(End::CannotRead(name)) => say_named(console, Phrase::CannotRead, name),
         Err(End::CannotWrite(name)) => say_named(console, Phrase::CannotWrite, name),
-        Err(End::Refused(name, Message::Fault(fault))) => say_fault(console, name, *fault),
+        Err(End::Refused(name, message)) => say_refusal(console, name, message),
     }
 }

@@ -2,6 +2,7 @@
 
 ghost use Rattle.std.specs.Prelude.{◌≡◌};
 ghost use Rattle.std.specs.Process.{exit_status};
+ghost use Rattle.translator.specs.Messages.{line_at, words_of};
 ghost use Rattle.translator.specs.Outcome.{code_of, status_of};
 ghost use Rattle.translator.specs.declared.outcome.End.TheVariants.{NoMemory};
 
@@ -39,7 +40,7 @@ impl Status {
     }
 
     /// What the process answers after this end of the work, where the console takes what is said.
-    pub(crate) fn of(outcome: &Result<Summary, End<'_>>) -> Status
+    pub(crate) fn of(outcome: &Result<Report, End<'_>>) -> Status
         ensures { result ≡ status_of outcome.now }
     {
         match outcome {
@@ -76,11 +77,47 @@ pub struct Summary {
     pub axioms: u64,
 }
 
-/// What is said of a file that is refused.
+/// What is printed of a written task.
+#[derive(Drop)]
+pub(crate) struct Report {
+    pub(crate) summary: Summary,
+    /// The lines on the plan that is mapped back; none where no plan file is named.
+    pub(crate) plan: Vec<u8>,
+}
+
+/// What is said of a text that is refused. Lines are counted from 1.
 #[derive(Clone, Copy, PartialEq, Eq)]
 pub enum Message {
-    /// A fault of its text.
+    /// A fault of the domain or of the problem, or a file that is too long.
     Fault(Fault),
+    /// A line of the plan file that is no step and no comment.
+    BadPlanLine(u64),
+    /// A step of the plan file whose name no operator of the task has.
+    UnknownStep(u64),
+}
+
+impl Message {
+    /// The line of the text that it is about.
+    pub(crate) fn line(&self) -> u64
+        ensures { result ≡ line_at self.now }
+    {
+        match self {
+            Message::Fault(fault) => fault.line,
+            Message::BadPlanLine(line) => *line,
+            Message::UnknownStep(line) => *line,
+        }
+    }
+
+    /// What it says.
+    pub(crate) fn words(&self) -> &'static str
+        ensures { result.now ≡ words_of self.now }
+    {
+        match self {
+            Message::Fault(fault) => fault.kind.text(),
+            Message::BadPlanLine(_) => "malformed plan line",
+            Message::UnknownStep(_) => "unknown step",
+        }
+    }
 }
 
 /// Why no task is written. A file is told by its name.

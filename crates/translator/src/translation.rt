@@ -1,6 +1,6 @@
 //! From two texts to the task.
 
-ghost use Rattle.std.specs.Prelude.{◌≡◌, ◌<◌, true, IfOk, IfErr, length, sum_by};
+ghost use Rattle.std.specs.Prelude.{◌≡◌, ◌<◌, [], true, IfOk, IfErr, length, sum_by};
 ghost use Rattle.std.specs.List.{list_all};
 ghost use Rattle.pddl_parser.specs.Reading.{domain_reading, problem_reading};
 ghost use Rattle.pddl_parser.specs.Spelled.{IsWellSpelled, IsWellSpelledProblem};
@@ -60,7 +60,7 @@ pub(crate) fn task_of<'n>(
     problem: &Input<'n, '_>,
     settings: Settings,
 ) -> Result<Made, End<'n>>
-    ensures ok { IfOk result (λ made. IsMadeOf (run.of_texts (text_by domain.now) (text_by problem.now)) settings made.found made.task) }
+    ensures ok { IfOk result (λ made. IsMadeOf (run.of_texts (text_by domain.now) (text_by problem.now)) settings [] made.found made.task) }
     ensures err { IfErr result (StopsWhere (run.of_texts (text_by domain.now) (text_by problem.now))) }
 {
     finds();
@@ -74,7 +74,7 @@ pub(crate) fn task_of<'n>(
     drop(checked);
     let found = find(alloc, &normal, settings.max_candidates as u64)?;
     let reached = reached_of(alloc, &normal)?;
-    let encoded = encoded(alloc, &normal, &found, &reached)?;
+    let encoded = encoded(alloc, &normal, &found, &reached, settings.full_encoding)?;
     drop(reached);
     drop(normal);
     let task = simplify(alloc, encoded)?;
@@ -83,7 +83,7 @@ pub(crate) fn task_of<'n>(
 
 /// The task that the made texts with this number of balls mean.
 pub(crate) fn made_task<'n>(alloc: Global, balls: u32, settings: Settings) -> Result<Made, End<'n>>
-    ensures ok { IfOk result (λ made. IsMadeOf (run.of_texts run.made_domain (run.made_problem balls)) settings made.found made.task) }
+    ensures ok { IfOk result (λ made. IsMadeOf (run.of_texts run.made_domain (run.made_problem balls)) settings [] made.found made.task) }
     ensures err { IfErr result (StopsWhere (run.of_texts run.made_domain (run.made_problem balls))) }
 {
     let domain_bytes = made_texts::domain(alloc)?;
@@ -161,23 +161,24 @@ fn checked<'n>(
     }
 }
 
-/// The encoding of the reached task over the cover by the groups of the invariants.
+/// The encoding of the reached task over the cover by the groups of the invariants, with `full` by whole groups.
 fn encoded(
     alloc: Global,
     normal: &Normal,
     found: &Found,
     reached: &Reached,
+    full: bool,
 ) -> Result<SasTask, AllocError>
     requires lawful { IsLawfulNormal normal.now }
     requires well_formed { list_all (is_well_formed normal.now) found.now.accepted ≡ true }
     requires reached { IsReachedOf normal.now reached.now }
     requires lawful_reached { IsLawful reached.now }
-    ensures { IfOk result (IsRunEncoding normal.now found.now) }
+    ensures { IfOk result (IsRunEncoding full normal.now found.now) }
 {
     groups_of_facts();
     let layers = layers(alloc, reached)?;
     let groups = groups(alloc, normal, found.accepted.as_slice(), reached)?;
-    let cover = cover(alloc, facts_of(reached), &groups)?;
+    let cover = cover(alloc, facts_of(reached), &groups, full)?;
     encode(alloc, reached, &cover, &groups, &layers)
 }
 

@@ -1,32 +1,41 @@
 //! The work of a run on its files.
 
-ghost use Rattle.std.specs.Prelude.{◌≡◌, ◌⊎◌, [], ◌∷◌, Some, OnOk, OnErr, IfOk, IfErr};
+ghost use Rattle.std.specs.Prelude.{◌≡◌, ◌≤◌, ◌⊎◌, [], ◌∷◌, Some, None, map, option_map, length, OnOk, OnErr, IfOk, IfErr};
 ghost use Rattle.tl_device.specs.Causes.{HasCause};
 ghost use Rattle.tl_device.specs.Contents.{GrownInPart, emptied, grown};
-ghost use Rattle.command_line.specs.Accepted.{Files as OfFiles, asked_by};
+ghost use Rattle.command_line.specs.Accepted.{Files as OfFiles, source_by};
+ghost use Rattle.pass_book.specs.Passes.{IsChain, first_missing};
+ghost use Rattle.translator.specs.Asked.{asked_by_words};
 ghost use Rattle.translator.specs.Ending.{Gives};
-ghost use Rattle.translator.specs.Run.{asked_by_words, text, read, of_source, inputs, titles, names_read, ComesTo};
+ghost use Rattle.translator.specs.Run.{text, read, of_source, inputs, titles, all_inputs, all_titles, names_read, ComesTo};
 ghost use Rattle.translator.specs.Store.{store, IsUntouched, AsksForNoOther};
 ghost use Rattle.translator.specs.Call.{Ends};
 ghost use Rattle.translator.specs.Outcome.{status_of, line_of};
-ghost use Rattle.translator.specs.Stages.{IsRefusal, IsRead, IsMadeOf, StopsReading, output_by};
+ghost use Rattle.translator.specs.Plan.{of_plan, plan_names};
+ghost use Rattle.translator.specs.Requests.{asked_by};
+ghost use Rattle.translator.specs.Stages.{IsRead, IsMadeOf, StopsReading, output_by};
 
-use crate::outcome::{End, Message, Summary};
+use crate::law::passes_translate;
+use crate::outcome::{End, Message, Report};
+use crate::plan::mapped_lines;
+use crate::request::{Request, requested};
 use crate::translation::{Input, Made, made_task, summary, task_of};
-use command_line::{Accepted, Settings, Source, read_words};
+use command_line::{Accepted, Settings, Source};
+use pass_book::{ApplyEnd, Book, PassKind};
 use pddl_lexer::{Fault, Kind};
+use sas_task::SasTask;
 use sas_writer::text_of;
-use std::alloc::Global;
+use std::alloc::{AllocError, Global};
 use tl_device::{Failed, Files, ReadEnd, put_all, read_all};
 
 /// The most bytes of an input file.
 const LIMIT: u64 = 16_777_216;
 
-/// The text of a task, and the numbers that are printed.
+/// The text of a task, and what is printed of it.
 #[derive(Drop)]
 pub(crate) struct Written {
     pub(crate) text: Vec<u8>,
-    pub(crate) summary: Summary,
+    pub(crate) report: Report,
 }
 
 /// Does what the words ask for, but for what is printed. The output file is created once its whole text is made.
@@ -34,47 +43,58 @@ pub(crate) fn work<'a, F: Files>(
     alloc: Global,
     words: &'a Vec<String>,
     files: &mut F,
-) -> Result<Summary, End<'a>>
-    ensures ends { Ends (store F.Files files.old) (store F.Files files.new) (asked_by_words words.now.items) (status_of result) (line_of result) }
-    ensures asks { AsksForNoOther (store F.Files files.old) (store F.Files files.new) (names_read (asked_by_words words.now.items)) }
+    book: &Book,
+) -> Result<Report, End<'a>>
+    ensures ends { Ends (store F.Files files.old) (store F.Files files.new) (asked_by_words (map (λ pass. pass.kind) book.now.passes.items) words.now.items) (status_of result) (line_of result) }
+    ensures asks { AsksForNoOther (store F.Files files.old) (store F.Files files.new) (names_read (asked_by_words (map (λ pass. pass.kind) book.now.passes.items) words.now.items)) }
 {
-    let accepted = accepted(alloc, words)?;
-    let written = prepared(alloc, &accepted, files)?;
-    match write_output(files, accepted.output, &written.text) {
-        Ok(()) => Ok(written.summary),
-        Err(_) => Err(End::CannotWrite(accepted.output)),
-    }
-}
-
-/// What the words ask for.
-fn accepted<'a>(alloc: Global, words: &'a Vec<String>) -> Result<Accepted<'a>, End<'a>>
-    ensures ok { IfOk result (λ accepted. asked_by_words words.now.items ≡ Some (asked_by accepted)) }
-    ensures err { IfErr result (IsRefusal (asked_by_words words.now.items)) }
-{
-    match read_words(alloc, words) {
-        Ok(Some(accepted)) => Ok(accepted),
-        Ok(None) => Err(End::Usage),
-        Err(_) => Err(End::NoMemory),
+    let request = requested(alloc, words, book)?;
+    let written = prepared(alloc, &request, files, book)?;
+    let output = request.accepted.output;
+    match write_output(files, output, &written.text) {
+        Ok(()) => Ok(written.report),
+        Err(_) => Err(End::CannotWrite(output)),
     }
 }
 
 /// What is to be written, before anything is.
 fn prepared<'a, F: Files>(
     alloc: Global,
-    accepted: &Accepted<'a>,
+    request: &Request<'a>,
     files: &mut F,
+    book: &Book,
 ) -> Result<Written, End<'a>>
-    ensures ok { IfOk result (λ written. IsRead (store F.Files files.old) (store F.Files files.new) (λ held. ComesTo held (asked_by accepted.now) (Gives (output_by written)))) }
-    ensures err { IfErr result (StopsReading (store F.Files files.old) (store F.Files files.new) (inputs (asked_by accepted.now).source) (titles (asked_by accepted.now).source) (λ held. ComesTo held (asked_by accepted.now))) }
+    requires { first_missing (map (λ pass. pass.kind) book.now.passes.items) request.now.passes.items ≡ None }
+    ensures ok { IfOk result (λ written. IsRead (store F.Files files.old) (store F.Files files.new) (λ held. ComesTo held (asked_by request.now) (Gives (output_by written)))) }
+    ensures err { IfErr result (StopsReading (store F.Files files.old) (store F.Files files.new) (all_inputs (asked_by request.now)) (all_titles (asked_by request.now)) (λ held. ComesTo held (asked_by request.now))) }
     ensures untouched { IsUntouched (store F.Files files.old) (store F.Files files.new) }
-    ensures asks { AsksForNoOther (store F.Files files.old) (store F.Files files.new) (inputs (asked_by accepted.now).source) }
+    ensures asks { AsksForNoOther (store F.Files files.old) (store F.Files files.new) (all_inputs (asked_by request.now)) }
 {
-    let made = made(alloc, accepted, files)?;
+    passes_translate();
+    let accepted = &request.accepted;
+    let first = made(alloc, accepted, files)?;
+    let made = passed(alloc, first, request.passes.as_slice(), book)?;
+    let plan = plan_lines(alloc, accepted.plan, &made.task, files)?;
     let text = text_of(alloc, &made.task)?;
+    let summary = summary(&made.found, &made.task);
     Ok(Written {
         text,
-        summary: summary(&made.found, &made.task),
+        report: Report { summary, plan },
     })
+}
+
+/// The same, with what the passes of these kinds make of the task, one after another.
+fn passed(alloc: Global, made: Made, kinds: &[PassKind], book: &Book) -> Result<Made, AllocError>
+    requires { first_missing (map (λ pass. pass.kind) book.now.passes.items) kinds.now ≡ None }
+    ensures found { IfOk result (λ new. new.found ≡ made.found) }
+    ensures chain { IfOk result (λ new. IsChain kinds.now made.task new.task) }
+{
+    let Made { found, task } = made;
+    match book.apply(alloc, kinds, task) {
+        Ok(task) => Ok(Made { found, task }),
+        Err(ApplyEnd::NoMemory) => Err(AllocError),
+        Err(ApplyEnd::NotInBook(_)) => unreachable!(),
+    }
 }
 
 /// The task that is made of the source.
@@ -83,10 +103,10 @@ fn made<'a, F: Files>(
     accepted: &Accepted<'a>,
     files: &mut F,
 ) -> Result<Made, End<'a>>
-    ensures ok { IfOk result (λ made. IsRead (store F.Files files.old) (store F.Files files.new) (λ held. IsMadeOf (of_source held (asked_by accepted.now).source) accepted.now.settings made.found made.task)) }
-    ensures err { IfErr result (StopsReading (store F.Files files.old) (store F.Files files.new) (inputs (asked_by accepted.now).source) (titles (asked_by accepted.now).source) (λ held e. of_source held (asked_by accepted.now).source ≡ e)) }
+    ensures ok { IfOk result (λ made. IsRead (store F.Files files.old) (store F.Files files.new) (λ held. IsMadeOf (of_source held (source_by accepted.now.source)) accepted.now.settings [] made.found made.task)) }
+    ensures err { IfErr result (StopsReading (store F.Files files.old) (store F.Files files.new) (inputs (source_by accepted.now.source)) (titles (source_by accepted.now.source)) (λ held e. of_source held (source_by accepted.now.source) ≡ e)) }
     ensures untouched { IsUntouched (store F.Files files.old) (store F.Files files.new) }
-    ensures asks { AsksForNoOther (store F.Files files.old) (store F.Files files.new) (inputs (asked_by accepted.now).source) }
+    ensures asks { AsksForNoOther (store F.Files files.old) (store F.Files files.new) (inputs (source_by accepted.now.source)) }
 {
     match accepted.source {
         Source::Files { domain, problem } => {
@@ -104,7 +124,7 @@ fn task_of_files<'a, F: Files>(
     settings: Settings,
     files: &mut F,
 ) -> Result<Made, End<'a>>
-    ensures ok { IfOk result (λ made. IsRead (store F.Files files.old) (store F.Files files.new) (λ held. IsMadeOf (of_source held (OfFiles domain.now problem.now)) settings made.found made.task)) }
+    ensures ok { IfOk result (λ made. IsRead (store F.Files files.old) (store F.Files files.new) (λ held. IsMadeOf (of_source held (OfFiles domain.now problem.now)) settings [] made.found made.task)) }
     ensures err { IfErr result (StopsReading (store F.Files files.old) (store F.Files files.new) (domain.now ∷ problem.now ∷ []) (domain.now ∷ problem.now ∷ []) (λ held e. of_source held (OfFiles domain.now problem.now) ≡ e)) }
     ensures untouched { IsUntouched (store F.Files files.old) (store F.Files files.new) }
     ensures asks { AsksForNoOther (store F.Files files.old) (store F.Files files.new) (domain.now ∷ problem.now ∷ []) }
@@ -122,12 +142,51 @@ fn task_of_files<'a, F: Files>(
     task_of(alloc, &domain, &problem, settings)
 }
 
+/// The lines on the plan of the file that is named, mapped back to the task; none where no file is.
+fn plan_lines<'a, F: Files>(
+    alloc: Global,
+    plan: Option<&'a str>,
+    task: &SasTask,
+    files: &mut F,
+) -> Result<Vec<u8>, End<'a>>
+    ensures ok { IfOk result (λ lines. IsRead (store F.Files files.old) (store F.Files files.new) (λ held. of_plan held (option_map (λ name. name.now) plan.entry) task.now ≡ Gives lines.items)) }
+    ensures err { IfErr result (StopsReading (store F.Files files.old) (store F.Files files.new) (plan_names (option_map (λ name. name.now) plan.entry)) (plan_names (option_map (λ name. name.now) plan.entry)) (λ held e. of_plan held (option_map (λ name. name.now) plan.entry) task.now ≡ e)) }
+    ensures untouched { IsUntouched (store F.Files files.old) (store F.Files files.new) }
+    ensures asks { AsksForNoOther (store F.Files files.old) (store F.Files files.new) (plan_names (option_map (λ name. name.now) plan.entry)) }
+{
+    match plan {
+        Some(name) => lines_of_file(alloc, name, task, files),
+        None => Ok(Vec::new(alloc)),
+    }
+}
+
+/// The lines on the plan of the file of this name.
+fn lines_of_file<'a, F: Files>(
+    alloc: Global,
+    name: &'a str,
+    task: &SasTask,
+    files: &mut F,
+) -> Result<Vec<u8>, End<'a>>
+    ensures ok { IfOk result (λ lines. IsRead (store F.Files files.old) (store F.Files files.new) (λ held. of_plan held (Some name.now) task.now ≡ Gives lines.items)) }
+    ensures err { IfErr result (StopsReading (store F.Files files.old) (store F.Files files.new) (name.now ∷ []) (name.now ∷ []) (λ held e. of_plan held (Some name.now) task.now ≡ e)) }
+    ensures untouched { IsUntouched (store F.Files files.old) (store F.Files files.new) }
+    ensures asks { AsksForNoOther (store F.Files files.old) (store F.Files files.new) (name.now ∷ []) }
+{
+    let bytes = read_input(alloc, files, name)?;
+    let plan = Input {
+        name,
+        bytes: &bytes,
+    };
+    mapped_lines(alloc, &plan, task)
+}
+
 /// The bytes of an input file.
 fn read_input<'a, F: Files>(alloc: Global, files: &mut F, name: &'a str) -> Result<Vec<u8>, End<'a>>
     ensures ok { IfOk result (λ bytes. IsRead (store F.Files files.old) (store F.Files files.new) (λ held. read held name.now ≡ Gives (text name.now bytes.items))) }
     ensures err { IfErr result (StopsReading (store F.Files files.old) (store F.Files files.new) (name.now ∷ []) (name.now ∷ []) (λ held e. read held name.now ≡ e)) }
     ensures untouched { IsUntouched (store F.Files files.old) (store F.Files files.new) }
     ensures asks { AsksForNoOther (store F.Files files.old) (store F.Files files.new) (name.now ∷ []) }
+    ensures within { IfOk result (λ bytes. length bytes.items ≤ 16777216) }
 {
     match read_all(alloc, files, name, LIMIT) {
         Ok(bytes) => Ok(bytes),

@@ -1,16 +1,18 @@
 //! Each call on the files fails once.
 
-use super::{DOMAIN, Ending, OLDER, PROBLEM, SUMMARY, TEXT, prepared, words};
+use super::{Ending, MAPPED, OLDER, Outside, PROBLEM, SUMMARY, TEXT, answer, prepared};
 use std::alloc::{AllocError, Global};
-use std::process::Abort;
 use std::test::*;
 use tl_device::FileCall;
 use translator::Status;
 
-/// What the words of a run ask for.
+/// The words of a run, what it reads, its output and what stood there before, and what it writes and prints.
 struct Run {
     names: &'static [&'static str],
     inputs: &'static [Input],
+    output: &'static str,
+    unwritten: &'static [u8],
+    older: Option<&'static [u8]>,
     text: &'static [u8],
     printed: &'static [u8],
 }
@@ -21,38 +23,67 @@ struct Input {
     unread: &'static [u8],
 }
 
-// A call takes sixteen bytes at most. The domain has 146 bytes and the problem 69. The text has 262, which are
-// seventeen writes.
-static RUNS: [Run; 1] = [Run {
-    names: &["translate", "d.pddl", "p.pddl"],
-    inputs: &[
-        Input {
-            reads: 11,
-            unread: b"translate: cannot read d.pddl\n",
-        },
-        Input {
-            reads: 6,
-            unread: b"translate: cannot read p.pddl\n",
-        },
-    ],
-    text: TEXT,
-    printed: SUMMARY,
-}];
+// A call takes sixteen bytes at most. The domain has 146 bytes, the problem 69 and the plan 7. The text has 262, which
+// are seventeen writes.
+const OF_DOMAIN: Input = Input {
+    reads: 11,
+    unread: b"translate: cannot read d.pddl\n",
+};
 
-/// The ending of a run that can't read, which leaves the older output.
-fn unread(input: &'static Input) -> Ending<'static> {
+const OF_PROBLEM: Input = Input {
+    reads: 6,
+    unread: b"translate: cannot read p.pddl\n",
+};
+
+const OF_PLAN: Input = Input {
+    reads: 2,
+    unread: b"translate: cannot read plan\n",
+};
+
+static RUNS: [Run; 3] = [
+    Run {
+        names: &["translate", "d.pddl", "p.pddl"],
+        inputs: &[OF_DOMAIN, OF_PROBLEM],
+        output: "output.sas",
+        unwritten: b"translate: cannot write output.sas\n",
+        older: Some(OLDER),
+        text: TEXT,
+        printed: SUMMARY,
+    },
+    Run {
+        names: &["translate", "--sas-file", "new.sas", "d.pddl", "p.pddl"],
+        inputs: &[OF_DOMAIN, OF_PROBLEM],
+        output: "new.sas",
+        unwritten: b"translate: cannot write new.sas\n",
+        older: None,
+        text: TEXT,
+        printed: SUMMARY,
+    },
+    Run {
+        names: &["translate", "--map-plan", "plan", "d.pddl", "p.pddl"],
+        inputs: &[OF_DOMAIN, OF_PROBLEM, OF_PLAN],
+        output: "output.sas",
+        unwritten: b"translate: cannot write output.sas\n",
+        older: Some(OLDER),
+        text: TEXT,
+        printed: MAPPED,
+    },
+];
+
+/// The ending of a run that can't read, which leaves what stood before.
+fn unread(run: &'static Run, input: &'static Input) -> Ending<'static> {
     Ending {
         status: Status::Device,
         printed: input.unread,
-        output: OLDER,
+        output: run.older,
     }
 }
 
 /// The ending of a run that can't write, with what the output file holds then.
-fn unwritten(output: &'static [u8]) -> Ending<'static> {
+fn unwritten(run: &'static Run, output: Option<&'static [u8]>) -> Ending<'static> {
     Ending {
         status: Status::Device,
-        printed: b"translate: cannot write output.sas\n",
+        printed: run.unwritten,
         output,
     }
 }
@@ -62,7 +93,7 @@ fn done(run: &'static Run) -> Ending<'static> {
     Ending {
         status: Status::Done,
         printed: run.printed,
-        output: run.text,
+        output: Some(run.text),
     }
 }
 
@@ -70,7 +101,7 @@ fn done(run: &'static Run) -> Ending<'static> {
 fn without_open(run: &'static Run, nth: u64) -> Ending<'static> {
     for (before, input) in run.inputs.iter().enumerate() {
         if nth == before as u64 + 1 {
-            return unread(input);
+            return unread(run, input);
         }
     }
     done(run)
@@ -81,7 +112,7 @@ fn without_read(run: &'static Run, nth: u64) -> Ending<'static> {
     let mut left = nth;
     for input in run.inputs {
         if left <= input.reads {
-            return unread(input);
+            return unread(run, input);
         }
         left = left.saturating_sub(input.reads);
     }
@@ -92,7 +123,7 @@ fn without_read(run: &'static Run, nth: u64) -> Ending<'static> {
 fn without_write(run: &'static Run, nth: u64) -> Ending<'static> {
     let taken = (nth as usize).saturating_sub(1).saturating_mul(16);
     if taken < run.text.len() {
-        unwritten(&run.text[..taken])
+        unwritten(run, Some(&run.text[..taken]))
     } else {
         done(run)
     }
@@ -103,7 +134,7 @@ fn ending(run: &'static Run, what: FileCall, nth: u64) -> Ending<'static> {
     match what {
         FileCall::OpenFile => without_open(run, nth),
         FileCall::Read => without_read(run, nth),
-        FileCall::CreateFile if nth == 1 => unwritten(OLDER),
+        FileCall::CreateFile if nth == 1 => unwritten(run, run.older),
         FileCall::CreateFile => done(run),
         FileCall::Write => without_write(run, nth),
     }
@@ -117,65 +148,65 @@ fn ends_so(
     nth: u64,
     ending: &Ending<'_>,
 ) -> Result<bool, AllocError> {
-    let mut outside = prepared(alloc, DOMAIN, PROBLEM)?;
-    outside.fail(what, nth)?;
-    let status = outside.answer(alloc, words(alloc, run.names)?);
-    Ok(status == ending.status && outside.stands(ending, DOMAIN, PROBLEM))
+    let mut outside = prepared(alloc, PROBLEM)?;
+    ends_so_in(alloc, &mut outside, run, what, nth, ending)
 }
 
-/// Asserts how the run ends whose first, second, .. call of this kind fails, until none does any more.
-fn assert_each(
-    rt: &impl Abort,
+fn ends_so_in(
     alloc: Global,
-    run: &'static Run,
+    outside: &mut Outside,
+    run: &Run,
     what: FileCall,
-) -> Result<(), AllocError> {
+    nth: u64,
+    ending: &Ending<'_>,
+) -> Result<bool, AllocError> {
+    outside.fail(what, nth)?;
+    let status = answer(alloc, outside, run.names)?;
+    Ok(status == ending.status && outside.stands(ending, run.output, PROBLEM))
+}
+
+/// Whether the run ends as it should whose first, second, .. call of this kind fails, until none does any more.
+fn ends_each(alloc: Global, run: &'static Run, what: FileCall) -> Result<bool, AllocError> {
     for nth in 1..=200 {
         let ending = ending(run, what, nth);
-        assert!(rt; ends_so(alloc, run, what, nth, &ending)?, "call {nth}");
+        if !ends_so(alloc, run, what, nth, &ending)? {
+            return Ok(false);
+        }
         if ending.status == Status::Done {
-            return Ok(());
+            return Ok(true);
         }
     }
-    assert!(rt; false, "each call fails");
-    Ok(())
+    Ok(false)
+}
+
+static KINDS: [FileCall; 4] = [
+    FileCall::OpenFile,
+    FileCall::Read,
+    FileCall::CreateFile,
+    FileCall::Write,
+];
+
+/// How many of the kinds of call are told, in order, whichever call of the kind fails.
+fn kinds_told(alloc: Global, run: &'static Run) -> Result<usize, AllocError> {
+    for (told, what) in KINDS.iter().enumerate() {
+        if !ends_each(alloc, run, *what)? {
+            return Ok(told);
+        }
+    }
+    Ok(KINDS.len())
 }
 
 #[test]
-fn each_open_that_fails_is_told(rt: HostRuntime) -> Result<(), AllocError> {
+fn each_call_on_files_fails_once_and_is_told(rt: HostRuntime) -> Result<(), AllocError> {
     for run in &RUNS {
-        assert_each(&rt, rt.alloc(), run, FileCall::OpenFile)?;
+        assert_eq!(rt; kinds_told(rt.alloc(), run)?, KINDS.len());
     }
     Ok(())
 }
 
 #[test]
-fn each_read_that_fails_is_told(rt: HostRuntime) -> Result<(), AllocError> {
-    for run in &RUNS {
-        assert_each(&rt, rt.alloc(), run, FileCall::Read)?;
-    }
-    Ok(())
-}
-
-#[test]
-fn a_failed_creation_leaves_the_older_output(rt: HostRuntime) -> Result<(), AllocError> {
-    for run in &RUNS {
-        assert_each(&rt, rt.alloc(), run, FileCall::CreateFile)?;
-    }
-    Ok(())
-}
-
-#[test]
-fn each_write_that_fails_leaves_those_before_it(rt: HostRuntime) -> Result<(), AllocError> {
-    for run in &RUNS {
-        assert_each(&rt, rt.alloc(), run, FileCall::Write)?;
-    }
-    Ok(())
-}
-
-#[test]
-fn a_failed_second_write_leaves_sixteen_bytes(rt: HostRuntime) -> Result<(), AllocError> {
-    let ending = unwritten(b"begin_version\n3\n");
+fn a_failed_second_write_leaves_the_first(rt: HostRuntime) -> Result<(), AllocError> {
+    let ending = unwritten(&RUNS[0], Some(b"begin_version\n3\n"));
     assert!(rt; ends_so(rt.alloc(), &RUNS[0], FileCall::Write, 2, &ending)?);
     Ok(())
 }

@@ -1,6 +1,6 @@
 //! Each print fails once, whatever is printed.
 
-use super::{DOMAIN, Ending, OLDER, Outside, PROBLEM, SUMMARY, TEXT, prepared, words};
+use super::{Ending, MAPPED, OLDER, Outside, PROBLEM, SUMMARY, TEXT, answer, prepared};
 use std::alloc::{AllocError, Global};
 use std::test::*;
 use translator::Status;
@@ -13,7 +13,7 @@ struct Case {
     ending: Ending<'static>,
 }
 
-static CASES: [Case; 5] = [
+static CASES: [Case; 7] = [
     Case {
         names: &["translate", "d.pddl", "p.pddl"],
         problem: PROBLEM,
@@ -21,7 +21,7 @@ static CASES: [Case; 5] = [
         ending: Ending {
             status: Status::Done,
             printed: SUMMARY,
-            output: TEXT,
+            output: Some(TEXT),
         },
     },
     Case {
@@ -31,7 +31,7 @@ static CASES: [Case; 5] = [
         ending: Ending {
             status: Status::Usage,
             printed: b"usage: translate DOMAIN PROBLEM [options]\n",
-            output: OLDER,
+            output: Some(OLDER),
         },
     },
     Case {
@@ -41,7 +41,7 @@ static CASES: [Case; 5] = [
         ending: Ending {
             status: Status::InputFault,
             printed: b"translate: p.pddl:2: unknown predicate\n",
-            output: OLDER,
+            output: Some(OLDER),
         },
     },
     Case {
@@ -51,7 +51,7 @@ static CASES: [Case; 5] = [
         ending: Ending {
             status: Status::Device,
             printed: b"translate: cannot read y.pddl\n",
-            output: OLDER,
+            output: Some(OLDER),
         },
     },
     Case {
@@ -61,43 +61,71 @@ static CASES: [Case; 5] = [
         ending: Ending {
             status: Status::Device,
             printed: b"translate: cannot write output.sas\n",
-            output: b"begin_version\n3",
+            output: Some(b"begin_version\n3"),
+        },
+    },
+    Case {
+        names: &["translate", "--map-plan", "plan", "d.pddl", "p.pddl"],
+        problem: PROBLEM,
+        room: 1000,
+        ending: Ending {
+            status: Status::Done,
+            printed: MAPPED,
+            output: Some(TEXT),
+        },
+    },
+    Case {
+        names: &["translate", "--make", "1", "--map-plan", "no.plan"],
+        problem: PROBLEM,
+        room: 1000,
+        ending: Ending {
+            status: Status::Device,
+            printed: b"translate: cannot read no.plan\n",
+            output: Some(OLDER),
         },
     },
 ];
 
-/// How a run ends whose nth print fails, and what it leaves.
-fn run(alloc: Global, case: &Case, nth: u64) -> Result<(Outside, Status), AllocError> {
-    let mut outside = prepared(alloc, DOMAIN, case.problem)?;
-    outside.room(case.room)?;
-    outside.fail_print(nth)?;
-    let status = outside.answer(alloc, words(alloc, case.names)?);
-    Ok((outside, status))
-}
+impl Case {
+    /// How the run ends whose nth print fails.
+    fn answer(&self, alloc: Global, outside: &mut Outside, nth: u64) -> Result<Status, AllocError> {
+        outside.room("output.sas", self.room)?;
+        outside.fail_print(nth)?;
+        answer(alloc, outside, self.names)
+    }
 
-/// Whether the run whose nth print fails ends with 30, prints a front of its text, and leaves files as it would else.
-fn is_cut(alloc: Global, case: &Case, nth: u64) -> Result<bool, AllocError> {
-    let (outside, status) = run(alloc, case, nth)?;
-    let printed = outside.printed();
-    let text = case.ending.printed;
-    let ending = Ending {
-        status: Status::Device,
-        printed,
-        output: case.ending.output,
-    };
-    Ok(
+    /// Whether the run ended with 30, printed a front of its text, and left files as it would else.
+    fn is_cut(&self, outside: &Outside, status: Status) -> bool {
+        let printed = outside.printed();
+        let ending = Ending {
+            status: Status::Device,
+            printed,
+            output: self.ending.output,
+        };
         status == ending.status
-            && outside.stands(&ending, DOMAIN, case.problem)
-            && text.starts_with(printed)
-            && printed.len() < text.len()
-            && (nth > 1 || printed.is_empty()),
-    )
+            && outside.stands(&ending, "output.sas", self.problem)
+            && self.ending.printed.starts_with(printed)
+            && printed.len() < self.ending.printed.len()
+    }
+
+    /// Whether the run ended as it should.
+    fn is_whole(&self, outside: &Outside, status: Status) -> bool {
+        status == self.ending.status && outside.stands(&self.ending, "output.sas", self.problem)
+    }
 }
 
-/// Whether the run in which the nth print isn't made any more ends as it should.
+/// Whether the run is cut whose nth print fails, and at the first one prints nothing.
+fn is_cut(alloc: Global, case: &Case, nth: u64) -> Result<bool, AllocError> {
+    let mut outside = prepared(alloc, case.problem)?;
+    let status = case.answer(alloc, &mut outside, nth)?;
+    Ok(case.is_cut(&outside, status) && (nth > 1 || outside.printed().is_empty()))
+}
+
+/// Whether the run in which an nth print isn't made ends as it should.
 fn is_whole(alloc: Global, case: &Case, nth: u64) -> Result<bool, AllocError> {
-    let (outside, status) = run(alloc, case, nth)?;
-    Ok(status == case.ending.status && outside.stands(&case.ending, DOMAIN, case.problem))
+    let mut outside = prepared(alloc, case.problem)?;
+    let status = case.answer(alloc, &mut outside, nth)?;
+    Ok(case.is_whole(&outside, status))
 }
 
 /// Whether a run is cut by each of its prints in turn, the first one at least, and by no further one.
@@ -115,13 +143,5 @@ fn each_print_fails_once_and_files_stand_as_they_would(rt: HostRuntime) -> Resul
     for (row, case) in CASES.iter().enumerate() {
         assert!(rt; is_cut_by_each(rt.alloc(), case)?, "row {row}");
     }
-    Ok(())
-}
-
-#[test]
-fn a_failed_first_print_leaves_the_whole_text(rt: HostRuntime) -> Result<(), AllocError> {
-    let (outside, status) = run(rt.alloc(), &CASES[0], 1)?;
-    assert!(rt; status == Status::Device && outside.printed().is_empty());
-    assert!(rt; outside.holds("output.sas", TEXT));
     Ok(())
 }

@@ -43,8 +43,9 @@ begin_variable\nvar1\n-1\n5\nAtom free(right)\nAtom carry(ball1, right)\nAtom ca
 /// The number of the robot's variable. Behind it stand those of the balls.
 const ROBOT: usize = 2;
 
-/// The hands, the robot's place, and the place of each ball, which has none while it is carried.
-fn push_variables(alloc: Global, text: &mut String) -> Result<(), AllocError> {
+/// The hands, the robot's place, and the place of each ball, which has none while it is carried. With whole groups each
+/// gripper is a place of it too.
+fn push_variables(alloc: Global, text: &mut String, full: bool) -> Result<(), AllocError> {
     text.push_str("7\n")?;
     text.push_str(HANDS)?;
     text.push_str(
@@ -52,9 +53,15 @@ fn push_variables(alloc: Global, text: &mut String) -> Result<(), AllocError> {
     )?;
     for ball in 1..5usize {
         let number = ROBOT + ball;
-        let block = format!(in alloc;
-            "begin_variable\nvar{number}\n-1\n3\nAtom at(ball{ball}, rooma)\nAtom at(ball{ball}, roomb)\n<none of those>\nend_variable\n"
-        )?;
+        let block = if full {
+            format!(in alloc;
+                "begin_variable\nvar{number}\n-1\n4\nAtom at(ball{ball}, rooma)\nAtom at(ball{ball}, roomb)\nAtom carry(ball{ball}, left)\nAtom carry(ball{ball}, right)\nend_variable\n"
+            )?
+        } else {
+            format!(in alloc;
+                "begin_variable\nvar{number}\n-1\n3\nAtom at(ball{ball}, rooma)\nAtom at(ball{ball}, roomb)\n<none of those>\nend_variable\n"
+            )?
+        };
         text.push_str(&block)?;
     }
     Ok(())
@@ -81,18 +88,26 @@ enum Handling {
     Pick,
 }
 
-/// The operators that take or let go each of the four balls, in each of the two rooms, with each of the two grippers.
-fn push_handlings(alloc: Global, text: &mut String, handling: Handling) -> Result<(), AllocError> {
+/// The operators that take or let go each of the four balls, in each of the two rooms, with each of the two grippers. Only
+/// with whole groups is it asked of the ball too that it is carried.
+fn push_handlings(
+    alloc: Global,
+    text: &mut String,
+    handling: Handling,
+    full: bool,
+) -> Result<(), AllocError> {
     for number in 0..16usize {
         let (ball, room, gripper) = (number / 4 + 1, number / 2 % 2, number % 2);
         let place = ROBOT + ball;
+        let carried = if full { 2 + gripper } else { 2 };
+        let before = if full { ["2", "3"][gripper] } else { "-1" };
         let objects = format!(in alloc; "ball{ball} {} {}", ROOMS[room], GRIPPERS[gripper])?;
         let block = match handling {
             Handling::Drop => format!(in alloc;
-                "begin_operator\ndrop {objects}\n1\n2 {room}\n2\n0 {gripper} {ball} 0\n0 {place} -1 {room}\n1\nend_operator\n"
+                "begin_operator\ndrop {objects}\n1\n2 {room}\n2\n0 {gripper} {ball} 0\n0 {place} {before} {room}\n1\nend_operator\n"
             )?,
             Handling::Pick => format!(in alloc;
-                "begin_operator\npick {objects}\n1\n2 {room}\n2\n0 {gripper} 0 {ball}\n0 {place} {room} 2\n1\nend_operator\n"
+                "begin_operator\npick {objects}\n1\n2 {room}\n2\n0 {gripper} 0 {ball}\n0 {place} {room} {carried}\n1\nend_operator\n"
             )?,
         };
         text.push_str(&block)?;
@@ -117,27 +132,28 @@ move roomb rooma
 end_operator
 ";
 
-pub(super) fn four_balls(alloc: Global) -> Result<String, AllocError> {
+/// The task of four balls, with whole groups or without.
+pub(super) fn four_balls(alloc: Global, full: bool) -> Result<String, AllocError> {
     let mut text = String::new(alloc);
-    push_four_balls(alloc, &mut text)?;
+    push_four_balls(alloc, &mut text, full)?;
     Ok(text)
 }
 
-fn push_four_balls(alloc: Global, text: &mut String) -> Result<(), AllocError> {
+fn push_four_balls(alloc: Global, text: &mut String, full: bool) -> Result<(), AllocError> {
     text.push_str("begin_version\n3\nend_version\nbegin_metric\n0\nend_metric\n")?;
-    push_variables(alloc, text)?;
+    push_variables(alloc, text, full)?;
     push_groups(alloc, text)?;
     text.push_str("begin_state\n0\n0\n0\n0\n0\n0\n0\nend_state\n")?;
     text.push_str("begin_goal\n4\n3 1\n4 1\n5 1\n6 1\nend_goal\n34\n")?;
-    push_handlings(alloc, text, Handling::Drop)?;
+    push_handlings(alloc, text, Handling::Drop, full)?;
     text.push_str(MOVES)?;
-    push_handlings(alloc, text, Handling::Pick)?;
+    push_handlings(alloc, text, Handling::Pick, full)?;
     text.push_str("0\n")
 }
 
 #[test]
 fn gripper_with_four_balls_has_seven_variables(rt: HostRuntime) -> Result<(), AllocError> {
-    let text = four_balls(rt.alloc())?;
+    let text = four_balls(rt.alloc(), false)?;
     let summary = "Translator candidates: 12
 Translator invariants: 3
 Translator variables: 7

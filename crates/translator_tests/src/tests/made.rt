@@ -8,7 +8,12 @@ use std::test::*;
 use translator::Status;
 
 /// Whether these words, with no input file there, write this text and print this.
-fn makes(alloc: Global, words: &[&str], text: &str, printed: &str) -> Result<bool, AllocError> {
+pub(super) fn makes(
+    alloc: Global,
+    words: &[&str],
+    text: &str,
+    printed: &str,
+) -> Result<bool, AllocError> {
     let mut outside = without_files(alloc, 1_000_000)?;
     let is_done = answers(alloc, words, &mut outside, Status::Done)?;
     Ok(
@@ -69,7 +74,7 @@ static ONE_BALL: Row = Row {
 
 #[test]
 fn made_texts_are_translated_without_a_file(rt: HostRuntime) -> Result<(), AllocError> {
-    let four = four_balls(rt.alloc())?;
+    let four = four_balls(rt.alloc(), false)?;
     assert!(rt;
         makes(
             rt.alloc(),
@@ -82,6 +87,30 @@ fn made_texts_are_translated_without_a_file(rt: HostRuntime) -> Result<(), Alloc
     let one = ONE_BALL.text(rt.alloc())?;
     let summary = ONE_BALL.summary(rt.alloc())?;
     assert!(rt; makes(rt.alloc(), &["translate", "--make=1"], &one, &summary)?);
+    Ok(())
+}
+
+/// A plan of the made task with one ball is mapped, and one that is absent is told.
+fn plans_are_read(alloc: Global) -> Result<bool, AllocError> {
+    let words = ["translate", "--make", "1", "--map-plan", "plan"];
+    let mut outside = without_files(alloc, 10_000)?;
+    let is_absent = answers(alloc, &words, &mut outside, Status::Device)?;
+    let is_told = outside.has_printed(b"translate: cannot read plan\n");
+    let summary = ONE_BALL.summary(alloc)?;
+    let printed = format!(in alloc;
+        "translate: cannot read plan\n{summary}(pick ball1 rooma left)\n(move rooma roomb)\n(drop ball1 roomb left)\n; cost = 3 (unit cost)\n"
+    )?;
+    outside.add(
+        "plan",
+        b"(pick ball1 rooma left)\n(move rooma roomb)\n(drop ball1 roomb left)\n",
+    )?;
+    let is_done = answers(alloc, &words, &mut outside, Status::Done)?;
+    Ok(is_absent && is_told && is_done && outside.has_printed(printed.as_bytes()))
+}
+
+#[test]
+fn plans_of_made_tasks_are_mapped(rt: HostRuntime) -> Result<(), AllocError> {
+    assert!(rt; plans_are_read(rt.alloc())?);
     Ok(())
 }
 

@@ -45,7 +45,15 @@ fn options_that_change_nothing_are_accepted(rt: HostRuntime) -> Result<(), Alloc
 }
 
 /// Words that are refused.
-static REFUSED: [&[&str]; 15] = [
+static REFUSED: [&[&str]; 17] = [
+    &["translate", "d.pddl", "p.pddl", "--full-encoding=x"],
+    &[
+        "translate",
+        "--make",
+        "4",
+        "--full-encoding",
+        "--full-encoding",
+    ],
     &["translate", "d.pddl", "p.pddl", CANDIDATES, "2147483648"],
     &["translate", "d.pddl", "p.pddl", CANDIDATES, "-1"],
     &["translate", "d.pddl", "p.pddl", CANDIDATES, "+5"],

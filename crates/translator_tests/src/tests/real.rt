@@ -1,6 +1,7 @@
 //! The top call on the real files and the standard output.
 
 use super::{DOMAIN, PROBLEM, TEXT, words};
+use pass_book::Book;
 use std::alloc::AllocError;
 use std::test::*;
 use std::{fs, io};
@@ -11,7 +12,8 @@ fn answers(rt: &HostRuntime, names: &[&str], status: Status) -> Result<bool, All
     let words = words(rt.alloc(), names)?;
     let mut files = RealFiles::new(rt);
     let mut console = RealConsole::new(rt);
-    Ok(translate(rt.alloc(), words, &mut files, &mut console) == status)
+    let book = Book::new(rt.alloc());
+    Ok(translate(rt.alloc(), words, &mut files, &mut console, &book) == status)
 }
 
 fn holds(rt: &HostRuntime, name: &str, bytes: &[u8]) -> bool {

@@ -88,11 +88,16 @@ fn blocks_have_seven_groups(rt: HostRuntime) -> Result<(), AllocError> {
     assert_rows(&rt, rt.alloc(), &THREE_BLOCKS)
 }
 
+pub(super) const BACK: &str = "(define (domain back) (:predicates (p ?x) (q ?x))
+ (:action act :parameters (?x ?y) :precondition (q ?x) :effect (and (p ?x) (not (q ?x)) (q ?y))))";
+
+pub(super) const BACK_PROBLEM: &str =
+    "(define (problem b) (:domain back) (:objects a b) (:init (q a)) (:goal (p b)))";
+
 /// What is deleted of `q` may be added again, so that `p` doesn't stand beside it: at most one `q` is all.
 static RESTORED: [Row; 1] = [Row {
-    domain: "(define (domain back) (:predicates (p ?x) (q ?x))
- (:action act :parameters (?x ?y) :precondition (q ?x) :effect (and (p ?x) (not (q ?x)) (q ?y))))",
-    problem: "(define (problem b) (:domain back) (:objects a b) (:init (q a)) (:goal (p b)))",
+    domain: BACK,
+    problem: BACK_PROBLEM,
     metric: "0",
     variables: &[
         ("-1", "Atom q(a) / Atom q(b)"),
@@ -117,7 +122,7 @@ fn a_restored_atom_stands_in_no_group_with_another(rt: HostRuntime) -> Result<()
     assert_rows(&rt, rt.alloc(), &RESTORED)
 }
 
-const BELL: &str = "(define (domain bell) (:constants l1) (:predicates (at ?l) (rung))
+pub(super) const BELL: &str = "(define (domain bell) (:constants l1) (:predicates (at ?l) (rung))
  (:action move :parameters (?x ?y) :precondition (at ?x) :effect (and (not (at ?x)) (at ?y)))
  (:action ring :precondition (not (at l1)) :effect (rung)))";
 

@@ -141,9 +141,19 @@ pub(super) fn assert_rows(rt: &impl Abort, alloc: Global, rows: &[Row]) -> Resul
     Ok(())
 }
 
-const SHOP: &str =
+pub(super) const SHOP: &str =
     "(define (domain shop) (:predicates (done ?x)) (:functions (total-cost) - number (price ?x) - number)
  (:action go :parameters (?x) :effect (and (done ?x) (increase (total-cost) (price ?x)))))";
+
+pub(super) const UNPRICED: &str =
+    "(define (problem s) (:domain shop) (:objects a b) (:init (= (total-cost) 0) (= (price a) 7)) (:goal (done a)))";
+
+pub(super) const TOUCH: &str = "(define (domain touch) (:predicates (p) (q))
+ (:action drop-p :precondition (p) :effect (not (p)))
+ (:action touch :effect (and (not (q)) (when (p) (q)))))";
+
+pub(super) const TOUCH_PROBLEM: &str =
+    "(define (problem t) (:domain touch) (:init (p) (q)) (:goal (not (q))))";
 
 const FIT: &str = "(define (domain fit) (:types t u) (:predicates (p ?x - t) (done))
  (:action go :parameters (?x - u) :precondition (p ?x) :effect (done)))";
@@ -165,7 +175,7 @@ static GROUNDING: [Row; 9] = [
     // Without the metric costs don't count.
     Row {
         domain: SHOP,
-        problem: "(define (problem s) (:domain shop) (:objects a b) (:init (= (total-cost) 0) (= (price a) 7)) (:goal (done a)))",
+        problem: UNPRICED,
         metric: "0",
         variables: &[
             ("-1", "Atom done(a) / NegatedAtom done(a)"),
@@ -491,8 +501,8 @@ static EFFECTS: [Row; 8] = [
     },
     // A delete effect yields to an add effect that fires.
     Row {
-        domain: "(define (domain touch) (:predicates (p) (q)) (:action drop-p :precondition (p) :effect (not (p))) (:action touch :effect (and (not (q)) (when (p) (q)))))",
-        problem: "(define (problem t) (:domain touch) (:init (p) (q)) (:goal (not (q))))",
+        domain: TOUCH,
+        problem: TOUCH_PROBLEM,
         metric: "0",
         variables: &[
             ("-1", "Atom p() / NegatedAtom p()"),

@@ -10,5 +10,8 @@ returns c =
     let three = c.in_ok-arg-3.ensures.shape c.option.ensures.own ∙ ap₂ with_rule two c.option.ensures.rule in
     let four = c.in_ok-arg-4.ensures.shape c.option-2.ensures.own ∙ ap₂ with_rule three c.option-2.ensures.rule in
     let five = c.in_ok-arg-5.ensures.shape c.option-3.ensures.own ∙ ap₂ with_rule four c.option-3.ensures.rule in
-    let six = c.in_ok-arg-6.ensures.shape c.flag.ensures.own ∙ ap₂ with_rule five c.flag.ensures.rule in
-    IfOk-weaker c.arg-7.result _ _ (λ r added. added.shape c.flag-2.ensures.own ∙ ap₂ with_rule six c.flag-2.ensures.rule) c.arg-7.ensures
+    let six = c.in_ok-arg-6.ensures.shape c.option-4.ensures.own ∙ ap₂ with_rule five c.option-4.ensures.rule in
+    let seven = c.in_ok-arg-7.ensures.shape c.option-5.ensures.own ∙ ap₂ with_rule six c.option-5.ensures.rule in
+    let eight = c.in_ok-arg-8.ensures.shape c.flag.ensures.own ∙ ap₂ with_rule seven c.flag.ensures.rule in
+    let nine = c.in_ok-arg-9.ensures.shape c.flag-2.ensures.own ∙ ap₂ with_rule eight c.flag-2.ensures.rule in
+    IfOk-weaker c.arg-10.result _ _ (λ r added. added.shape c.flag-3.ensures.own ∙ ap₂ with_rule nine c.flag-3.ensures.rule) c.arg-10.ensures

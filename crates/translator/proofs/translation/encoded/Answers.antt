@@ -6,7 +6,7 @@ use Rattle.translator.proofs.Translated.{sorted_groups, encoding_of_run}
 use Rattle.translator.proofs.translation.encoded.Goals as goal
 
 pub encode-requires-clause-cover : goal.encode-requires-clause-cover
-encode-requires-clause-cover c = subst (λ n. IsCover n c.in_ok-groups.groups.groups c.in_ok-cover.cover.sets) c.facts_of.ensures c.in_ok-cover.ensures
+encode-requires-clause-cover c = (c.args.full, subst (λ n. IsCover c.args.full n c.in_ok-groups.groups.groups c.in_ok-cover.cover.sets) c.facts_of.ensures c.in_ok-cover.ensures)
 
 pub encode-requires-clause-groups : goal.encode-requires-clause-groups
 encode-requires-clause-groups c =
@@ -20,5 +20,5 @@ returns c =
     let reached = c.args.reached.now in
     let are : AreGroups c.args.normal.now c.args.found.now.accepted reached c.in_ok-groups.groups.groups =
     subst (λ (candidates : List Candidate). AreGroups c.args.normal.now candidates reached c.in_ok-groups.groups.groups) c.as_slice.ensures c.in_ok-groups.ensures.groups in
-    encoding_of_run c.args.normal.now c.args.found.now reached c.in_ok-layers.layers.items c.deref.result.now c.in_ok-groups.groups.groups c.in_ok-cover.cover.sets c.facts_of.result c.encode.result
+    encoding_of_run c.args.full c.args.normal.now c.args.found.now reached c.in_ok-layers.layers.items c.deref.result.now c.in_ok-groups.groups.groups c.in_ok-cover.cover.sets c.facts_of.result c.encode.result
     c.requires.reached c.in_ok-layers.ensures.layers c.deref.ensures.value are c.facts_of.ensures c.facts_of.type_inv c.in_ok-cover.ensures c.encode.ensures.encoding

@@ -1,4 +1,4 @@
-use Rattle.std.proofs.Common.{◌≡◌, sym, subst}
+use Rattle.std.proofs.Common.{◌≡◌, [], sym, subst}
 use Rattle.std.specs.Prelude.{IfOk, IfErr}
 use Rattle.command_line.specs.Accepted.{source_by}
 use Rattle.command_line.specs.declared.accepted.Source.{Source}
@@ -11,7 +11,7 @@ use Rattle.translator.proofs.work.made.Goals as goal
 pub returns-in-Made-clause-ok : goal.returns-in-Made-clause-ok
 returns-in-Made-clause-ok g c =
     let before = store g.F.Files c.args.files.now in
-    subst (λ (s : Source). IfOk c.made_task.result (λ made. IsRead before before (λ held. IsMadeOf (of_source held (source_by s)) c.args.accepted.now.settings made.found made.task))) (sym c.in-Made.is)
+    subst (λ (s : Source). IfOk c.made_task.result (λ made. IsRead before before (λ held. IsMadeOf (of_source held (source_by s)) c.args.accepted.now.settings [] made.found made.task))) (sym c.in-Made.is)
     (made_so c.in-Made.balls before c.args.accepted.now.settings c.made_task.result c.made_task.ensures.ok)
 
 pub returns-in-Made-clause-err : goal.returns-in-Made-clause-err

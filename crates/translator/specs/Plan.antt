@@ -1,0 +1,36 @@
+-- What a plan file comes to for the task of a run.
+use Rattle.std.specs.Prelude.{ℕ, List, [], ◌∷◌}
+use Rattle.std.specs.declared.option.Option.{Option}
+use Rattle.std.specs.declared.option.Option.TheVariants.{Some, None}
+use Rattle.tl_device.specs.Contents.{Contents}
+use Rattle.plan_backmap.specs.Lines.{plan_lines}
+use Rattle.plan_backmap.specs.Plans.{faults, mapped}
+use Rattle.plan_backmap.specs.PlanText.{plan_text}
+use Rattle.plan_backmap.specs.declared.plan.MapEnd.{MapEnd}
+use Rattle.plan_backmap.specs.declared.plan.MapEnd.TheVariants as map_ends
+use Rattle.sas_task.specs.Task.{Task}
+use Rattle.translator.specs.declared.outcome.Message.TheVariants as messages
+use Rattle.translator.specs.Ending.{Ending, Gives, Refused, ◌>>=◌}
+use Rattle.translator.specs.Texts.{Text, read}
+
+-- the lines, or the first of the faults of the plan file of this name; want of memory is none
+abbrev pub unless_faulty : List ℕ → List MapEnd → List ℕ → Ending (List ℕ)
+unless_faulty name [] lines = Gives lines
+unless_faulty name (map_ends.BadLine line ∷ more) lines = Refused name (messages.BadPlanLine line)
+unless_faulty name (map_ends.UnknownStep line ∷ more) lines = Refused name (messages.UnknownStep line)
+unless_faulty name (map_ends.NoMemory ∷ more) lines = unless_faulty name more lines
+
+-- the lines on a plan's steps and on what they cost, mapped back to the task's operators
+abbrev pub mapped_lines : Task → Text → Ending (List ℕ)
+mapped_lines task plan =
+    unless_faulty plan.name (faults task.operators (plan_lines plan.bytes)) (plan_text task.metric (mapped task.operators (plan_lines plan.bytes)))
+
+-- the same of the plan file of this name, and no lines where none is named
+unfoldable pub of_plan : Contents → Option (List ℕ) → Task → Ending (List ℕ)
+of_plan files None task = Gives []
+of_plan files (Some name) task = read files name >>= mapped_lines task
+
+-- the name of the plan file, if one is named
+abbrev pub plan_names : Option (List ℕ) → List (List ℕ)
+plan_names None = []
+plan_names (Some name) = name ∷ []

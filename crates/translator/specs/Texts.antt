@@ -1,0 +1,33 @@
+-- The texts that a run reads.
+use Rattle.std.specs.Prelude.{ℕ, List, [], ◌∷◌, length, nat_lt, if◌then◌else◌}
+use Rattle.std.specs.declared.option.Option.{Option}
+use Rattle.std.specs.declared.option.Option.TheVariants.{Some, None}
+use Rattle.std.specs.FinMap.{get}
+use Rattle.tl_device.specs.Contents.{Contents}
+use Rattle.pddl_lexer.specs.declared.fault.Fault.{Fault}
+use Rattle.pddl_lexer.specs.declared.fault.Kind.TheVariants.{TooLong}
+use Rattle.translator.specs.Ending.{Ending, Absent, unless}
+
+-- a text, and the name under which its faults are told
+pub record Text : Type 0 where
+  pub name : List ℕ
+  pub bytes : List ℕ
+
+abbrev pub text : List ℕ → List ℕ → Text
+text name bytes = record { name = name; bytes = bytes }
+
+-- the most bytes of an input file
+abbrev pub limit : ℕ
+limit = 16777216
+
+-- a file with more bytes has this fault
+abbrev pub length_faults : List ℕ → List Fault
+length_faults bytes = if nat_lt limit (length bytes) then record { kind = TooLong; line = 1 } ∷ [] else []
+
+-- what is read where the file of this name holds this
+abbrev pub read_as : List ℕ → Option (List ℕ) → Ending Text
+read_as name None = Absent name
+read_as name (Some bytes) = unless name (length_faults bytes) (text name bytes)
+
+abbrev pub read : Contents → List ℕ → Ending Text
+read files name = read_as name (get files name)
