@@ -35,20 +35,29 @@ def write(folder, make):
     return sum(map(os.path.getsize, paths))
 
 
-def run(program, folder):
-    """The least processor seconds of three runs, with the peak memory in bytes and the first line that was printed. A
-    run of more than ten seconds stands alone."""
-    runs = [run_once(program, folder)]
+def built_program():
+    """The program that is named, or the one that ./translate builds."""
+    default = os.path.join(TOP, "crates", "translate_main", "out", "translate_main")
+    program = os.path.abspath(sys.argv[1]) if len(sys.argv) > 1 else default
+    if not os.access(program, os.X_OK):
+        sys.exit(f"bench: {program} is not there; run ./translate once")
+    return program
+
+
+def run(program, folder, options=()):
+    """The least processor seconds of three runs, with the peak memory in bytes and what was printed. A run of more than
+    ten seconds stands alone."""
+    runs = [run_once(program, folder, options)]
     while len(runs) < 3 and runs[0][0] < 10:
-        runs.append(run_once(program, folder))
+        runs.append(run_once(program, folder, options))
     return min(runs)
 
 
-def run_once(program, folder):
-    process = subprocess.Popen([program, "domain.pddl", "problem.pddl"], stdout=subprocess.PIPE, cwd=folder)
+def run_once(program, folder, options):
+    process = subprocess.Popen([program, "domain.pddl", "problem.pddl", *options], stdout=subprocess.PIPE, cwd=folder)
     printed = process.stdout.read().decode("ascii", "replace").strip()
     _, _, usage = os.wait4(process.pid, 0)
-    return usage.ru_utime + usage.ru_stime, usage.ru_maxrss * 1024, printed.splitlines()[0] if printed else ""
+    return usage.ru_utime + usage.ru_stime, usage.ru_maxrss * 1024, printed
 
 
 def written(folder):
@@ -61,10 +70,7 @@ def measure(families):
     """Runs each family and prints a line for each size. A family is its name, the most bytes of memory for each byte
     that is read or written, the most growth of seconds for a doubling or None, and its sizes: the number, its name, and
     how its files are made. Ends with 1 where a line ends with `slow` or `large`."""
-    default = os.path.join(TOP, "crates", "translate_main", "out", "translate_main")
-    program = os.path.abspath(sys.argv[1]) if len(sys.argv) > 1 else default
-    if not os.access(program, os.X_OK):
-        sys.exit(f"bench: {program} is not there; run ./translate once")
+    program = built_program()
     bad = 0
     print(f"{'files':<22} {'size':>9} {'seconds':>8} {'growth':>7} {'MiB used':>9} {'MiB written':>12} {'bytes/byte':>11}  answer")
     for name, most, growth_limit, sizes in families:
@@ -72,8 +78,9 @@ def measure(families):
         for size, shown_size, make in sizes:
             with tempfile.TemporaryDirectory() as folder:
                 read = write(folder, make)
-                seconds, memory, answer = run(program, folder)
+                seconds, memory, printed = run(program, folder)
                 output = written(folder)
+            answer = printed.splitlines()[0] if printed else ""
             growth = (seconds / before[1]) ** (math.log(2) / math.log(size / before[0])) if before else None
             each = memory / (read + output)
             slow = growth_limit is not None and growth is not None and growth > growth_limit and seconds > 0.2

@@ -1,0 +1,203 @@
+"""Planning tasks that grow: each function makes the bytes of a domain file and of a problem file."""
+
+from measure import lines
+
+
+def wide_actions(count):
+    """Actions of twenty atoms each."""
+    predicates = lines(b"(p%d)" % i for i in range(40))
+    bodies = lines(
+        b"(:action a%d :precondition (and " % i + b" ".join(b"(p%d)" % ((i + k) % 40) for k in range(20)) + b") :effect (p%d))" % (i % 40)
+        for i in range(count)
+    )
+    start = b" ".join(b"(p%d)" % i for i in range(40))
+    return (
+        b"(define (domain d) (:predicates " + predicates + b")\n" + bodies + b")",
+        b"(define (problem p) (:domain d) (:init " + start + b") (:goal (p0)))",
+    )
+
+
+def many_objects(count):
+    """Objects of three types, and an action over the smallest of them."""
+    named = lines(b"o%d - %s" % (i, b"small" if i < 10 else b"middle" if i % 2 else b"large") for i in range(count))
+    return (
+        b"(define (domain d) (:types small middle - large large) (:predicates (p ?x - small) (q ?x - large))\n"
+        b"(:action go :parameters (?x ?y - small) :precondition (p ?x) :effect (and (not (p ?x)) (p ?y))))",
+        b"(define (problem p) (:domain d) (:objects " + named + b") (:init (p o0)) (:goal (p o1)))",
+    )
+
+
+def stated_atoms(count):
+    """Static atoms and values over objects, a tenth as many, of which an action asks for one."""
+    objects = count // 10
+    named = lines(b"o%d" % i for i in range(objects))
+    atoms = lines(b"(linked o%d o%d)" % (i % objects, (i + i // objects) % objects) for i in range(count))
+    values = lines(b"(= (price o%d) %d)" % (i, i) for i in range(objects))
+    return (
+        b"(define (domain d) (:constants start) (:predicates (linked ?x ?y) (at ?x)) (:functions (total-cost) (price ?x))\n"
+        b"(:action go :parameters (?y) :precondition (and (at start) (linked start ?y))\n"
+        b" :effect (and (at ?y) (increase (total-cost) (price ?y)))))",
+        b"(define (problem p) (:domain d) (:objects " + named + b") (:init (at start) (linked start o1) " + atoms + values + b") (:goal (at o1)) (:metric minimize (total-cost)))",
+    )
+
+
+def many_parts(count):
+    """A precondition of as many parts."""
+    return (
+        b"(define (domain d) (:predicates (on) (off)) (:action flip :precondition (or " + b" (off)" * count + b") :effect (and (on) (not (off)))))",
+        b"(define (problem p) (:domain d) (:init (off)) (:goal (on)))",
+    )
+
+
+def many_parameters(count):
+    """An action with many parameters, each of them asked for and over one object, beside as many other objects."""
+    names = [b"?x%d" % i for i in range(count)]
+    asked = lines(b"(p %s)" % name for name in names)
+    return (
+        b"(define (domain d) (:types one other) (:predicates (never) (p ?x - one))\n(:action a :parameters (" + lines(names)
+        + b" - one) :precondition (and (never) " + asked + b") :effect (p ?x0)))",
+        b"(define (problem p) (:domain d) (:objects o - one " + lines(b"o%d" % i for i in range(count)) + b" - other) (:init) (:goal (p o)))",
+    )
+
+
+def untyped_gripper(balls):
+    """The same with a static predicate in place of each type, so that every parameter ranges over all objects."""
+    numbers = range(1, balls + 1)
+    return (
+        b"""(define (domain gripper-strips)
+(:predicates (room ?r) (ball ?b) (gripper ?g) (at-robby ?r) (at ?b ?r) (free ?g) (carry ?o ?g))
+(:action move :parameters (?from ?to) :precondition (and (room ?from) (room ?to) (at-robby ?from))
+ :effect (and (at-robby ?to) (not (at-robby ?from))))
+(:action pick :parameters (?b ?r ?g) :precondition (and (ball ?b) (room ?r) (gripper ?g) (at ?b ?r) (at-robby ?r) (free ?g))
+ :effect (and (carry ?b ?g) (not (at ?b ?r)) (not (free ?g))))
+(:action drop :parameters (?b ?r ?g) :precondition (and (ball ?b) (room ?r) (gripper ?g) (carry ?b ?g) (at-robby ?r))
+ :effect (and (at ?b ?r) (free ?g) (not (carry ?b ?g)))))""",
+        b"(define (problem made) (:domain gripper-strips) (:objects rooma roomb left right " + b" ".join(b"ball%d" % i for i in numbers) + b")\n"
+        b"(:init (room rooma) (room roomb) (gripper left) (gripper right) (at-robby rooma) (free left) (free right) "
+        + b" ".join(b"(ball ball%d) (at ball%d rooma)" % (i, i) for i in numbers) + b")\n"
+        b"(:goal (and " + b" ".join(b"(at ball%d roomb)" % i for i in numbers) + b")))",
+    )
+
+
+def gripper(balls):
+    named = b" ".join(b"ball%d" % i for i in range(1, balls + 1))
+    return (
+        b"""(define (domain gripper) (:requirements :strips :typing) (:types room ball gripper)
+(:predicates (at-robby ?r - room) (at ?b - ball ?r - room) (free ?g - gripper) (carry ?b - ball ?g - gripper))
+(:action move :parameters (?from ?to - room) :precondition (at-robby ?from) :effect (and (at-robby ?to) (not (at-robby ?from))))
+(:action pick :parameters (?b - ball ?r - room ?g - gripper) :precondition (and (at ?b ?r) (at-robby ?r) (free ?g))
+ :effect (and (carry ?b ?g) (not (at ?b ?r)) (not (free ?g))))
+(:action drop :parameters (?b - ball ?r - room ?g - gripper) :precondition (and (carry ?b ?g) (at-robby ?r))
+ :effect (and (at ?b ?r) (free ?g) (not (carry ?b ?g)))))""",
+        b"(define (problem made) (:domain gripper) (:objects rooma roomb - room left right - gripper " + named + b" - ball)\n"
+        b"(:init (at-robby rooma) (free left) (free right) " + b" ".join(b"(at ball%d rooma)" % i for i in range(1, balls + 1)) + b")\n"
+        b"(:goal (and " + b" ".join(b"(at ball%d roomb)" % i for i in range(1, balls + 1)) + b")))",
+    )
+
+
+def blocks(count):
+    named = b" ".join(b"b%d" % i for i in range(count))
+    return (
+        b"""(define (domain blocks) (:predicates (on ?x ?y) (ontable ?x) (clear ?x) (handempty) (holding ?x))
+(:action pick-up :parameters (?x) :precondition (and (clear ?x) (ontable ?x) (handempty))
+ :effect (and (not (ontable ?x)) (not (clear ?x)) (not (handempty)) (holding ?x)))
+(:action put-down :parameters (?x) :precondition (holding ?x) :effect (and (not (holding ?x)) (clear ?x) (handempty) (ontable ?x)))
+(:action stack :parameters (?x ?y) :precondition (and (holding ?x) (clear ?y))
+ :effect (and (not (holding ?x)) (not (clear ?y)) (clear ?x) (handempty) (on ?x ?y)))
+(:action unstack :parameters (?x ?y) :precondition (and (on ?x ?y) (clear ?x) (handempty))
+ :effect (and (holding ?x) (clear ?y) (not (clear ?x)) (not (handempty)) (not (on ?x ?y)))))""",
+        b"(define (problem p) (:domain blocks) (:objects " + named + b") (:init (handempty) "
+        + b" ".join(b"(ontable b%d) (clear b%d)" % (i, i) for i in range(count))
+        + b")\n(:goal (and " + b" ".join(b"(on b%d b%d)" % (i, i + 1) for i in range(count - 1)) + b")))",
+    )
+
+
+def transport(packages):
+    """Two cities of ten places, a truck in each, and an airplane between their airports, with action costs."""
+    places = [b"c%dp%d" % (c, p) for c in range(2) for p in range(10)]
+    roads = b" ".join(b"(in %s city%d)" % (place, i // 10) for i, place in enumerate(places))
+    lengths = b" ".join(
+        b"(road %s %s) (= (length %s %s) %d)" % (a, b, a, b, abs(i - j) + 1)
+        for i, a in enumerate(places) for j, b in enumerate(places) if i // 10 == j // 10 and i != j
+    )
+    named = b" ".join(b"pack%d" % i for i in range(packages))
+    return (
+        b"""(define (domain transport) (:requirements :typing :action-costs)
+(:types truck airplane - vehicle package vehicle - thing airport - place place city)
+(:predicates (at ?t - thing ?p - place) (inside ?k - package ?v - vehicle) (in ?p - place ?c - city) (road ?a ?b - place))
+(:functions (total-cost) - number (length ?a ?b - place) - number)
+(:action load :parameters (?k - package ?v - vehicle ?p - place) :precondition (and (at ?k ?p) (at ?v ?p))
+ :effect (and (not (at ?k ?p)) (inside ?k ?v) (increase (total-cost) 1)))
+(:action unload :parameters (?k - package ?v - vehicle ?p - place) :precondition (and (inside ?k ?v) (at ?v ?p))
+ :effect (and (at ?k ?p) (not (inside ?k ?v)) (increase (total-cost) 1)))
+(:action drive :parameters (?v - truck ?a ?b - place ?c - city) :precondition (and (at ?v ?a) (in ?a ?c) (in ?b ?c) (road ?a ?b))
+ :effect (and (not (at ?v ?a)) (at ?v ?b) (increase (total-cost) (length ?a ?b))))
+(:action fly :parameters (?v - airplane ?a ?b - airport) :precondition (and (at ?v ?a) (not (= ?a ?b)))
+ :effect (and (not (at ?v ?a)) (at ?v ?b) (increase (total-cost) 100))))""",
+        b"(define (problem p) (:domain transport) (:objects " + named + b" - package truck0 truck1 - truck plane - airplane city0 city1 - city "
+        + b" ".join(place for i, place in enumerate(places) if i % 10) + b" - place c0p0 c1p0 - airport)\n(:init (= (total-cost) 0) "
+        + roads + b" " + lengths + b" (at truck0 c0p0) (at truck1 c1p0) (at plane c0p0) "
+        + b" ".join(b"(at pack%d %s)" % (i, places[i % 20]) for i in range(packages)) + b")\n(:goal (and "
+        + b" ".join(b"(at pack%d %s)" % (i, places[(i + 10) % 20]) for i in range(packages)) + b")) (:metric minimize (total-cost)))",
+    )
+
+
+def lift(floors):
+    """A lift whose stop serves all who wait or ride there: quantified and conditional effects, and a derived predicate."""
+    people = floors // 2
+    named = b" ".join(b"f%d" % i for i in range(floors))
+    riders = b" ".join(b"r%d" % i for i in range(people))
+    return (
+        b"""(define (domain lift) (:requirements :adl :derived-predicates) (:types floor person)
+(:predicates (origin ?p - person ?f - floor) (destination ?p - person ?f - floor) (above ?a ?b - floor) (boarded ?p - person)
+ (served ?p - person) (lift-at ?f - floor) (empty))
+(:derived (empty) (forall (?p - person) (not (boarded ?p))))
+(:action stop :parameters (?f - floor) :precondition (lift-at ?f)
+ :effect (and (forall (?p - person) (when (and (boarded ?p) (destination ?p ?f)) (and (not (boarded ?p)) (served ?p))))
+  (forall (?p - person) (when (and (origin ?p ?f) (not (served ?p))) (boarded ?p)))))
+(:action up :parameters (?a ?b - floor) :precondition (and (lift-at ?a) (above ?a ?b)) :effect (and (lift-at ?b) (not (lift-at ?a))))
+(:action down :parameters (?a ?b - floor) :precondition (and (lift-at ?a) (above ?b ?a)) :effect (and (lift-at ?b) (not (lift-at ?a)))))""",
+        b"(define (problem p) (:domain lift) (:objects " + named + b" - floor " + riders + b" - person)\n(:init (lift-at f0) "
+        + b" ".join(b"(above f%d f%d)" % (a, b) for a in range(floors) for b in range(a + 1, floors))
+        + b" " + b" ".join(b"(origin r%d f%d) (destination r%d f%d)" % (i, i, i, floors - 1 - i) for i in range(people))
+        + b")\n(:goal (and (empty) (forall (?p - person) (served ?p)))))",
+    )
+
+
+def ring(nodes):
+    """A ring, on which one hops over a node."""
+    return (
+        b"""(define (domain ring) (:predicates (next ?x ?y) (at ?x))
+(:action hop :parameters (?x ?y ?z) :precondition (and (at ?x) (next ?x ?y) (next ?y ?z)) :effect (and (not (at ?x)) (at ?z))))""",
+        b"(define (problem p) (:domain ring) (:objects " + b" ".join(b"n%d" % i for i in range(nodes)) + b") (:init (at n0) "
+        + b" ".join(b"(next n%d n%d)" % (i, (i + 1) % nodes) for i in range(nodes)) + b") (:goal (at n2)))",
+    )
+
+
+def walled_grid(squares):
+    """Stones are pushed over a square grid, of whose squares every seventh is a wall, to the rim that is opposite."""
+    side = round(squares ** 0.5)
+    free = [(x, y) for x in range(side) for y in range(side) if (x + 3 * y) % 7 or x in (0, side - 1)]
+    places = set(free)
+    name = lambda x, y: b"s%d-%d" % (x, y)
+    steps = ((b"left", -1, 0), (b"right", 1, 0), (b"up", 0, -1), (b"down", 0, 1))
+    links = lines(
+        b"(next %s %s %s)" % (name(x, y), name(x + dx, y + dy), way)
+        for x, y in free for way, dx, dy in steps if (x + dx, y + dy) in places
+    )
+    stones = [(1, y) for y in range(1, side - 1) if (1, y) in places][: max(1, side // 4)]
+    taken = set(stones) | {(0, 0)}
+    return (
+        b"""(define (domain walled-grid) (:requirements :typing) (:types square stone way)
+(:predicates (next ?a ?b - square ?w - way) (player-at ?a - square) (stone-at ?s - stone ?a - square) (clear ?a - square))
+(:action walk :parameters (?a ?b - square ?w - way) :precondition (and (player-at ?a) (clear ?b) (next ?a ?b ?w))
+ :effect (and (not (player-at ?a)) (not (clear ?b)) (player-at ?b) (clear ?a)))
+(:action push :parameters (?s - stone ?a ?b ?c - square ?w - way)
+ :precondition (and (player-at ?a) (stone-at ?s ?b) (clear ?c) (next ?a ?b ?w) (next ?b ?c ?w))
+ :effect (and (not (player-at ?a)) (not (stone-at ?s ?b)) (not (clear ?c)) (player-at ?b) (stone-at ?s ?c) (clear ?a))))""",
+        b"(define (problem p) (:domain walled-grid) (:objects " + b" ".join(name(x, y) for x, y in free) + b" - square "
+        + b" ".join(b"stone%d" % i for i in range(len(stones))) + b" - stone left right up down - way)\n(:init (player-at s0-0) "
+        + links + b" " + b" ".join(b"(stone-at stone%d %s)" % (i, name(x, y)) for i, (x, y) in enumerate(stones))
+        + b" " + b" ".join(b"(clear %s)" % name(x, y) for x, y in free if (x, y) not in taken) + b")\n(:goal (and "
+        + b" ".join(b"(stone-at stone%d %s)" % (i, name(side - 1, y)) for i, (_, y) in enumerate(stones)) + b")))",
+    )
