@@ -1,2 +1,1 @@
-mod RowSteps
 mod Searching

@@ -1,5 +1,4 @@
 -- what the public contract says
 pub mod Reached
 -- words of private contracts
-pub mod Rows
 pub mod Search

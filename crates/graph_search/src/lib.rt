@@ -1,7 +1,6 @@
 //! The numbers that the arcs of a graph lead to from some of them. The nodes of the graph are numbers.
 #![tactic(auto)]
 
-mod rows;
 mod search;
 
 pub use search::{Arc, reached};

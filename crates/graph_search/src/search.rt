@@ -2,11 +2,11 @@
 
 ghost use Rattle.std.specs.Prelude.{◌≡◌, ℕ, ◌<◌, false, [], fold, replicate, slice_get, IfOk, OnOk};
 ghost use Rattle.graph_search.specs.Reached.{AreReached};
-ghost use Rattle.graph_search.specs.Rows.{row_of};
+ghost use Rattle.lists.specs.Rows.{row_of};
 ghost use Rattle.graph_search.specs.Search.{with_number, leads_to};
 ghost use Rattle.graph_search.specs.Search as words;
 
-use crate::rows::Rows;
+use lists::Rows;
 use std::alloc::{AllocError, Global};
 use std::marker::Model;
 

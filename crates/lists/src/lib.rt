@@ -3,9 +3,11 @@
 #![tactic(auto)]
 
 mod list;
+mod rows;
 mod text;
 
 pub use list::List;
+pub use rows::Rows;
 pub use sqlite_items::Boxed;
 pub use text::Text;
 

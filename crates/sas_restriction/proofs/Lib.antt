@@ -4,7 +4,6 @@ mod Places
 mod Rising
 mod Shape
 mod Completed
-mod Steps
 mod Assembled
 -- what a pass owes and gets, which crates above cite
 pub mod Exact
@@ -14,6 +13,7 @@ pub mod Shown
 pub mod Valid
 pub mod Closed
 pub mod Stands
+pub mod Steps
 pub mod Arranged
 pub mod Told
 pub mod AllValues

@@ -1,5 +1,5 @@
 -- The values that a variable's moves lead to from the initial one are its kept values.
-use Rattle.std.proofs.Common.{◌≡◌, ℕ, ◌+◌, ◌<◌, ◌≤◌, Bool, true, false, not, cond, ◌&&◌, ◌||◌, eqb, List, [], ◌∷◌, ◌++◌, length, get_or, Option, Some, None, ◌⊎◌, refl, sym, ap, ◌∙◌, subst, inl, inr, arith}
+use Rattle.std.proofs.Common.{◌≡◌, ℕ, ◌+◌, ◌<◌, ◌≤◌, Bool, true, false, not, cond, ◌&&◌, ◌||◌, eqb, List, [], ◌∷◌, ◌++◌, length, map, get_or, Option, Some, None, ◌⊎◌, refl, sym, ap, ◌∙◌, subst, inl, inr, arith}
 use Rattle.std.specs.Prelude.{IsSomeAnd}
 use Rattle.std.specs.List.{Contains, find, flat_map, slice_get}
 use Rattle.std.specs.List.Sorted.{IsStrictlyIncreasing}
@@ -18,14 +18,23 @@ use Rattle.sas_task.specs.declared.parts.Rule.{Rule}
 use Rattle.sas_task.specs.Task.{Task}
 use Rattle.sas_task.specs.Valid.{IsValid, IsValue}
 use Rattle.sas_task.specs.Output.{value_in}
-use Rattle.lists.proofs.Members.{no_member, member_first, member_single, all_pass, each_passes, find_found, find_nothing, flat_map_member, member_flat_map, all_from_members}
+use Rattle.lists.proofs.Members.{no_member, member_first, member_single, all_pass, each_passes, find_found, find_nothing, member_map, map_member, flat_map_member, member_flat_map, all_from_members}
 use Rattle.sas_task.proofs.ValidParts.{effect_law, rule_law}
 use Rattle.sas_restriction.specs.Closed.{Leaves}
+use Rattle.graph_search.specs.declared.search.Arc.{Arc}
+use Rattle.graph_search.specs.Reached.{IsReached, First, Next, AreReached}
 use Rattle.task_simplifier.specs.declared.moves.Move.{Move}
 use Rattle.task_simplifier.specs.Kept.{IsKept, Initial, ByEffect, ByRule, AreKept}
 use Rattle.task_simplifier.specs.Projection.{values_in}
-use Rattle.task_simplifier.specs.Moves.{leave, named, agree, move_to, moves_on, moves_of_effect, moves_of_operator, moves_of_rule, moves_of}
-use Rattle.task_simplifier.specs.Reached.{source, IsReached, First, Next, AreReached}
+use Rattle.task_simplifier.specs.Moves.{leave, named, agree, move_to, moves_on, moves_of_effect, moves_of_operator, moves_of_rule, moves_of, arc}
+
+-- the value from which a move leads
+abbrev source : ℕ → Move → ℕ
+source start move = (arc start move).from
+
+-- what chains of moves lead to from the first value
+abbrev Leads : ℕ → List Move → ℕ → Type 0
+Leads start moves = IsReached (start ∷ []) (map (arc start) moves)
 
 -- ---- what conditions leave
 
@@ -138,14 +147,14 @@ module _ (var to : ℕ) (first second : List Pair) where
       (subst (λ b. Contains (option_to_list (cond b (Some step) None)) step) (sym agrees) (member_first step []))
 
   leads_on : (other start val : ℕ) → var ≡ other → Leaves first var val → Leaves second var val → (moves : List Move) → ((move : Move) → Contains (moves_on other var to first second) move → Contains moves move) →
-      IsReached start moves val → IsReached start moves to
+      Leads start moves val → Leads start moves to
   leads_on other start val on one two moves inside reached =
       let left = is_left val one two in
-      Next step (from left.1) (inside step (there other on left.0))
+      Next (arc start step) (from left.1) (member_map (arc start) moves step (inside step (there other on left.0)))
     where
-      from : (named var first second ≡ Some val) ⊎ (named var first second ≡ None) → IsReached start moves (source start step)
-      from (inl is) = subst (λ o. IsReached start moves (unwrap_or o start)) (sym is) reached
-      from (inr none) = subst (λ o. IsReached start moves (unwrap_or o start)) (sym none) First
+      from : (named var first second ≡ Some val) ⊎ (named var first second ≡ None) → Leads start moves (source start step)
+      from (inl is) = subst (λ o. Leads start moves (unwrap_or o start)) (sym is) reached
+      from (inr none) = subst (λ o. Leads start moves (unwrap_or o start)) (sym none) (First start (member_first start []))
 
 -- ---- the moves of a variable of a task
 
@@ -183,27 +192,29 @@ module _ (task : Task) (var : ℕ) where
       Contains-append_right (flat_map (moves_of_operator var) task.operators) (flat_map (moves_of_rule var) task.rules) move
       (member_flat_map (moves_of_rule var) task.rules r move in-r in')
 
-  reached_kept : (val : ℕ) → IsReached start moves val → IsKept task var val
-  reached_kept val First = Initial
-  reached_kept val (Next move from in') = by_maker (maker move in') (reached_kept (source start move) from)
+  reached_kept : (val : ℕ) → Leads start moves val → IsKept task var val
+  reached_kept val (First from in') = subst (IsKept task var) (member_single start val in') Initial
+  reached_kept val (Next a from in') =
+      let move = map_member (arc start) moves a in' in
+      subst (λ (b : Arc). IsKept task var b.from → IsKept task var b.to) move.2 (by_maker move.0 (maker move.0 move.1)) (reached_kept a.from from)
     where
-      by_maker : Maker move → IsKept task var (source start move) → IsKept task var move.to
-      by_maker (Effecting o in-o e in-e is) kept =
+      by_maker : (move : Move) → Maker move → IsKept task var (source start move) → IsKept task var move.to
+      by_maker move (Effecting o in-o e in-e is) kept =
           ByEffect (source start move) move.to kept
           (record { operator = o; effect = e; of_task = in-o; of_operator = in-e; on = is.on; to = is.target; leaves = subst (λ v. Leaves o.conditions v (source start move)) is.on is.one; leaves_too = subst (λ v. Leaves e.conditions v (source start move)) is.on is.two })
-      by_maker (Ruling r in-r is) kept =
+      by_maker move (Ruling r in-r is) kept =
           ByRule (source start move) move.to kept
           (record { rule = r; of_task = in-r; on = is.on; to = is.target; leaves = subst (λ v. Leaves r.conditions v (source start move)) is.on is.one })
 
-  kept_reached : (val : ℕ) → IsKept task var val → IsReached start moves val
-  kept_reached val Initial = First
+  kept_reached : (val : ℕ) → IsKept task var val → Leads start moves val
+  kept_reached val Initial = First start (member_first start [])
   kept_reached val (ByEffect from next kept move) =
-      subst (IsReached start moves) move.to
+      subst (Leads start moves) move.to
       (leads_on move.effect.var move.effect.after move.operator.conditions move.effect.conditions var start from move.on
       (subst (λ v. Leaves move.operator.conditions v from) (sym move.on) move.leaves) (subst (λ v. Leaves move.effect.conditions v from) (sym move.on) move.leaves_too)
       moves (effect_inside move.operator move.of_task move.effect move.of_operator) (kept_reached from kept))
   kept_reached val (ByRule from next kept move) =
-      subst (IsReached start moves) move.to
+      subst (Leads start moves) move.to
       (leads_on move.rule.var move.rule.after move.rule.conditions [] var start from move.on
       (subst (λ v. Leaves move.rule.conditions v from) (sym move.on) move.leaves) (λ p in'. absurd (no_member p in'))
       moves (rule_inside move.rule move.of_task) (kept_reached from kept))
@@ -226,21 +237,25 @@ module _ (task : Task) (var : ℕ) where
     pub only : (val : ℕ) → Contains list val → IsKept task var val
     pub each : (val : ℕ) → IsKept task var val → Contains list val
 
-  pub lists : IsValid task → var < length task.variables → (list : List ℕ) → AreReached value_count start moves list → Lists list
+  pub lists : IsValid task → var < length task.variables → (list : List ℕ) → AreReached value_count (start ∷ []) (map (arc start) moves) list → Lists list
   lists valid below list reached =
       record {
         sorted = reached.sorted;
         only = λ val in'. reached_kept val (reached.only val in');
-        each = λ val kept. reached.each (value_below start (valid.state var below)) (all_from_members (λ (m : Move). m.to < value_count) moves targets) val (kept_reached val kept);
+        each = λ val kept.
+            reached.each (all_from_members (λ first. first < value_count) (start ∷ []) starts) (all_from_members (λ (a : Arc). a.to < value_count) (map (arc start) moves) targets) val (kept_reached val kept);
       }
     where
-      targets : (move : Move) → Contains moves move → move.to < value_count
-      targets move in' = by_maker (maker move in')
+      starts : (first : ℕ) → Contains (start ∷ []) first → first < value_count
+      starts first in' = subst (λ v. v < value_count) (member_single start first in') (value_below start (valid.state var below))
+
+      targets : (a : Arc) → Contains (map (arc start) moves) a → a.to < value_count
+      targets a in' = let move = map_member (arc start) moves a in' in subst (λ (b : Arc). b.to < value_count) move.2 (by_maker move.0 (maker move.0 move.1))
         where
-          by_maker : Maker move → move.to < value_count
-          by_maker (Effecting o in-o e in-e is) =
+          by_maker : (move : Move) → Maker move → move.to < value_count
+          by_maker move (Effecting o in-o e in-e is) =
               value_below move.to (subst (λ v. IsValue task v move.to) is.on (subst (IsValue task e.var) is.target (effect_law task valid o in-o e in-e).value))
-          by_maker (Ruling r in-r is) =
+          by_maker move (Ruling r in-r is) =
               value_below move.to (subst (λ v. IsValue task v move.to) is.on (subst (IsValue task r.var) is.target (rule_law task valid r in-r).value))
 
 -- the lists of the variables so far, with one more

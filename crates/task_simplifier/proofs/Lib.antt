@@ -1,5 +1,3 @@
-mod RowSteps
-mod Searching
 mod KeptMoves
 mod Projected
 mod OneProjection

@@ -1,13 +1,14 @@
 -- The moves of a variable, as effects and rules make them. Words of private contracts: no public clause cites them.
 use Rattle.std.specs.Prelude.{ℕ, Bool, true, ◌==◌, ◌&&◌, ◌||◌, not, List, [], ◌++◌, Option, Some, None, if◌then◌else◌}
 use Rattle.std.specs.List.{list_all, flat_map}
-use Rattle.std.specs.Option.{option_map_or, option_or, option_to_list}
+use Rattle.std.specs.Option.{option_map_or, option_or, option_to_list, unwrap_or}
 use Rattle.sas_task.specs.declared.parts.Pair.{Pair}
 use Rattle.sas_task.specs.declared.parts.Effect.{Effect}
 use Rattle.sas_task.specs.declared.parts.Operator.{Operator}
 use Rattle.sas_task.specs.declared.parts.Rule.{Rule}
 use Rattle.sas_task.specs.Task.{Task}
 use Rattle.sas_task.specs.Output.{value_in}
+use Rattle.graph_search.specs.declared.search.Arc.{Arc}
 use Rattle.task_simplifier.specs.declared.moves.Move.{Move}
 
 -- whether the conditions leave this value for the variable
@@ -43,3 +44,7 @@ moves_of_rule var rule = moves_on var rule.var rule.after rule.conditions []
 -- all moves of a variable
 abbrev pub moves_of : Task → ℕ → List Move
 moves_of task var = flat_map (moves_of_operator var) task.operators ++ flat_map (moves_of_rule var) task.rules
+
+-- a move as an arc between values: one that leads from each value leads from the first one, which is reached in any case
+abbrev pub arc : ℕ → Move → Arc
+arc start move = record { from = unwrap_or move.from start; to = move.to }

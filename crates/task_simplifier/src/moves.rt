@@ -3,11 +3,11 @@
 ghost use Rattle.std.specs.Prelude.{◌≡◌, ℕ, ◌<◌, length, IfOk, OnOk};
 ghost use Rattle.std.specs.List.{flat_map};
 ghost use Rattle.sas_task.specs.Output.{value_in};
-ghost use Rattle.task_simplifier.specs.Rows.{row_of, Adds};
+ghost use Rattle.lists.specs.Rows.{row_of, Adds};
 ghost use Rattle.task_simplifier.specs.Moves.{move_to, moves_on, moves_of_effect, moves_of_operator, moves_of_rule, moves_of};
 ghost use Rattle.task_simplifier.specs.Moves as words;
 
-use crate::rows::Rows;
+use lists::Rows;
 use sas_task::{Effect, Operator, Pair, Rule, SasTask};
 use std::alloc::{AllocError, Global};
 

@@ -1,7 +1,7 @@
 use Rattle.std.proofs.Common.{[], replicate, sym, subst}
-use Rattle.graph_search.specs.Rows.{Adds}
+use Rattle.lists.specs.Rows.{Adds}
 use Rattle.graph_search.specs.Search.{leads_to}
-use Rattle.graph_search.proofs.RowSteps.{nothing, all, added_to_none}
+use Rattle.lists.proofs.RowSteps.{nothing, all, added_to_none}
 use Rattle.graph_search.proofs.Searching.{targets}
 use Rattle.graph_search.proofs.search.by_source.Goals as goal
 

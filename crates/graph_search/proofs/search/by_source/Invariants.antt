@@ -1,5 +1,5 @@
 use Rattle.std.proofs.Common.{[], replicate, take}
-use Rattle.graph_search.specs.Rows.{Adds}
+use Rattle.lists.specs.Rows.{Adds}
 use Rattle.graph_search.specs.Search.{leads_to}
 use Rattle.graph_search.proofs.search.by_source.Given as goal
 

@@ -1,6 +1,6 @@
 use Rattle.std.proofs.Common.{List, subst}
 use Rattle.sas_task.specs.declared.parts.Pair.{Pair}
-use Rattle.task_simplifier.specs.Rows.{Adds}
+use Rattle.lists.specs.Rows.{Adds}
 use Rattle.task_simplifier.specs.Moves.{moves_on}
 use Rattle.task_simplifier.proofs.moves.add_effect.Goals as goal
 

@@ -1,6 +1,6 @@
 use Rattle.std.proofs.Common.{◌≡◌, ◌<◌, ◌≤◌, length, get_or, ap, ◌∙◌, arith}
 use Rattle.task_simplifier.specs.Moves.{moves_of_effect}
-use Rattle.task_simplifier.proofs.RowSteps.{nothing, next, all}
+use Rattle.lists.proofs.RowSteps.{nothing, next, all}
 use Rattle.task_simplifier.proofs.moves.add_operator.Goals as goal
 
 pub loop-effect-init : goal.loop-effect-init

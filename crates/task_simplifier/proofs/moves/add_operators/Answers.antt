@@ -1,5 +1,5 @@
 use Rattle.task_simplifier.specs.Moves.{moves_of_operator}
-use Rattle.task_simplifier.proofs.RowSteps.{nothing, next, all}
+use Rattle.lists.proofs.RowSteps.{nothing, next, all}
 use Rattle.task_simplifier.proofs.moves.add_operators.Goals as goal
 
 pub loop-operator-init : goal.loop-operator-init

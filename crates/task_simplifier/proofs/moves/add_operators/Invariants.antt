@@ -1,6 +1,6 @@
 use Rattle.std.proofs.Common.{take}
 use Rattle.std.specs.List.{flat_map}
-use Rattle.task_simplifier.specs.Rows.{Adds}
+use Rattle.lists.specs.Rows.{Adds}
 use Rattle.task_simplifier.specs.Moves.{moves_of_operator}
 use Rattle.task_simplifier.proofs.moves.add_operators.Given as goal
 

@@ -1,8 +1,8 @@
 use Rattle.std.proofs.Common.{List, [], subst}
 use Rattle.sas_task.specs.declared.parts.Pair.{Pair}
-use Rattle.task_simplifier.specs.Rows.{Adds}
+use Rattle.lists.specs.Rows.{Adds}
 use Rattle.task_simplifier.specs.Moves.{moves_on, moves_of_rule}
-use Rattle.task_simplifier.proofs.RowSteps.{nothing, next, all}
+use Rattle.lists.proofs.RowSteps.{nothing, next, all}
 use Rattle.task_simplifier.proofs.moves.add_rules.Goals as goal
 
 pub loop-rule-init : goal.loop-rule-init

@@ -3,9 +3,9 @@ use Rattle.std.proofs.Common.{List, [], ◌++◌, length, replicate, ap, ◌∙�
 use Rattle.std.specs.List.{flat_map}
 use Rattle.sas_task.specs.declared.parts.Operator.{Operator}
 use Rattle.sas_task.specs.declared.parts.Rule.{Rule}
-use Rattle.task_simplifier.specs.Rows.{Adds}
+use Rattle.lists.specs.Rows.{Adds}
 use Rattle.task_simplifier.specs.Moves.{moves_of_operator, moves_of_rule}
-use Rattle.task_simplifier.proofs.RowSteps.{both, added_to_none}
+use Rattle.lists.proofs.RowSteps.{both, added_to_none}
 use Rattle.task_simplifier.proofs.moves.moves_by_variable.Goals as goal
 
 pub returns : goal.returns

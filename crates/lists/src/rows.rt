@@ -1,14 +1,14 @@
 // Lists by number, which grow at their ends.
 
 ghost use Rattle.std.specs.Prelude.{◌≡◌, ◌==◌, [], ◌∷◌, replicate, IfOk, OnOk, if◌then◌else◌};
-ghost use Rattle.task_simplifier.specs.Rows.{row_of, Adds};
+ghost use Rattle.lists.specs.Rows.{row_of, Adds};
 
 use std::alloc::{AllocError, Global};
 use std::marker::Model;
 
 /// A list of items for each number below a count.
 #[derive(Drop)]
-pub(crate) struct Rows<T> {
+pub struct Rows<T> {
     rows: Vec<Vec<T>>,
 }
 
@@ -25,7 +25,7 @@ impl<T> Model for Rows<T> {
 
 impl<T: Drop> Rows<T> {
     /// Empty lists for the numbers below the count.
-    pub(crate) fn new(alloc: Global, count: u64) -> Result<Rows<T>, AllocError>
+    pub fn new(alloc: Global, count: u64) -> Result<Rows<T>, AllocError>
         ensures { IfOk result (λ rows. rows ≡ replicate count []) }
     {
         let mut rows = Vec::new(alloc);
@@ -36,7 +36,7 @@ impl<T: Drop> Rows<T> {
     }
 
     /// Adds the item to the number's list, if there is one.
-    pub(crate) fn push(&mut self, number: u64, item: T) -> Result<(), AllocError>
+    pub fn push(&mut self, number: u64, item: T) -> Result<(), AllocError>
         ensures { OnOk result (Adds (λ other. if number == other then item ∷ [] else []) self.old self.new) }
     {
         let place = number as usize;
@@ -47,7 +47,7 @@ impl<T: Drop> Rows<T> {
     }
 
     /// The number's list.
-    pub(crate) fn row(&self, number: u64) -> &[T]
+    pub fn row(&self, number: u64) -> &[T]
         ensures { result.now ≡ row_of self.now number }
     {
         match self.rows.as_slice().get(number as usize) {

@@ -1,7 +1,7 @@
 -- The row of the number is longer.
 use Rattle.std.proofs.Common.{◌<◌, length, subst, ◌∙◌}
-use Rattle.task_simplifier.proofs.RowSteps.{pushed_at}
-use Rattle.task_simplifier.proofs.rows.Rows.push.Goals as goal
+use Rattle.lists.proofs.RowSteps.{pushed_at}
+use Rattle.lists.proofs.rows.Rows.push.Goals as goal
 
 pub returns-in_ok-push : goal.returns-in_ok-push
 returns-in_ok-push g c =

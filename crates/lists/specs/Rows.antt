@@ -1,4 +1,4 @@
--- Lists by number, which grow at their ends. Words of private contracts: no public clause cites them.
+-- Lists by number, which grow at their ends.
 use Rattle.std.specs.Prelude.{◌≡◌, ℕ, ◌<◌, List, [], ◌++◌, length, slice_index_or}
 
 -- the list of a number

@@ -4,7 +4,7 @@ use Rattle.std.specs.List.{flat_map}
 use Rattle.std.proofs.lemmas.Bool.{cases_eq, eq-eqb, ne_eqb}
 use Rattle.std.proofs.lemmas.List.{length-map, map-set, get_or-map, length-set, get_or-set_same, get_or-set_other, take_all, length-replicate, get_or-replicate}
 use Rattle.lists.proofs.LoopSteps.{flat_map_turn}
-use Rattle.task_simplifier.specs.Rows.{row_of, Adds}
+use Rattle.lists.specs.Rows.{row_of, Adds}
 
 module _ {X : Type 0} where
   -- what one item adds to each row
