@@ -5,4 +5,6 @@ pub enum PassKind {
     Order,
     /// What can't influence the goal is left out.
     Relevance,
+    /// What no pair of facts allows is left out.
+    H2,
 }

@@ -1,0 +1,8 @@
+mod Bits
+mod Ranges
+mod Numbers
+mod Rows
+mod Adding
+mod Searching
+mod Turns
+mod Left

@@ -1,0 +1,177 @@
+// The task with its possible operators and values alone.
+
+ghost use Rattle.std.specs.Prelude.{◌≡◌, ◌==◌, ◌&&◌, ◌||◌, ◌<◌, true, length, map, filter, is_none, IfOk};
+ghost use Rattle.std.specs.List.{list_all, list_any, range_with_len};
+ghost use Rattle.sas_task.specs.Valid.{IsValid};
+ghost use Rattle.sas_restriction.specs.Everything.{all_values};
+ghost use Rattle.pass_possible.specs.Possible as possible;
+ghost use Rattle.pass_possible.specs.Pruned.{HasPossibleAlone, IsPruned};
+ghost use Rattle.pass_possible.specs.Pruned as pruned;
+ghost use Rattle.pass_h2.specs.Search.{found};
+
+use crate::search::{is_possible, possible_pairs};
+use crate::table::Table;
+use lists::List;
+use sas_restriction::{Chosen, Once, restrict};
+use sas_task::{Operator, Pair, SasTask};
+use std::alloc::{AllocError, Global};
+
+/// Every task is valid. This does nothing: its clause says so.
+fn is_valid(task: &SasTask)
+    ensures { IsValid task.now }
+{
+    task.metric();
+}
+
+/// Whether no effect of the operator has a condition.
+fn is_unconditional(operator: &Operator) -> bool
+    ensures { result ≡ list_all (λ e. length e.conditions == 0) operator.now.effects }
+{
+    let mut effects = operator.effects.as_slice().iter();
+    effects.all(|effect| effect.conditions.as_slice().is_empty())
+}
+
+/// Whether no variable is derived.
+fn has_no_layer(task: &SasTask) -> bool
+    ensures { result ≡ list_all (λ v. is_none v.layer) task.now.variables }
+{
+    for var in 0..task.variables() {
+        if task.variable(var).layer.is_some() {
+            return false;
+        }
+    }
+    true
+}
+
+/// Whether no effect of an operator has a condition.
+fn has_no_condition(task: &SasTask) -> bool
+    ensures { result ≡ list_all (λ o. list_all (λ e. length e.conditions == 0) o.effects) task.now.operators }
+{
+    task.operator_slice()
+        .iter()
+        .all(|operator| is_unconditional(operator))
+}
+
+/// Whether no variable is derived, there is no rule, and no effect has a condition.
+fn is_plain(task: &SasTask) -> bool
+    ensures { result ≡ possible.is_plain task.now }
+{
+    has_no_layer(task) && task.rule_slice().is_empty() && has_no_condition(task)
+}
+
+/// Whether the value is in the goal.
+fn is_in_goal(goal: &[Pair], var: u64, val: u64) -> bool
+    ensures { result ≡ list_any (λ p. (p.var == var) && (p.val == val)) goal.now }
+{
+    goal.iter().any(|pair| pair.var == var && pair.val == val)
+}
+
+/// Whether the value is possible or in the goal.
+fn is_wanted(table: &Table, goal: &[Pair], var: u64, val: u64) -> bool
+    ensures { result ≡ (found table.now (record { var = var; val = val }) (record { var = var; val = val }) || list_any (λ p. (p.var == var) && (p.val == val)) goal.now) }
+{
+    let fact = Pair { var, val };
+    table.has(&fact, &fact) || is_in_goal(goal, var, val)
+}
+
+/// The values of the variable, which has this many, that are possible or in the goal.
+fn wanted_below(
+    alloc: Global,
+    table: &Table,
+    goal: &[Pair],
+    var: u64,
+    count: u64,
+) -> Result<Vec<u64>, AllocError>
+    ensures { IfOk result (λ values. values.items ≡ filter (λ val. found table.now (record { var = var; val = val }) (record { var = var; val = val }) || list_any (λ p. (p.var == var) && (p.val == val)) goal.now) (range_with_len 0 count)) }
+{
+    (0..count)
+        .filter(|val| is_wanted(table, goal, var, *val))
+        .collect(alloc)
+}
+
+/// The values of the variable that are possible or in the goal.
+fn wanted(alloc: Global, table: &Table, task: &SasTask, var: u64) -> Result<List<u64>, AllocError>
+    requires { var < length task.now.variables }
+    ensures { IfOk result (λ values. values ≡ filter (pruned.is_wanted (found table.now) task.now var) (all_values task.now var)) }
+{
+    let count = task.variable(var).facts.as_slice().len() as u64;
+    let values = wanted_below(alloc, table, task.goal(), var, count)?;
+    Ok(List::from_vec(values))
+}
+
+/// The same of each variable.
+fn wanted_of_each(
+    alloc: Global,
+    table: &Table,
+    task: &SasTask,
+) -> Result<Vec<List<u64>>, AllocError>
+    ensures { IfOk result (λ values. values.items ≡ map (λ var. filter (pruned.is_wanted (found table.now) task.now var) (all_values task.now var)) (range_with_len 0 (length task.now.variables))) }
+{
+    let mut values = Vec::new(alloc);
+    for var in 0..task.variables() {
+        let list = wanted(alloc, table, task, var)?;
+        values.push(list)?;
+    }
+    Ok(values)
+}
+
+/// For each operator whether it is possible.
+fn possible_marks(
+    alloc: Global,
+    table: &Table,
+    operators: &[Operator],
+) -> Result<Vec<bool>, AllocError>
+    ensures { IfOk result (λ marks. marks.items ≡ map (possible.is_possible (found table.now)) operators.now) }
+{
+    operators
+        .iter()
+        .map(|operator| is_possible(table, operator))
+        .collect(alloc)
+}
+
+/// All variables, by their numbers.
+fn variables(alloc: Global, task: &SasTask) -> Result<Vec<u64>, AllocError>
+    ensures { IfOk result (λ vars. vars.items ≡ map (λ n. n) (range_with_len 0 (length task.now.variables))) }
+{
+    (0..task.variables()).map(|var| var).collect(alloc)
+}
+
+/// The task with its possible operators and values alone.
+fn with_possible_alone(alloc: Global, task: &SasTask) -> Result<SasTask, AllocError>
+    requires { possible.is_plain task.now ≡ true }
+    ensures { IfOk result (HasPossibleAlone task.now) }
+{
+    is_valid(task);
+    let table = possible_pairs(alloc, task)?;
+    let vars = variables(alloc, task)?;
+    let values = wanted_of_each(alloc, &table, task)?;
+    let shown = Chosen::new(alloc, vars, values, None)?;
+    let marks = possible_marks(alloc, &table, task.operator_slice())?;
+    let once = Once {
+        effects: false,
+        operators: false,
+        groups: true,
+        rules: false,
+    };
+    let new = restrict(alloc, once, &shown, marks.as_slice(), task)?;
+    Ok(new)
+}
+
+/// The task without what no pair of facts allows: operators that are never applicable, as far as pairs of facts show (h2,
+/// Haslum and Geffner 2000), and values that are neither possible nor in the goal, with the facts of groups on them.
+/// Groups that are left twice are left once, and all lists are in order again. A task with a derived variable, a rule or
+/// an effect with a condition stays as it is. `pass_possible::laws::pruning_keeps` says what this keeps.
+///
+/// The pairs are marked in a table of facts times facts. An operator is looked at again only where a pair that it needs
+/// was marked: each look takes as many steps as there are facts times its conditions and effects, and there are at most
+/// as many turns as pairs.
+pub fn prune(alloc: Global, task: &SasTask) -> Result<SasTask, AllocError>
+    ensures { IfOk result (IsPruned task.now) }
+{
+    if !is_plain(task) {
+        let copy = task.copy(alloc)?;
+        return Ok(copy);
+    }
+    let new = with_possible_alone(alloc, task)?;
+    Ok(new)
+}

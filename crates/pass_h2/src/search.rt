@@ -1,0 +1,199 @@
+// The possible pairs: the least set with those of the written state that is closed under operators.
+
+ghost use Rattle.std.specs.Prelude.{◌≡◌, ◌==◌, ◌&&◌, not, map, filter, fold, length, IfOk, OnOk};
+ghost use Rattle.std.specs.List.{list_all, list_any, range_with_len};
+ghost use Rattle.sas_task.specs.Valid.{IsValid};
+ghost use Rattle.pass_possible.specs.Possible.{ArePossible};
+ghost use Rattle.pass_possible.specs.Possible as possible;
+ghost use Rattle.pass_h2.specs.Search as words;
+
+use crate::facts::{facts_of, initial_facts};
+use crate::table::Table;
+use sas_task::{Effect, Operator, Pair, SasTask};
+use std::alloc::{AllocError, Global};
+
+/// Whether one of the effects gives the effect's variable another value.
+fn disagrees(effect: &Effect, effects: &[Effect]) -> bool
+    ensures { result ≡ list_any (λ b. (effect.now.var == b.var) && not (effect.now.after == b.after)) effects.now }
+{
+    effects.iter().any(|other| effect.var == other.var && effect.after != other.after)
+}
+
+/// Whether two effects give one variable two values.
+fn is_mixed(operator: &Operator) -> bool
+    ensures { result ≡ possible.is_mixed operator.now }
+{
+    let effects = operator.effects.as_slice();
+    effects.iter().any(|effect| disagrees(effect, effects))
+}
+
+/// Whether some effect of the operator is on the variable.
+fn names(operator: &Operator, var: u64) -> bool
+    ensures { result ≡ possible.names operator.now var }
+{
+    operator
+        .effects
+        .as_slice()
+        .iter()
+        .any(|effect| effect.var == var)
+}
+
+/// Whether the fact is marked with each of these.
+fn goes_with(table: &Table, fact: &Pair, pairs: &[Pair]) -> bool
+    ensures { result ≡ list_all (λ p. words.found table.now fact.now p) pairs.now }
+{
+    pairs.iter().all(|pair| table.has(fact, pair))
+}
+
+/// Whether all pairs of the facts are marked.
+fn all_marked(table: &Table, facts: &[Pair]) -> bool
+    ensures { result ≡ possible.all_pairs (words.found table.now) facts.now }
+{
+    facts.iter().all(|fact| goes_with(table, fact, facts))
+}
+
+/// Whether the operator isn't mixed and all pairs of its conditions are marked.
+pub(crate) fn is_possible(table: &Table, operator: &Operator) -> bool
+    ensures { result ≡ possible.is_possible (words.found table.now) operator.now }
+{
+    !is_mixed(operator) && all_marked(table, operator.conditions.as_slice())
+}
+
+/// Whether the fact is marked, is of a variable that no effect of the operator is on, and is marked with each condition.
+fn stays_beside(table: &Table, operator: &Operator, fact: &Pair) -> bool
+    ensures { result ≡ words.stays_beside table.now operator.now fact.now }
+{
+    table.has(fact, fact)
+        && !names(operator, fact.var)
+        && goes_with(table, fact, operator.conditions.as_slice())
+}
+
+/// The facts that may hold with the operator's conditions and that it leaves as they are.
+fn facts_beside(alloc: Global, table: &Table, operator: &Operator) -> Result<Vec<Pair>, AllocError>
+    ensures { IfOk result (λ facts. facts.items ≡ filter (words.stays_beside table.now operator.now) table.now.facts) }
+{
+    table
+        .facts()
+        .iter()
+        .copied()
+        .filter(|fact| stays_beside(table, operator, fact))
+        .collect(alloc)
+}
+
+/// Marks the pairs that a possible operator leads to.
+fn add_successors(alloc: Global, table: &mut Table, operator: &Operator) -> Result<(), AllocError>
+    ensures { OnOk result (table.new ≡ words.led_to table.old operator.now) }
+{
+    let facts = facts_of(alloc, operator.effects.as_slice())?;
+    let beside = facts_beside(alloc, table, operator)?;
+    table.add_all(facts.as_slice(), facts.as_slice());
+    table.add_all(facts.as_slice(), beside.as_slice());
+    Ok(())
+}
+
+/// Marks the pairs that the operator leads to, if it is possible.
+fn look(alloc: Global, table: &mut Table, operator: &Operator) -> Result<(), AllocError>
+    ensures { OnOk result (table.new ≡ words.looked table.old operator.now) }
+{
+    if is_possible(table, operator) {
+        add_successors(alloc, table, operator)?;
+    }
+    Ok(())
+}
+
+fn look_at(
+    alloc: Global,
+    table: &mut Table,
+    operators: &[Operator],
+    place: u64,
+) -> Result<(), AllocError>
+    ensures { OnOk result (table.new ≡ words.looked_at operators.now table.old place) }
+{
+    match operators.get(place as usize) {
+        Some(operator) => look(alloc, table, operator),
+        None => Ok(()),
+    }
+}
+
+/// Looks at the operators at these places, one after the other.
+fn look_at_all(
+    alloc: Global,
+    table: &mut Table,
+    operators: &[Operator],
+    queue: &[u64],
+) -> Result<(), AllocError>
+    ensures { OnOk result (table.new ≡ fold (words.looked_at operators.now) table.old queue.now) }
+{
+    for place in queue {
+        look_at(alloc, table, operators, *place)?;
+    }
+    Ok(())
+}
+
+fn wakes_at(table: &Table, operators: &[Operator], place: u64) -> bool
+    ensures { result ≡ words.is_woken_at operators.now table.now place }
+{
+    match operators.get(place as usize) {
+        Some(operator) => table.wakes(operator),
+        None => false,
+    }
+}
+
+/// The places of the operators that need a pair which was marked since the marks were settled.
+fn woken(alloc: Global, table: &Table, operators: &[Operator]) -> Result<Vec<u64>, AllocError>
+    ensures { IfOk result (λ queue. queue.items ≡ words.woken operators.now table.now) }
+{
+    let places = 0..operators.len() as u64;
+    places
+        .filter(|place| wakes_at(table, operators, *place))
+        .collect(alloc)
+}
+
+/// The pairs of facts of the written state.
+fn initial_pairs(alloc: Global, task: &SasTask) -> Result<Table, AllocError>
+    ensures { IfOk result (λ table. table ≡ words.initial_pairs task.now) }
+{
+    let mut table = Table::new(alloc, task)?;
+    let facts = initial_facts(alloc, task)?;
+    table.add_all(facts.as_slice(), facts.as_slice());
+    Ok(table)
+}
+
+/// Looks at the operators of the queue, and answers those that are to be looked at next.
+fn turn(
+    alloc: Global,
+    table: &mut Table,
+    operators: &[Operator],
+    queue: &[u64],
+) -> Result<Vec<u64>, AllocError>
+    ensures table { OnOk result (table.new ≡ words.turned operators.now table.old queue.now) }
+    ensures next { IfOk result (λ next. next.items ≡ words.woken operators.now table.new) }
+{
+    table.settle(alloc)?;
+    look_at_all(alloc, table, operators, queue)?;
+    woken(alloc, table, operators)
+}
+
+/// All places of operators.
+fn all_places(alloc: Global, operators: &[Operator]) -> Result<Vec<u64>, AllocError>
+    ensures { IfOk result (λ queue. queue.items ≡ map (λ n. n) (range_with_len 0 (length operators.now))) }
+{
+    (0..operators.len() as u64)
+        .map(|place| place)
+        .collect(alloc)
+}
+
+/// The possible pairs of facts. Beside the operators that are looked at first, an operator is looked at again only where
+/// a pair that it needs was marked in the turn before.
+pub(crate) fn possible_pairs(alloc: Global, task: &SasTask) -> Result<Table, AllocError>
+    requires { IsValid task.now }
+    ensures { IfOk result (λ table. ArePossible task.now (words.found table)) }
+{
+    let operators = task.operator_slice();
+    let mut table = initial_pairs(alloc, task)?;
+    let mut queue = all_places(alloc, operators)?;
+    while !queue.is_empty() {
+        queue = turn(alloc, &mut table, operators, queue.as_slice())?;
+    }
+    Ok(table)
+}
