@@ -1,7 +1,7 @@
 -- The definition computes at words that are written out.
 use Rattle.std.proofs.Common.{◌≡◌, true, false, [], ◌∷◌, Some, None, refl, codes}
 use Rattle.clap.proofs.OnLiterals.{clap_on_literals}
-use Rattle.command_line.specs.Accepted.{Files, Made, accepted}
+use Rattle.command_line.specs.Accepted.{Files, Made, WrittenTask, accepted}
 
 named : accepted (codes "translate" ∷ codes "d" ∷ codes "--sas-file=o" ∷ codes "p" ∷ []) ≡ Some record { source = Files (codes "d") (codes "p"); settings = record { max_candidates = 100000; full_encoding = false }; output = codes "o"; plan = None; passes = None }
 unfolding clap_on_literals accepted
@@ -39,6 +39,14 @@ no_ball_refused = refl
 balls_beside_a_name_refused : accepted (codes "translate" ∷ codes "--make" ∷ codes "4" ∷ codes "d" ∷ []) ≡ None
 unfolding clap_on_literals accepted
 balls_beside_a_name_refused = refl
+
+written : accepted (codes "translate" ∷ codes "--from-sas" ∷ codes "t" ∷ []) ≡ Some record { source = WrittenTask (codes "t"); settings = record { max_candidates = 100000; full_encoding = false }; output = codes "output.sas"; plan = None; passes = None }
+unfolding clap_on_literals accepted
+written = refl
+
+written_beside_balls_refused : accepted (codes "translate" ∷ codes "--from-sas=t" ∷ codes "--make=4" ∷ []) ≡ None
+unfolding clap_on_literals accepted
+written_beside_balls_refused = refl
 
 passed : accepted (codes "translate" ∷ codes "d" ∷ codes "p" ∷ codes "--pass=order," ∷ []) ≡ Some record { source = Files (codes "d") (codes "p"); settings = record { max_candidates = 100000; full_encoding = false }; output = codes "output.sas"; plan = None; passes = Some (codes "order,") }
 unfolding clap_on_literals accepted

@@ -12,10 +12,11 @@ use Rattle.command_line.specs.declared.accepted.Settings.{Settings}
 use Rattle.command_line.specs.declared.accepted.Source.{Source as GivenSource}
 use Rattle.command_line.specs.declared.accepted.Source.TheVariants as sources
 
--- where a task comes from: a domain file and a problem file of these names, or the made texts with so many balls
+-- where a task comes from: a domain file and a problem file of these names, the made texts with so many balls, or the file of this name, in which it is written
 pub data Source : Type 0 where
   Files : (domain problem : Text) → Source
   Made : (balls : ℕ) → Source
+  WrittenTask : (file : Text) → Source
 
 -- What accepted words ask for: where the task comes from, how it is made, the name of the output file, the name of a plan file that is to be mapped back, if there is one, and the list of passes as it is written, if there is one.
 pub record Asked : Type 0 where
@@ -28,6 +29,7 @@ pub record Asked : Type 0 where
 abbrev pub source_by : GivenSource → Source
 source_by (sources.Files domain problem) = Files domain.now problem.now
 source_by (sources.Made balls) = Made balls
+source_by (sources.WrittenTask file) = WrittenTask file.now
 
 abbrev pub asked_by : Accepted → Asked
 asked_by a = record { source = source_by a.source; settings = a.settings; output = a.output.now; plan = option_map (λ name. name.now) a.plan; passes = option_map (λ names. names.now) a.passes }
@@ -50,11 +52,12 @@ abbrev pub is_set : Option Text → Bool
 is_set None = false
 is_set (Some text) = bytes_eq text (codes "true")
 
--- both input files are named and no number of balls is given, or a number of balls is given and neither file is named
-abbrev pub source_of : Option Text → Option Text → Option Text → Option Source
-source_of (Some domain) (Some problem) None = Some (Files domain problem)
-source_of None None (Some balls) = option_map Made (number_within 1 200 balls)
-source_of domain problem balls = None
+-- both input files are named, or a number of balls is given, or the file of a written task is named, and nothing else of these
+abbrev pub source_of : Option Text → Option Text → Option Text → Option Text → Option Source
+source_of (Some domain) (Some problem) None None = Some (Files domain problem)
+source_of None None (Some balls) None = option_map Made (number_within 1 200 balls)
+source_of None None None (Some file) = Some (WrittenTask file)
+source_of domain problem balls file = None
 
 -- there is a source, and the number of candidates is one
 abbrev pub asked_with : Text → Option Text → Option Text → Bool → Option Source → Option ℕ → Option Asked
@@ -66,7 +69,7 @@ asked_with output plan passes full source candidates = None
 abbrev pub asked_of : List Row → Option Asked
 asked_of rows = asked_with (unwrap_or (first_of (codes "sas-file") rows) (codes "output.sas")) (first_of (codes "map-plan") rows) (first_of (codes "pass") rows)
     (is_set (first_of (codes "full-encoding") rows))
-    (source_of (first_of (codes "domain") rows) (first_of (codes "problem") rows) (first_of (codes "make") rows))
+    (source_of (first_of (codes "domain") rows) (first_of (codes "problem") rows) (first_of (codes "make") rows) (first_of (codes "from-sas") rows))
     (candidates_of (first_of (codes "invariant-generation-max-candidates") rows))
 
 -- nothing is wrong with the words

@@ -24,6 +24,7 @@ command = fold with_rule (new_app (codes "translate")) (
     ∷ option (codes "invariant-generation-max-candidates")
     ∷ option (codes "map-plan")
     ∷ option (codes "make")
+    ∷ option (codes "from-sas")
     ∷ option (codes "pass")
     ∷ flag (codes "keep-unimportant-variables")
     ∷ flag (codes "skip-variable-reordering")

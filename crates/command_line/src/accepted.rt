@@ -18,6 +18,8 @@ pub enum Source<'a> {
     Files { domain: &'a str, problem: &'a str },
     /// The made texts with this number of balls, 1 to 200.
     Made { balls: u32 },
+    /// The file of this name, in which the task is written.
+    WrittenTask { file: &'a str },
 }
 
 /// How a task is made.
@@ -66,6 +68,7 @@ fn asked<'a>(matches: &ArgMatches<'a>) -> Option<Accepted<'a>>
         matches.get_str("domain"),
         matches.get_str("problem"),
         matches.get_str("make"),
+        matches.get_str("from-sas"),
     )?;
     let max_candidates = match matches.get_str("invariant-generation-max-candidates") {
         Some(digits) => number_within(0, 2_147_483_647, digits)?,
@@ -93,19 +96,21 @@ fn is_set(value: Option<&str>) -> bool
     }
 }
 
-/// Where the task comes from, by the two names and the number of balls.
+/// Where the task comes from, by the names of a domain and a problem, the number of balls and the name of a written task.
 fn chosen_source<'a>(
     domain: Option<&'a str>,
     problem: Option<&'a str>,
     balls: Option<&'a str>,
+    file: Option<&'a str>,
 ) -> Option<Source<'a>>
-    ensures { option_map source_by result ≡ source_of (option_map (λ name. name.now) domain.entry) (option_map (λ name. name.now) problem.entry) (option_map (λ digits. digits.now) balls.entry) }
+    ensures { option_map source_by result ≡ source_of (option_map (λ name. name.now) domain.entry) (option_map (λ name. name.now) problem.entry) (option_map (λ digits. digits.now) balls.entry) (option_map (λ name. name.now) file.entry) }
 {
-    match (domain, problem, balls) {
-        (Some(domain), Some(problem), None) => Some(Source::Files { domain, problem }),
-        (None, None, Some(digits)) => Some(Source::Made {
+    match (domain, problem, balls, file) {
+        (Some(domain), Some(problem), None, None) => Some(Source::Files { domain, problem }),
+        (None, None, Some(digits), None) => Some(Source::Made {
             balls: number_within(1, 200, digits)?,
         }),
+        (None, None, None, Some(file)) => Some(Source::WrittenTask { file }),
         _ => None,
     }
 }

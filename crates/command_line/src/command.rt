@@ -18,6 +18,7 @@ pub(crate) fn command<'a>(alloc: Global) -> Result<Command<'a>, AllocError>
         .arg(option(alloc, "invariant-generation-max-candidates"))?
         .arg(option(alloc, "map-plan"))?
         .arg(option(alloc, "make"))?
+        .arg(option(alloc, "from-sas"))?
         .arg(option(alloc, "pass"))?
         .arg(flag(alloc, "keep-unimportant-variables"))?
         .arg(flag(alloc, "skip-variable-reordering"))?

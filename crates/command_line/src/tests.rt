@@ -4,7 +4,7 @@ use crate::{Accepted, Settings, Source, read_words};
 use std::alloc::{AllocError, Global};
 
 /// Lines that are refused.
-static REFUSED: [&str; 59] = [
+static REFUSED: [&str; 70] = [
     // No word at all.
     "",
     "translate",
@@ -77,6 +77,18 @@ static REFUSED: [&str; 59] = [
     "translate d p --full-encoding=",
     "translate d p --full-encoding --full-encoding",
     "translate d p --full",
+    // The file of a written task is named once, and nothing else that a task comes from is.
+    "translate --from-sas",
+    "translate --from-sas t --from-sas t",
+    "translate --from-sas -t",
+    "translate --from-sas t d",
+    "translate --from-sas t d p",
+    "translate d p --from-sas t",
+    "translate d --from-sas=t",
+    "translate --from-sas t --make 4",
+    "translate --make=4 --from-sas= d p",
+    "translate --from-sas t --invariant-generation-max-candidates +5",
+    "translate --from t",
 ];
 
 /// The fronts of two lines that a number ends.
@@ -189,6 +201,83 @@ static ACCEPTED_WHOLE: [(&str, Option<u32>); 4] = [
     ("translate --full-encoding d p", None),
     ("translate --full-encoding -- d p", None),
     ("translate --make 4 --full-encoding", Some(4)),
+];
+
+/// Lines with a written task that are accepted, with what they ask for but the source and whole groups: the task's file, the
+/// output, the plan file, the passes and the number of candidates.
+static ACCEPTED_TASKS: [(&str, &str, &str, Option<&str>, Option<&str>, u32); 9] = [
+    (
+        "translate --from-sas t",
+        "t",
+        "output.sas",
+        None,
+        None,
+        100_000,
+    ),
+    (
+        "translate --from-sas=t",
+        "t",
+        "output.sas",
+        None,
+        None,
+        100_000,
+    ),
+    (
+        "translate --from-sas -",
+        "-",
+        "output.sas",
+        None,
+        None,
+        100_000,
+    ),
+    (
+        "translate --from-sas=",
+        "",
+        "output.sas",
+        None,
+        None,
+        100_000,
+    ),
+    (
+        "translate --from-sas t --",
+        "t",
+        "output.sas",
+        None,
+        None,
+        100_000,
+    ),
+    (
+        "translate --sas-file t --from-sas t",
+        "t",
+        "t",
+        None,
+        None,
+        100_000,
+    ),
+    (
+        "translate --from-sas t --map-plan f",
+        "t",
+        "output.sas",
+        Some("f"),
+        None,
+        100_000,
+    ),
+    (
+        "translate --pass order --from-sas t",
+        "t",
+        "output.sas",
+        None,
+        Some("order"),
+        100_000,
+    ),
+    (
+        "translate --from-sas t --invariant-generation-max-candidates 7",
+        "t",
+        "output.sas",
+        None,
+        None,
+        7,
+    ),
 ];
 
 #[test]
@@ -326,6 +415,34 @@ fn accepts_whole_groups(rt: HostRuntime) -> Result<(), AllocError> {
         wanted.settings.full_encoding = true;
         assert!(rt; reads(rt.alloc(), line, Some(wanted))?, "{line}");
     }
+    Ok(())
+}
+
+#[test]
+fn accepts_written_tasks(rt: HostRuntime) -> Result<(), AllocError> {
+    for (line, file, output, plan, passes, max_candidates) in ACCEPTED_TASKS {
+        let wanted = Accepted {
+            source: Source::WrittenTask { file },
+            settings: Settings {
+                max_candidates,
+                full_encoding: false,
+            },
+            output,
+            plan,
+            passes,
+        };
+        assert!(rt; reads(rt.alloc(), line, Some(wanted))?, "{line}");
+    }
+    let mut whole = asked(None, None);
+    whole.source = Source::WrittenTask { file: "t" };
+    whole.settings.full_encoding = true;
+    assert!(rt;
+        reads(
+            rt.alloc(),
+            "translate --from-sas t --full-encoding",
+            Some(whole)
+        )?
+    );
     Ok(())
 }
 

@@ -1,7 +1,6 @@
 -- A run has one task, and comes to one thing.
-use Rattle.std.proofs.Common.{◌≡◌, ℕ, Bool, List, length, refl, ap, ap₂, ◌∙◌, subst}
+use Rattle.std.proofs.Common.{◌≡◌, ℕ, Bool, List, length, refl, sym, ap, ap₂, ◌∙◌, subst}
 use Rattle.lists.specs.SameMembers.{SameMembers}
-use Rattle.type_checker.specs.Checked.{Pair}
 use Rattle.normal_task.specs.declared.task.Normal.{Normal}
 use Rattle.normal_task.specs.Normalised.{normal}
 use Rattle.invariant_guess.specs.declared.types.Found.{Found}
@@ -23,12 +22,13 @@ use Rattle.sas_task.specs.Task.{Task}
 use Rattle.sas_task.specs.Alike.{AreAlike, RulesAgree}
 use Rattle.task_simplifier.specs.Projection.{IsProjection}
 use Rattle.tl_device.specs.Contents.{Contents}
+use Rattle.command_line.specs.declared.accepted.Settings.{Settings}
 use Rattle.pass_book.specs.declared.kind.PassKind.{PassKind}
 use Rattle.pass_book.specs.Passes.{IsChain}
 use Rattle.translator.specs.Asked.{Asked}
 use Rattle.translator.specs.Ending.{Gives, Absent, Refused, ◌>>=◌}
 use Rattle.translator.specs.Plan.{of_plan}
-use Rattle.translator.specs.RunTask.{IsRunEncoding, IsRunTask, IsTaskOf, output_of}
+use Rattle.translator.specs.RunTask.{IsRunEncoding, IsRunTask, Start, FromPair, FromTask, IsMadeFrom, output_of}
 use Rattle.translator.specs.Run.{no_file, faulty, made}
 use Rattle.translator.specs.OneRun.{OneRunTask, OneTaskOfPair, OneEnding}
 
@@ -72,25 +72,30 @@ module _ (one_run_task : OneRunTask) (one_found : (task : Normal) (max : ℕ) (f
       let first = one_run_task full task found' p.first q.first run q.is_run_task in
       (finds, one_chain passes q.first one other (subst (λ (t : Task). IsChain passes t one) first p.chain) q.chain)
 
+  -- one task is made from a start, and one thing found
+  one_of_start : (start : Start) (settings : Settings) (passes : List PassKind) (found found' : Found) (one other : Task) → IsMadeFrom start settings passes found one → IsMadeFrom start settings passes found' other → (found ≡ found') × (one ≡ other)
+  one_of_start (FromPair pair) settings passes found found' one other p q = one_task_of_pair pair settings settings passes found found' one other refl refl p q
+  one_of_start (FromTask written) settings passes found found' one other p q = (p.0 ∙ sym q.0, one_chain passes written one other p.1.chain q.1.chain)
+
   -- the plan file is mapped back to one task
-  one_written : (files : Contents) (asked : Asked) (pair pair' : Pair) (found found' : Found) (one other : Task) → pair ≡ pair' → IsTaskOf pair asked.settings asked.passes found one → IsTaskOf pair' asked.settings asked.passes found' other →
+  one_written : (files : Contents) (asked : Asked) (start start' : Start) (found found' : Found) (one other : Task) → start ≡ start' → IsMadeFrom start asked.settings asked.passes found one → IsMadeFrom start' asked.settings asked.passes found' other →
       (of_plan files asked.plan one >>= λ lines. Gives (output_of found one lines)) ≡ (of_plan files asked.plan other >>= λ lines. Gives (output_of found' other lines))
-  one_written files asked pair pair' found found' one other same p q =
-      let both = one_task_of_pair pair' asked.settings asked.settings asked.passes found found' one other refl refl (subst (λ (r : Pair). IsTaskOf r asked.settings asked.passes found one) same p) q in
+  one_written files asked start start' found found' one other same p q =
+      let both = one_of_start start' asked.settings asked.passes found found' one other (subst (λ (s : Start). IsMadeFrom s asked.settings asked.passes found one) same p) q in
       ap₂ (λ (f : Found) (t : Task). of_plan files asked.plan t >>= λ lines. Gives (output_of f t lines)) both.0 both.1
 
   pub one_ending : OneEnding
   one_ending files asked one other (no_file name is) (no_file name' is') = let same : name ≡ name' = cc (is, is') in ap Absent same
   one_ending files asked one other (no_file name is) (faulty name' message' is') = absurd (cc (is, is'))
-  one_ending files asked one other (no_file name is) (made pair' found' task' is' of') = absurd (cc (is, is'))
+  one_ending files asked one other (no_file name is) (made start' found' task' is' of') = absurd (cc (is, is'))
   one_ending files asked one other (faulty name message is) (no_file name' is') = absurd (cc (is, is'))
   one_ending files asked one other (faulty name message is) (faulty name' message' is') =
       let names : name ≡ name' = cc (is, is') in
       let messages : message ≡ message' = cc (is, is') in
       ap (λ n. Refused n message) names ∙ ap (Refused name') messages
-  one_ending files asked one other (faulty name message is) (made pair' found' task' is' of') = absurd (cc (is, is'))
-  one_ending files asked one other (made pair found task is of) (no_file name' is') = absurd (cc (is, is'))
-  one_ending files asked one other (made pair found task is of) (faulty name' message' is') = absurd (cc (is, is'))
-  one_ending files asked one other (made pair found task is of) (made pair' found' task' is' of') =
-      let same : pair ≡ pair' = cc (is, is') in
-      one_written files asked pair pair' found found' task task' same of of'
+  one_ending files asked one other (faulty name message is) (made start' found' task' is' of') = absurd (cc (is, is'))
+  one_ending files asked one other (made start found task is of) (no_file name' is') = absurd (cc (is, is'))
+  one_ending files asked one other (made start found task is of) (faulty name' message' is') = absurd (cc (is, is'))
+  one_ending files asked one other (made start found task is of) (made start' found' task' is' of') =
+      let same : start ≡ start' = cc (is, is') in
+      one_written files asked start start' found found' task task' same of of'

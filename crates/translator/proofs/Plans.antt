@@ -48,53 +48,14 @@ told_unless names name (map_ends.BadLine line ∷ more) lines in' = in'
 told_unless names name (map_ends.UnknownStep line ∷ more) lines in' = in'
 told_unless names name (map_ends.NoMemory ∷ more) lines in' = told_unless names name more lines in'
 
-plan_told : (names : List (List ℕ)) (task : Task) (plan : Text) → Contains names plan.name → IsToldOf names (mapped_lines task plan)
+pub plan_told : (names : List (List ℕ)) (task : Task) (plan : Text) → Contains names plan.name → IsToldOf names (mapped_lines task plan)
 plan_told names task plan = told_unless names plan.name (faults task.operators (plan_lines plan.bytes)) (plan_text task.metric (mapped task.operators (plan_lines plan.bytes)))
 
 -- ---- a file
 
-module _ (name : List ℕ) (task : Task) where
-  abbrev Comes : Contents → Ending (List ℕ) → Type 0
-  Comes held e = of_plan held (Some name) task ≡ e
-
-  begins : (held : Contents) → of_plan held (Some name) task ≡ (read held name >>= mapped_lines task)
-  unfolding of_plan
-  begins held = refl
-
-  -- the file is absent, or too long
-  pub stops_at_file : (before now : Store) (end : End) → StopsReading before now (name ∷ []) (name ∷ []) (λ held e. read held name ≡ e) end → StopsReading before now (name ∷ []) (name ∷ []) Comes end
-  stops_at_file before now =
-      stops_later before before now (name ∷ []) (name ∷ []) (name ∷ []) (name ∷ []) (λ held e. read held name ≡ e) Comes (same_store before) refl (λ other in'. in') (λ other in'. in')
-      (always _ before.files (λ held. first_leads (of_plan held (Some name) task) (read held name) (mapped_lines task) (begins held)))
-
-  module _ (before now : Store) (bytes bytes' : List ℕ) (same : bytes' ≡ bytes) (is : IsRead before now (λ held. read held name ≡ Gives (text name bytes))) where
-    comes_to_text : IsRead before now (λ held. of_plan held (Some name) task ≡ mapped_lines task (text name bytes'))
-    comes_to_text = (
-      is.0,
-      if_told (λ held. read held name ≡ Gives (text name bytes)) _ before.files
-          (λ held gives. goes_on (of_plan held (Some name) task) (read held name) (mapped_lines task) (begins held) (text name bytes') (gives ∙ ap (λ (b : List ℕ). Gives (text name b)) (sym same))) is.1,
-    )
-
-    text_stops : (end : End) → StopsWhere (mapped_lines task (text name bytes')) end → StopsReading before now (name ∷ []) (name ∷ []) Comes end
-    text_stops ends.NoMemory stops = is.0
-    text_stops (ends.Refused title message) stops =
-        record {
-          input = refused_of (name ∷ []) (mapped_lines task (text name bytes')) title.now message (plan_told (name ∷ []) task (text name bytes') (member_first name [])) stops;
-          reads = is.0;
-          told = if_told (λ held. of_plan held (Some name) task ≡ mapped_lines task (text name bytes')) _ before.files (λ held comes. comes ∙ stops) comes_to_text.1;
-        }
-    text_stops ends.Usage stops = absurd stops
-    text_stops (ends.CannotRead title) stops = absurd stops
-    text_stops (ends.CannotWrite title) stops = absurd stops
-
-    pub text_stops_so : {A : Type 0} (result : Result A End) → IfErr result (StopsWhere (mapped_lines task (text name bytes'))) → IfErr result (StopsReading before now (name ∷ []) (name ∷ []) Comes)
-    text_stops_so (Ok value) stops = tt
-    text_stops_so (Err end) stops = text_stops end stops
-
-    pub text_given_so : {A : Type 0} (bytes_of : A → List ℕ) (result : Result A End) → IfOk result (λ lines. mapped_lines task (text name bytes') ≡ Gives (bytes_of lines))
-        → IfOk result (λ lines. IsRead before now (λ held. of_plan held (Some name) task ≡ Gives (bytes_of lines)))
-    text_given_so bytes_of (Ok lines) gives = (is.0, if_told (λ held. of_plan held (Some name) task ≡ mapped_lines task (text name bytes')) _ before.files (λ held comes. comes ∙ gives) comes_to_text.1)
-    text_given_so bytes_of (Err end) gives = tt
+pub plan_begins : (name : List ℕ) (task : Task) (held : Contents) → of_plan held (Some name) task ≡ (read held name >>= mapped_lines task)
+unfolding of_plan
+plan_begins name task held = refl
 
 -- no plan file is named
 pub no_plan : (before : Store) (plan : Option (List ℕ)) (task : Task) (lines : List ℕ) → plan ≡ None → lines ≡ [] → IsRead before before (λ held. of_plan held plan task ≡ Gives lines)

@@ -11,7 +11,6 @@ use Rattle.tl_device.specs.Causes.{Rose}
 use Rattle.command_line.specs.Accepted.{Files, Made as OfBalls}
 use Rattle.translator.specs.Asked.{Asked}
 use Rattle.command_line.specs.declared.accepted.Settings.{Settings}
-use Rattle.type_checker.specs.Checked.{Pair}
 use Rattle.invariant_guess.specs.declared.types.Found.{Found}
 use Rattle.sas_task.specs.Task.{Task}
 use Rattle.sas_task.specs.Output.{text_of}
@@ -22,7 +21,7 @@ use Rattle.translator.specs.Ending.{Ending, Gives, Absent, Refused, ◌>>=◌}
 use Rattle.translator.specs.declared.outcome.Summary.{Summary}
 use Rattle.translator.specs.Plan.{of_plan, plan_names}
 use Rattle.pass_book.specs.Passes.{IsChain}
-use Rattle.translator.specs.RunTask.{Output, IsTaskOf, PassesTranslate, summary_of, output_of}
+use Rattle.translator.specs.RunTask.{Output, Start, FromPair, FromTask, IsTaskOf, IsReadTask, PassesTranslate, PassesKeepReadTasks, summary_of, output_of}
 use Rattle.translator.specs.Run.{Text, text, read, of_texts, of_source, inputs, titles, all_inputs, all_titles, names_read, made_domain, made_problem, ComesTo, no_file, faulty, made}
 use Rattle.translator.specs.Store.{Store, IsUntouched, AsksForNoOther}
 use Rattle.translator.specs.Call.{Ends, misused, starved, unread, refused}
@@ -108,7 +107,7 @@ module _ (domain problem : List ℕ) where
   abbrev Names : List (List ℕ)
   Names = domain ∷ problem ∷ []
 
-  abbrev AfterDomain : Contents → Text → Ending Pair
+  abbrev AfterDomain : Contents → Text → Ending Start
   AfterDomain held d = read held problem >>= of_texts d
 
   begins : (held : Contents) → of_source held (Files domain problem) ≡ (read held domain >>= AfterDomain held)
@@ -182,14 +181,14 @@ module _ (domain problem : List ℕ) where
     texts_made_so settings (Ok it) is_made = (
       is.0,
       if_told (λ held. of_source held (Files domain problem) ≡ of_texts (text domain bytes') (text problem other')) _ before.files
-          (λ held comes. subst (λ (e : Ending Pair). IsMadeOf e settings [] it.found it.task) (sym comes) is_made) handed_on.1,
+          (λ held comes. subst (λ (e : Ending Start). IsMadeOf e settings [] it.found it.task) (sym comes) is_made) handed_on.1,
     )
     texts_made_so settings (Err end) is_made = tt
 
 -- ---- made texts
 
 module _ (balls : ℕ) (before : Store) where
-  abbrev Comes : Contents → Ending Pair → Type 0
+  abbrev Comes : Contents → Ending Start → Type 0
   Comes held e = of_source held (OfBalls balls) ≡ e
 
   comes_to_texts : (held : Contents) → of_source held (OfBalls balls) ≡ of_texts made_domain (made_problem balls)
@@ -215,7 +214,7 @@ module _ (balls : ℕ) (before : Store) where
 
   pub made_so : (settings : Settings) (result : Result Made End) → IfOk result (λ made. IsMadeOf (of_texts made_domain (made_problem balls)) settings [] made.found made.task)
       → IfOk result (λ made. IsRead before before (λ held. IsMadeOf (of_source held (OfBalls balls)) settings [] made.found made.task))
-  made_so settings (Ok it) is_made = (refl, always _ before.files (λ held. subst (λ (e : Ending Pair). IsMadeOf e settings [] it.found it.task) (sym (comes_to_texts held)) is_made))
+  made_so settings (Ok it) is_made = (refl, always _ before.files (λ held. subst (λ (e : Ending Start). IsMadeOf e settings [] it.found it.task) (sym (comes_to_texts held)) is_made))
   made_so settings (Err end) is_made = tt
 
 -- ---- the run
@@ -235,20 +234,21 @@ module _ (asked : Asked) where
       (always _ before.files (λ held. record { absent = no_file; refused = faulty }))
 
   -- what the passes make of the task that is made of the source
-  pub passed_so : (before mid : Store) (found found' : Found) (first task : Task) → PassesTranslate → found' ≡ found → IsChain asked.passes first task
+  pub passed_so : (before mid : Store) (found found' : Found) (first task : Task) → PassesTranslate → PassesKeepReadTasks → found' ≡ found → IsChain asked.passes first task
       → IsRead before mid (λ held. IsMadeOf (of_source held asked.source) asked.settings [] found first) → IsRead before mid (λ held. IsMadeOf (of_source held asked.source) asked.settings asked.passes found' task)
-  passed_so before mid found found' first task law same chain made_so =
+  passed_so before mid found found' first task law law' same chain made_so =
       (made_so.0, if_told (λ held. IsMadeOf (of_source held asked.source) asked.settings [] found first) _ before.files (λ held. by_ending (of_source held asked.source)) made_so.1)
     where
-      by_ending : (e : Ending Pair) → IsMadeOf e asked.settings [] found first → IsMadeOf e asked.settings asked.passes found' task
-      by_ending (Gives pair) is_made = subst (λ (f : Found). IsTaskOf pair asked.settings asked.passes f task) (sym same) (law pair asked.settings asked.passes found first task is_made chain)
+      by_ending : (e : Ending Start) → IsMadeOf e asked.settings [] found first → IsMadeOf e asked.settings asked.passes found' task
+      by_ending (Gives (FromPair pair)) is_made = subst (λ (f : Found). IsTaskOf pair asked.settings asked.passes f task) (sym same) (law pair asked.settings asked.passes found first task is_made chain)
+      by_ending (Gives (FromTask written)) is_made = (same ∙ is_made.0, subst (λ (t : Task). IsReadTask t asked.passes task) is_made.1.chain (law' asked.passes first task is_made.1.valid chain))
       by_ending (Absent name) is_made = absurd is_made
       by_ending (Refused name message) is_made = absurd is_made
 
-  comes_by_plan : (held : Contents) (found : Found) (task : Task) (e : Ending Pair) → of_source held asked.source ≡ e → IsMadeOf e asked.settings asked.passes found task
+  comes_by_plan : (held : Contents) (found : Found) (task : Task) (e : Ending Start) → of_source held asked.source ≡ e → IsMadeOf e asked.settings asked.passes found task
       → (p : Ending (List ℕ)) → of_plan held asked.plan task ≡ p → ComesTo held asked (p >>= λ lines. Gives (output_of found task lines))
-  comes_by_plan held found task (Gives pair) is is_made p mapped =
-      subst (λ (q : Ending (List ℕ)). ComesTo held asked (q >>= λ lines. Gives (output_of found task lines))) mapped (made pair found task is is_made)
+  comes_by_plan held found task (Gives start) is is_made p mapped =
+      subst (λ (q : Ending (List ℕ)). ComesTo held asked (q >>= λ lines. Gives (output_of found task lines))) mapped (made start found task is is_made)
   comes_by_plan held found task (Absent name) is is_made p mapped = absurd is_made
   comes_by_plan held found task (Refused name message) is is_made p mapped = absurd is_made
 

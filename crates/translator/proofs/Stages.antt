@@ -25,7 +25,8 @@ use Rattle.translator.specs.declared.outcome.Message.TheVariants as messages
 use Rattle.translator.specs.declared.outcome.End.{End}
 use Rattle.translator.specs.declared.outcome.End.TheVariants as ends
 use Rattle.translator.specs.Ending.{Ending, Gives, Absent, Refused, ◌>>=◌, unless}
-use Rattle.translator.specs.Run.{Text, text, made_domain, made_problem, tree_of, said, on_side, unless_checked, of_texts}
+use Rattle.translator.specs.RunTask.{Start, FromPair}
+use Rattle.translator.specs.Run.{Text, text, made_domain, made_problem, tree_of, said, on_side, unless_checked, from_pair, of_texts}
 use Rattle.translator.specs.Stages.{StopsWhere}
 
 -- ---- one stage
@@ -100,13 +101,16 @@ module _ (domain problem : Text) where
   abbrev Checks : Domain → Problem → Ending Pair
   Checks d p = unless_checked domain problem (check_faults d p) (record { domain = d; problem = p })
 
-  abbrev AfterDomain : Members → Domain → Ending Pair
-  AfterDomain u d = said problem.name (problem_reading u) >>= Checks d
+  abbrev AfterBoth : Domain → Problem → Ending Start
+  AfterBoth d p = Checks d p >>= from_pair
 
-  abbrev AfterTrees : Members → Members → Ending Pair
+  abbrev AfterDomain : Members → Domain → Ending Start
+  AfterDomain u d = said problem.name (problem_reading u) >>= AfterBoth d
+
+  abbrev AfterTrees : Members → Members → Ending Start
   AfterTrees t u = said domain.name (domain_reading t) >>= AfterDomain u
 
-  abbrev AfterTree : Members → Ending Pair
+  abbrev AfterTree : Members → Ending Start
   AfterTree t = tree_of problem >>= AfterTrees t
 
   begins : of_texts domain problem ≡ (tree_of domain >>= AfterTree)
@@ -131,18 +135,22 @@ module _ (domain problem : Text) where
       stops_in_domain = first_stops (of_texts domain problem) (said domain.name (domain_reading t)) (AfterDomain u) third
 
       module _ (d : Domain) (reads : said domain.name (domain_reading t) ≡ Gives d) where
-        fourth : of_texts domain problem ≡ (said problem.name (problem_reading u) >>= Checks d)
+        fourth : of_texts domain problem ≡ (said problem.name (problem_reading u) >>= AfterBoth d)
         fourth = goes_on (of_texts domain problem) (said domain.name (domain_reading t)) (AfterDomain u) third d reads
 
         pub stops_in_problem : (end : End) → StopsWhere (said problem.name (problem_reading u)) end → StopsWhere (of_texts domain problem) end
-        stops_in_problem = first_stops (of_texts domain problem) (said problem.name (problem_reading u)) (Checks d) fourth
+        stops_in_problem = first_stops (of_texts domain problem) (said problem.name (problem_reading u)) (AfterBoth d) fourth
 
-        -- both texts are read, and they come to what their check does
-        pub comes_to_check : (p : Problem) → said problem.name (problem_reading u) ≡ Gives p → of_texts domain problem ≡ Checks d p
-        comes_to_check p reads' = goes_on (of_texts domain problem) (said problem.name (problem_reading u)) (Checks d) fourth p reads'
+        -- both texts are read, and their check follows
+        fifth : (p : Problem) → said problem.name (problem_reading u) ≡ Gives p → of_texts domain problem ≡ AfterBoth d p
+        fifth p reads' = goes_on (of_texts domain problem) (said problem.name (problem_reading u)) (AfterBoth d) fourth p reads'
+
+        -- they come to the pair that is checked
+        pub comes_to_pair : (p : Problem) → said problem.name (problem_reading u) ≡ Gives p → (pair : Pair) → Checks d p ≡ Gives pair → of_texts domain problem ≡ Gives (FromPair pair)
+        comes_to_pair p reads' pair checks = goes_on (of_texts domain problem) (Checks d p) from_pair (fifth p reads') pair checks
 
         pub stops_in_check : (p : Problem) → said problem.name (problem_reading u) ≡ Gives p → (end : End) → StopsWhere (Checks d p) end → StopsWhere (of_texts domain problem) end
-        stops_in_check p reads' end stops = subst (λ (e : Ending Pair). StopsWhere e end) (sym (comes_to_check p reads')) stops
+        stops_in_check p reads' = first_stops (of_texts domain problem) (Checks d p) from_pair (fifth p reads')
 
 -- the made texts, by their bytes
 pub made_texts_are : (domain problem : List ℕ) (balls : ℕ) → domain ≡ made_domain.bytes → problem ≡ (made_problem balls).bytes
@@ -182,8 +190,8 @@ module _ (names : List (List ℕ)) where
       told_after (tree_of domain) (AfterTree domain problem) (told_unless domain.name (tree_faults domain.bytes) (tree domain.bytes) in') (λ t.
       told_after (tree_of problem) (AfterTrees domain problem t) (told_unless problem.name (tree_faults problem.bytes) (tree problem.bytes) in'') (λ u.
       told_after (said domain.name (domain_reading t)) (AfterDomain domain problem u) (told_said domain.name (domain_reading t) in') (λ d.
-      told_after (said problem.name (problem_reading u)) (Checks domain problem d) (told_said problem.name (problem_reading u) in'') (λ p.
-      told_checked domain problem (check_faults d p) (record { domain = d; problem = p }) in' in''))))
+      told_after (said problem.name (problem_reading u)) (AfterBoth domain problem d) (told_said problem.name (problem_reading u) in'') (λ p.
+      told_after (Checks domain problem d p) from_pair (told_checked domain problem (check_faults d p) (record { domain = d; problem = p }) in' in'') (λ pair. tt)))))
 
   pub refused_of : {A : Type 0} (e : Ending A) (name : List ℕ) (message : Message) → IsToldOf e → e ≡ Refused name message → Contains names name
   refused_of e name message told is = subst IsToldOf is told

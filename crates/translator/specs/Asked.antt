@@ -9,7 +9,7 @@ use Rattle.command_line.specs.Accepted.{Source, accepted}
 use Rattle.command_line.specs.Accepted as words
 use Rattle.command_line.specs.declared.accepted.Settings.{Settings}
 use Rattle.pass_book.specs.declared.kind.PassKind.{PassKind}
-use Rattle.pass_book.specs.declared.kind.PassKind.TheVariants.{Order, Relevance}
+use Rattle.pass_book.specs.declared.kind.PassKind.TheVariants.{Order, Relevance, H2}
 use Rattle.pass_book.specs.Passes.{is_held}
 
 -- where the task comes from, how it is made, the passes that change it then, the name of the output file, and the name of a plan file that is to be mapped back, if there is one
@@ -22,7 +22,10 @@ pub record Asked : Type 0 where
 
 -- the kind of the passes of this name
 abbrev pub kind_named : List ℕ → Option PassKind
-kind_named name = if is_same name (codes "order") then Some Order else if is_same name (codes "relevance") then Some Relevance else None
+kind_named name =
+    if is_same name (codes "order") then Some Order
+    else if is_same name (codes "relevance") then Some Relevance
+    else if is_same name (codes "h2") then Some H2 else None
 
 -- the kind, if it is held
 abbrev pub if_one_held : List PassKind → Option PassKind → Option PassKind

@@ -1,6 +1,7 @@
 -- What is printed at the end of a run.
 use Rattle.std.specs.Prelude.{ℕ, List, ◌++◌, codes, decimal}
 use Rattle.pddl_lexer.specs.Kinds.{text}
+use Rattle.sas_reader.specs.Places.{text as place_text}
 use Rattle.translator.specs.declared.outcome.Summary.{Summary}
 use Rattle.translator.specs.declared.outcome.Message.{Message}
 use Rattle.translator.specs.declared.outcome.Message.TheVariants as messages
@@ -34,12 +35,14 @@ abbrev pub line_at : Message → ℕ
 line_at (messages.Fault fault) = fault.line
 line_at (messages.BadPlanLine line) = line
 line_at (messages.UnknownStep line) = line
+line_at (messages.TaskLine fault) = fault.line
 
 -- what it says
 abbrev pub words_of : Message → List ℕ
 words_of (messages.Fault fault) = text fault.kind
 words_of (messages.BadPlanLine line) = codes "malformed plan line"
 words_of (messages.UnknownStep line) = codes "unknown step"
+words_of (messages.TaskLine fault) = place_text fault.place
 
 -- the line on a text that is refused
 abbrev pub refusal_line : List ℕ → Message → List ℕ

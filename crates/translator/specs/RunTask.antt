@@ -1,5 +1,5 @@
 -- What a run makes of a pair: the invariants that it finds, the task that the passes make, one after another, and what is written of both.
-use Rattle.std.specs.Prelude.{ℕ, Bool, ◌^◌, ◌<◌, List, [], length, sum_by}
+use Rattle.std.specs.Prelude.{◌≡◌, ℕ, Bool, ◌^◌, ◌<◌, List, [], length, sum_by}
 use Rattle.command_line.specs.declared.accepted.Settings.{Settings}
 use Rattle.type_checker.specs.Checked.{Pair}
 use Rattle.normal_task.specs.declared.task.Normal.{Normal}
@@ -18,6 +18,7 @@ use Rattle.pass_book.specs.Passes.{IsChain}
 use Rattle.plan_backmap.specs.Solutions.{NamesTellCosts}
 use Rattle.sas_task.specs.Task.{Task}
 use Rattle.sas_task.specs.Valid.{IsValid}
+use Rattle.sas_task.specs.Keeps.{Keeps}
 use Rattle.sas_task.specs.Output.{text_of}
 use Rattle.translator.specs.declared.outcome.Summary.{Summary}
 use Rattle.translator.specs.Theorem.{Translates}
@@ -52,6 +53,26 @@ pub record IsTaskOf (pair : Pair) (settings : Settings) (passes : List PassKind)
   pub tells : NamesTellCosts task.operators
   pub translates : Translates passes pair.domain pair.problem task
 
+-- The passes make this task of a written one, one after another. It is valid, and may stand for the written one.
+pub record IsReadTask (written : Task) (passes : List PassKind) (task : Task) : Type 0 where
+  pub chain : IsChain passes written task
+  pub valid : IsValid task
+  pub keeps : Keeps written task
+
+-- what a source comes to: a pair without faults, or a written task
+pub data Start : Type 0 where
+  FromPair : (pair : Pair) → Start
+  FromTask : (written : Task) → Start
+
+-- what is found where no invariants are searched for
+abbrev pub nothing_found : Found
+nothing_found = record { tried = 0; accepted = [] }
+
+-- A run makes this task of its start, with these invariants: of a pair with those that it finds, and of a written task with none.
+abbrev pub IsMadeFrom : Start → Settings → List PassKind → Found → Task → Type 0
+IsMadeFrom (FromPair pair) settings passes found task = IsTaskOf pair settings passes found task
+IsMadeFrom (FromTask written) settings passes found task = (found ≡ nothing_found) × IsReadTask written passes task
+
 -- how many candidates for invariants were tried and accepted, and the sizes of the task; the facts are the sum of the ranges of all variables
 abbrev pub summary_of : Found → Task → Summary
 summary_of found task =
@@ -78,3 +99,7 @@ output_of found task plan = record { text = text_of task; summary = summary_of f
 abbrev pub PassesTranslate : Type 0
 PassesTranslate =
     (pair : Pair) (settings : Settings) (passes : List PassKind) (found : Found) (first task : Task) → IsTaskOf pair settings [] found first → IsChain passes first task → IsTaskOf pair settings passes found task
+
+-- What passes make of a valid task, they make of it as a written one.
+abbrev pub PassesKeepReadTasks : Type 0
+PassesKeepReadTasks = (passes : List PassKind) (written task : Task) → IsValid written → IsChain passes written task → IsReadTask written passes task

@@ -5,7 +5,6 @@ use Rattle.std.specs.declared.option.Option.TheVariants.{None}
 use Rattle.tl_device.specs.Contents.{Contents}
 use Rattle.translator.specs.Asked.{Asked}
 use Rattle.command_line.specs.declared.accepted.Settings.{Settings}
-use Rattle.type_checker.specs.Checked.{Pair}
 use Rattle.invariant_guess.specs.declared.types.Found.{Found}
 use Rattle.pass_book.specs.declared.kind.PassKind.{PassKind}
 use Rattle.sas_task.specs.Task.{Task}
@@ -14,7 +13,7 @@ use Rattle.translator.specs.declared.outcome.End.TheVariants as ends
 use Rattle.translator.specs.declared.translation.Input.{Input}
 use Rattle.translator.specs.declared.work.Written.{Written}
 use Rattle.translator.specs.Ending.{Ending, Gives, Absent, Refused}
-use Rattle.translator.specs.RunTask.{Output, IsTaskOf}
+use Rattle.translator.specs.RunTask.{Output, Start, IsMadeFrom}
 use Rattle.translator.specs.Texts.{Text, text}
 use Rattle.translator.specs.Store.{Store}
 use Rattle.translator.specs.Call.{IsUnread, IsRefused}
@@ -44,9 +43,9 @@ abbrev pub Answers : {A : Type 0} → Ending A → Result A End → Type 0
 Answers e (Ok value) = e ≡ Gives value
 Answers e (Err end) = StopsWhere e end
 
--- a pair is given, and this task is made of it
-abbrev pub IsMadeOf : Ending Pair → Settings → List PassKind → Found → Task → Type 0
-IsMadeOf (Gives pair) settings passes found task = IsTaskOf pair settings passes found task
+-- a start is given, and this task is made of it
+abbrev pub IsMadeOf : Ending Start → Settings → List PassKind → Found → Task → Type 0
+IsMadeOf (Gives start) settings passes found task = IsMadeFrom start settings passes found task
 IsMadeOf (Absent name) settings passes found task = ⊥
 IsMadeOf (Refused name message) settings passes found task = ⊥
 

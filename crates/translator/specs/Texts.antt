@@ -17,17 +17,25 @@ abbrev pub text : List ℕ → List ℕ → Text
 text name bytes = record { name = name; bytes = bytes }
 
 -- the most bytes of an input file
-abbrev pub limit : ℕ
-limit = 16777216
+abbrev pub input_limit : ℕ
+input_limit = 16777216
 
--- a file with more bytes has this fault
-abbrev pub length_faults : List ℕ → List Fault
-length_faults bytes = if nat_lt limit (length bytes) then record { kind = TooLong; line = 1 } ∷ [] else []
+-- the most bytes of a written task
+abbrev pub task_limit : ℕ
+task_limit = 67108864
 
--- what is read where the file of this name holds this
-abbrev pub read_as : List ℕ → Option (List ℕ) → Ending Text
-read_as name None = Absent name
-read_as name (Some bytes) = unless name (length_faults bytes) (text name bytes)
+-- a file with more bytes than it may have has this fault
+abbrev pub length_faults : ℕ → List ℕ → List Fault
+length_faults limit bytes = if nat_lt limit (length bytes) then record { kind = TooLong; line = 1 } ∷ [] else []
 
+-- what is read where the file of this name may have so many bytes and holds this
+abbrev pub read_as : ℕ → List ℕ → Option (List ℕ) → Ending Text
+read_as limit name None = Absent name
+read_as limit name (Some bytes) = unless name (length_faults limit bytes) (text name bytes)
+
+abbrev pub read_within : ℕ → Contents → List ℕ → Ending Text
+read_within limit files name = read_as limit name (get files name)
+
+-- what is read of an input file
 abbrev pub read : Contents → List ℕ → Ending Text
-read files name = read_as name (get files name)
+read files name = read_within input_limit files name

@@ -7,7 +7,7 @@ ghost use Rattle.normal_task.specs.Normalised.{normal};
 ghost use Rattle.invariant_guess.specs.declared.types.Found.{Found};
 ghost use Rattle.invariant_guess.specs.Trial.{IsFound};
 ghost use Rattle.sas_task.specs.Task.{Task};
-ghost use Rattle.translator.specs.RunTask.{IsRunTask, IsTaskOf, PassesTranslate};
+ghost use Rattle.translator.specs.RunTask.{IsRunTask, IsTaskOf, PassesTranslate, PassesKeepReadTasks};
 
 use fdr_encoder::laws::{covers, exclusive_covers, simulation, validity};
 use invariant_guess::laws::finds;
@@ -53,4 +53,11 @@ pub(crate) fn passes_translate()
 {
     passes_keep();
     solutions_cost_the_total();
+}
+
+/// What passes make of a written task is valid, and may stand for it.
+pub(crate) fn passes_keep_read_tasks()
+    ensures { PassesKeepReadTasks }
+{
+    passes_keep();
 }

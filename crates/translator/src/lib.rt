@@ -9,6 +9,7 @@ mod outcome;
 mod plan;
 mod process;
 mod request;
+mod task_file;
 mod translation;
 mod work;
 

@@ -7,6 +7,7 @@ ghost use Rattle.translator.specs.Outcome.{code_of, status_of};
 ghost use Rattle.translator.specs.declared.outcome.End.TheVariants.{NoMemory};
 
 use pddl_lexer::Fault;
+use sas_reader::SasFault;
 use std::alloc::AllocError;
 use std::process::ExitCode;
 
@@ -94,6 +95,8 @@ pub enum Message {
     BadPlanLine(u64),
     /// A step of the plan file whose name no operator of the task has.
     UnknownStep(u64),
+    /// A line of a written task that breaks its rule.
+    TaskLine(SasFault),
 }
 
 impl Message {
@@ -105,6 +108,7 @@ impl Message {
             Message::Fault(fault) => fault.line,
             Message::BadPlanLine(line) => *line,
             Message::UnknownStep(line) => *line,
+            Message::TaskLine(fault) => fault.line,
         }
     }
 
@@ -116,6 +120,7 @@ impl Message {
             Message::Fault(fault) => fault.kind.text(),
             Message::BadPlanLine(_) => "malformed plan line",
             Message::UnknownStep(_) => "unknown step",
+            Message::TaskLine(fault) => fault.place.text(),
         }
     }
 }

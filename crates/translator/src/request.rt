@@ -108,6 +108,7 @@ fn kind_named(name: &str) -> Option<PassKind>
     match name {
         "order" => Some(PassKind::Order),
         "relevance" => Some(PassKind::Relevance),
+        "h2" => Some(PassKind::H2),
         _ => None,
     }
 }

@@ -1,13 +1,14 @@
 //! The work of a run on its files.
 
-ghost use Rattle.std.specs.Prelude.{◌≡◌, ◌≤◌, ◌⊎◌, [], ◌∷◌, Some, None, map, option_map, length, OnOk, OnErr, IfOk, IfErr};
+ghost use Rattle.std.specs.Prelude.{◌≡◌, ◌<◌, ◌≤◌, ◌^◌, ◌⊎◌, [], ◌∷◌, Some, None, map, option_map, length, OnOk, OnErr, IfOk, IfErr};
 ghost use Rattle.tl_device.specs.Causes.{HasCause};
 ghost use Rattle.tl_device.specs.Contents.{GrownInPart, emptied, grown};
-ghost use Rattle.command_line.specs.Accepted.{Files as OfFiles, source_by};
+ghost use Rattle.command_line.specs.declared.accepted.Settings.{Settings as MadeBy};
+ghost use Rattle.command_line.specs.Accepted.{Files as OfFiles, WrittenTask, source_by};
 ghost use Rattle.pass_book.specs.Passes.{IsChain, first_missing};
 ghost use Rattle.translator.specs.Asked.{asked_by_words};
 ghost use Rattle.translator.specs.Ending.{Gives};
-ghost use Rattle.translator.specs.Run.{text, read, of_source, inputs, titles, all_inputs, all_titles, names_read, ComesTo};
+ghost use Rattle.translator.specs.Run.{text, read_within, of_source, inputs, titles, all_inputs, all_titles, names_read, ComesTo};
 ghost use Rattle.translator.specs.Store.{store, IsUntouched, AsksForNoOther};
 ghost use Rattle.translator.specs.Call.{Ends};
 ghost use Rattle.translator.specs.Outcome.{status_of, line_of};
@@ -15,10 +16,11 @@ ghost use Rattle.translator.specs.Plan.{of_plan, plan_names};
 ghost use Rattle.translator.specs.Requests.{asked_by};
 ghost use Rattle.translator.specs.Stages.{IsRead, IsMadeOf, StopsReading, output_by};
 
-use crate::law::passes_translate;
+use crate::law::{passes_keep_read_tasks, passes_translate};
 use crate::outcome::{End, Message, Report};
 use crate::plan::mapped_lines;
 use crate::request::{Request, requested};
+use crate::task_file::{nothing_found, written_task};
 use crate::translation::{Input, Made, made_task, summary, task_of};
 use command_line::{Accepted, Settings, Source};
 use pass_book::{ApplyEnd, Book, PassKind};
@@ -29,7 +31,10 @@ use std::alloc::{AllocError, Global};
 use tl_device::{Failed, Files, ReadEnd, put_all, read_all};
 
 /// The most bytes of an input file.
-const LIMIT: u64 = 16_777_216;
+const INPUT_LIMIT: u64 = 16_777_216;
+
+/// The most bytes of a written task.
+const TASK_LIMIT: u64 = 67_108_864;
 
 /// The text of a task, and what is printed of it.
 #[derive(Drop)]
@@ -71,6 +76,7 @@ fn prepared<'a, F: Files>(
     ensures asks { AsksForNoOther (store F.Files files.old) (store F.Files files.new) (all_inputs (asked_by request.now)) }
 {
     passes_translate();
+    passes_keep_read_tasks();
     let accepted = &request.accepted;
     let first = made(alloc, accepted, files)?;
     let made = passed(alloc, first, request.passes.as_slice(), book)?;
@@ -113,6 +119,7 @@ fn made<'a, F: Files>(
             task_of_files(alloc, domain, problem, accepted.settings, files)
         }
         Source::Made { balls } => made_task(alloc, balls, accepted.settings),
+        Source::WrittenTask { file } => task_of_file(alloc, file, files),
     }
 }
 
@@ -129,8 +136,8 @@ fn task_of_files<'a, F: Files>(
     ensures untouched { IsUntouched (store F.Files files.old) (store F.Files files.new) }
     ensures asks { AsksForNoOther (store F.Files files.old) (store F.Files files.new) (domain.now ∷ problem.now ∷ []) }
 {
-    let domain_bytes = read_input(alloc, files, domain)?;
-    let problem_bytes = read_input(alloc, files, problem)?;
+    let domain_bytes = read_input(alloc, files, domain, INPUT_LIMIT)?;
+    let problem_bytes = read_input(alloc, files, problem, INPUT_LIMIT)?;
     let domain = Input {
         name: domain,
         bytes: &domain_bytes,
@@ -140,6 +147,24 @@ fn task_of_files<'a, F: Files>(
         bytes: &problem_bytes,
     };
     task_of(alloc, &domain, &problem, settings)
+}
+
+/// The task that is written in the file of this name. No invariants are searched for, whatever the settings say.
+fn task_of_file<'a, F: Files>(alloc: Global, name: &'a str, files: &mut F) -> Result<Made, End<'a>>
+    ensures ok { (settings : MadeBy) → IfOk result (λ made. IsRead (store F.Files files.old) (store F.Files files.new) (λ held. IsMadeOf (of_source held (WrittenTask name.now)) settings [] made.found made.task)) }
+    ensures err { IfErr result (StopsReading (store F.Files files.old) (store F.Files files.new) (name.now ∷ []) (name.now ∷ []) (λ held e. of_source held (WrittenTask name.now) ≡ e)) }
+    ensures untouched { IsUntouched (store F.Files files.old) (store F.Files files.new) }
+    ensures asks { AsksForNoOther (store F.Files files.old) (store F.Files files.new) (name.now ∷ []) }
+{
+    passes_keep_read_tasks();
+    let bytes = read_input(alloc, files, name, TASK_LIMIT)?;
+    let text = Input {
+        name,
+        bytes: &bytes,
+    };
+    let task = written_task(alloc, &text)?;
+    let found = nothing_found(alloc);
+    Ok(Made { found, task })
 }
 
 /// The lines on the plan of the file that is named, mapped back to the task; none where no file is.
@@ -172,7 +197,7 @@ fn lines_of_file<'a, F: Files>(
     ensures untouched { IsUntouched (store F.Files files.old) (store F.Files files.new) }
     ensures asks { AsksForNoOther (store F.Files files.old) (store F.Files files.new) (name.now ∷ []) }
 {
-    let bytes = read_input(alloc, files, name)?;
+    let bytes = read_input(alloc, files, name, INPUT_LIMIT)?;
     let plan = Input {
         name,
         bytes: &bytes,
@@ -180,15 +205,21 @@ fn lines_of_file<'a, F: Files>(
     mapped_lines(alloc, &plan, task)
 }
 
-/// The bytes of an input file.
-fn read_input<'a, F: Files>(alloc: Global, files: &mut F, name: &'a str) -> Result<Vec<u8>, End<'a>>
-    ensures ok { IfOk result (λ bytes. IsRead (store F.Files files.old) (store F.Files files.new) (λ held. read held name.now ≡ Gives (text name.now bytes.items))) }
-    ensures err { IfErr result (StopsReading (store F.Files files.old) (store F.Files files.new) (name.now ∷ []) (name.now ∷ []) (λ held e. read held name.now ≡ e)) }
+/// The bytes of a file that may have so many.
+fn read_input<'a, F: Files>(
+    alloc: Global,
+    files: &mut F,
+    name: &'a str,
+    limit: u64,
+) -> Result<Vec<u8>, End<'a>>
+    requires { limit < 2 ^ 32 }
+    ensures ok { IfOk result (λ bytes. IsRead (store F.Files files.old) (store F.Files files.new) (λ held. read_within limit held name.now ≡ Gives (text name.now bytes.items))) }
+    ensures err { IfErr result (StopsReading (store F.Files files.old) (store F.Files files.new) (name.now ∷ []) (name.now ∷ []) (λ held e. read_within limit held name.now ≡ e)) }
     ensures untouched { IsUntouched (store F.Files files.old) (store F.Files files.new) }
     ensures asks { AsksForNoOther (store F.Files files.old) (store F.Files files.new) (name.now ∷ []) }
-    ensures within { IfOk result (λ bytes. length bytes.items ≤ 16777216) }
+    ensures within { IfOk result (λ bytes. length bytes.items ≤ limit) }
 {
-    match read_all(alloc, files, name, LIMIT) {
+    match read_all(alloc, files, name, limit) {
         Ok(bytes) => Ok(bytes),
         Err(ReadEnd::Failed) => Err(End::CannotRead(name)),
         Err(ReadEnd::TooLong) => Err(End::Refused(

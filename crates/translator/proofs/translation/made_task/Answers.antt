@@ -1,7 +1,7 @@
 use Rattle.std.proofs.Common.{[], ◌∙◌, subst}
 use Rattle.std.specs.Prelude.{IfOk, IfErr}
-use Rattle.type_checker.specs.Checked.{Pair}
 use Rattle.translator.specs.Ending.{Ending}
+use Rattle.translator.specs.RunTask.{Start}
 use Rattle.translator.specs.Stages.{IsMadeOf, StopsWhere}
 use Rattle.translator.proofs.Stages.{starved, made_texts_are}
 use Rattle.translator.proofs.translation.made_task.Goals as goal
@@ -14,10 +14,10 @@ returns-in_err-problem_bytes-clause-err c = starved _ c.from_residual-in_err-pro
 
 pub returns-clause-ok : goal.returns-clause-ok
 returns-clause-ok c =
-    subst (λ (e : Ending Pair). IfOk c.task_of.result (λ made. IsMadeOf e c.args.settings [] made.found made.task))
+    subst (λ (e : Ending Start). IfOk c.task_of.result (λ made. IsMadeOf e c.args.settings [] made.found made.task))
     (made_texts_are c.deref.result.now c.deref-2.result.now c.args.balls (c.deref.ensures.value ∙ c.in_ok-domain_bytes.ensures) (c.deref-2.ensures.value ∙ c.in_ok-problem_bytes.ensures)) c.task_of.ensures.ok
 
 pub returns-clause-err : goal.returns-clause-err
 returns-clause-err c =
-    subst (λ (e : Ending Pair). IfErr c.task_of.result (StopsWhere e))
+    subst (λ (e : Ending Start). IfErr c.task_of.result (StopsWhere e))
     (made_texts_are c.deref.result.now c.deref-2.result.now c.args.balls (c.deref.ensures.value ∙ c.in_ok-domain_bytes.ensures) (c.deref-2.ensures.value ∙ c.in_ok-problem_bytes.ensures)) c.task_of.ensures.err

@@ -1,11 +1,10 @@
-use Rattle.std.proofs.Common.{[], rules, sym, subst, ◌∙◌}
-use Rattle.type_checker.specs.Checked.{Pair}
+use Rattle.std.proofs.Common.{[], rules, sym, subst}
 use Rattle.invariant_guess.specs.Trial.{IsFound}
 use Rattle.translator.specs.Ending.{Ending}
 use Rattle.normal_task.specs.Normalised.{normal}
-use Rattle.translator.specs.RunTask.{IsRunEncoding, IsRunTask}
+use Rattle.translator.specs.RunTask.{Start, IsRunEncoding, IsRunTask}
 use Rattle.translator.specs.Stages.{IsMadeOf, text_by}
-use Rattle.translator.proofs.Stages.{stops_at_domain, stops_at_problem, stops_in_domain, stops_in_problem, stops_in_check, comes_to_check, starved}
+use Rattle.translator.proofs.Stages.{stops_at_domain, stops_at_problem, stops_in_domain, stops_in_problem, stops_in_check, comes_to_pair, starved}
 use Rattle.translator.proofs.translation.task_of.Goals as goal
 
 pub returns-in_err-domain_tree-clause-err : goal.returns-in_err-domain_tree-clause-err
@@ -61,9 +60,9 @@ returns-clause-ok c =
     let pair = c.in_ok-checked.checked in
     let found = c.in_ok-found.found in
     let task = c.in_ok-task.task in
-    let comes = comes_to_check (text_by c.args.domain.now) (text_by c.args.problem.now) _ c.in_ok-domain_tree.ensures _ c.in_ok-problem_tree.ensures _ c.in_ok-read_domain.ensures.reading _ c.in_ok-read_problem.ensures.reading ∙ c.in_ok-checked.ensures.pair in
+    let comes = comes_to_pair (text_by c.args.domain.now) (text_by c.args.problem.now) _ c.in_ok-domain_tree.ensures _ c.in_ok-problem_tree.ensures _ c.in_ok-read_domain.ensures.reading _ c.in_ok-read_problem.ensures.reading pair c.in_ok-checked.ensures.pair in
     let is_found = subst (λ n. IsFound n c.args.settings.max_candidates found) c.in_ok-normal.ensures.normal c.in_ok-found.ensures in
     let encoding = subst (λ n. IsRunEncoding c.args.settings.full_encoding n found c.in_ok-encoded.encoded) c.in_ok-normal.ensures.normal c.in_ok-encoded.ensures in
     let is_run_task : IsRunTask c.args.settings.full_encoding (normal pair.domain pair.problem) found task = record { encoded = c.in_ok-encoded.encoded; encoding = encoding; projection = c.in_ok-task.ensures } in
-    subst (λ (e : Ending Pair). IsMadeOf e c.args.settings [] found task) (sym comes)
+    subst (λ (e : Ending Start). IsMadeOf e c.args.settings [] found task) (sym comes)
     (c.run_task_translates.ensures pair c.args.settings found task c.in_ok-checked.ensures.checked is_found is_run_task)

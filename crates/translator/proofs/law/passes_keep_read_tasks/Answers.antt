@@ -1,0 +1,9 @@
+use Rattle.translator.proofs.law.passes_keep_read_tasks.Goals as goal
+
+pub returns : goal.returns
+returns c passes written task valid chain =
+    record {
+      chain = chain;
+      valid = c.passes_keep.ensures.valid passes written task valid chain;
+      keeps = c.passes_keep.ensures.stands passes written task valid chain;
+    }
