@@ -1,6 +1,8 @@
 //! Each call on the files fails once.
 
-use super::{Ending, MAPPED, OLDER, Outside, PROBLEM, SUMMARY, TEXT, answer, prepared};
+use super::{MAPPED, OLDER, ends_so};
+use calls_in_memory::Ending;
+use calls_in_memory::switch::{READ_BACK, SUMMARY, TEXT};
 use std::alloc::{AllocError, Global};
 use std::test::*;
 use tl_device::FileCall;
@@ -24,7 +26,7 @@ struct Input {
 }
 
 // A call takes sixteen bytes at most. The domain has 146 bytes, the problem 69 and the plan 7. The text has 262, which
-// are seventeen writes.
+// are seventeen writes, or reads.
 const OF_DOMAIN: Input = Input {
     reads: 11,
     unread: b"translate: cannot read d.pddl\n",
@@ -40,7 +42,12 @@ const OF_PLAN: Input = Input {
     unread: b"translate: cannot read plan\n",
 };
 
-static RUNS: [Run; 3] = [
+const OF_TASK: Input = Input {
+    reads: 18,
+    unread: b"translate: cannot read in.sas\n",
+};
+
+static RUNS: [Run; 4] = [
     Run {
         names: &["translate", "d.pddl", "p.pddl"],
         inputs: &[OF_DOMAIN, OF_PROBLEM],
@@ -68,6 +75,15 @@ static RUNS: [Run; 3] = [
         text: TEXT,
         printed: MAPPED,
     },
+    Run {
+        names: &["translate", "--from-sas", "in.sas"],
+        inputs: &[OF_TASK],
+        output: "output.sas",
+        unwritten: b"translate: cannot write output.sas\n",
+        older: Some(OLDER),
+        text: TEXT,
+        printed: READ_BACK,
+    },
 ];
 
 /// The ending of a run that can't read, which leaves what stood before.
@@ -75,6 +91,7 @@ fn unread(run: &'static Run, input: &'static Input) -> Ending<'static> {
     Ending {
         status: Status::Device,
         printed: input.unread,
+        name: run.output,
         output: run.older,
     }
 }
@@ -84,6 +101,7 @@ fn unwritten(run: &'static Run, output: Option<&'static [u8]>) -> Ending<'static
     Ending {
         status: Status::Device,
         printed: run.unwritten,
+        name: run.output,
         output,
     }
 }
@@ -93,6 +111,7 @@ fn done(run: &'static Run) -> Ending<'static> {
     Ending {
         status: Status::Done,
         printed: run.printed,
+        name: run.output,
         output: Some(run.text),
     }
 }
@@ -140,36 +159,11 @@ fn ending(run: &'static Run, what: FileCall, nth: u64) -> Ending<'static> {
     }
 }
 
-/// Whether the run ends so whose nth call of this kind fails, and leaves all other files.
-fn ends_so(
-    alloc: Global,
-    run: &Run,
-    what: FileCall,
-    nth: u64,
-    ending: &Ending<'_>,
-) -> Result<bool, AllocError> {
-    let mut outside = prepared(alloc, PROBLEM)?;
-    ends_so_in(alloc, &mut outside, run, what, nth, ending)
-}
-
-fn ends_so_in(
-    alloc: Global,
-    outside: &mut Outside,
-    run: &Run,
-    what: FileCall,
-    nth: u64,
-    ending: &Ending<'_>,
-) -> Result<bool, AllocError> {
-    outside.fail(what, nth)?;
-    let status = answer(alloc, outside, run.names)?;
-    Ok(status == ending.status && outside.stands(ending, run.output, PROBLEM))
-}
-
 /// Whether the run ends as it should whose first, second, .. call of this kind fails, until none does any more.
 fn ends_each(alloc: Global, run: &'static Run, what: FileCall) -> Result<bool, AllocError> {
     for nth in 1..=200 {
         let ending = ending(run, what, nth);
-        if !ends_so(alloc, run, what, nth, &ending)? {
+        if !ends_so(alloc, run.names, what, nth, &ending)? {
             return Ok(false);
         }
         if ending.status == Status::Done {
@@ -207,6 +201,6 @@ fn each_call_on_files_fails_once_and_is_told(rt: HostRuntime) -> Result<(), Allo
 #[test]
 fn a_failed_second_write_leaves_the_first(rt: HostRuntime) -> Result<(), AllocError> {
     let ending = unwritten(&RUNS[0], Some(b"begin_version\n3\n"));
-    assert!(rt; ends_so(rt.alloc(), &RUNS[0], FileCall::Write, 2, &ending)?);
+    assert!(rt; ends_so(rt.alloc(), RUNS[0].names, FileCall::Write, 2, &ending)?);
     Ok(())
 }

@@ -1,6 +1,8 @@
 //! A problem that ends early.
 
-use super::{Ending, OLDER, Outside, PROBLEM, answer, prepared};
+use super::{OLDER, files, prepare};
+use calls_in_memory::switch::PROBLEM;
+use calls_in_memory::{Ending, Outside};
 use std::alloc::{AllocError, Global};
 use std::test::*;
 use translator::Status;
@@ -20,7 +22,7 @@ fn printed(length: usize) -> &'static [u8] {
 
 /// Whether the problem is refused with this line, and all files stay.
 fn is_refused(alloc: Global, problem: &[u8], printed: &[u8]) -> Result<bool, AllocError> {
-    let mut outside = prepared(alloc, problem)?;
+    let mut outside = Outside::new(alloc);
     is_refused_in(alloc, &mut outside, problem, printed)
 }
 
@@ -30,13 +32,13 @@ fn is_refused_in(
     problem: &[u8],
     printed: &[u8],
 ) -> Result<bool, AllocError> {
-    let status = answer(alloc, outside, &["translate", "d.pddl", "p.pddl"])?;
+    prepare(outside, problem)?;
     let ending = Ending {
-        status: Status::InputFault,
-        printed,
         output: Some(OLDER),
+        ..Ending::refused(Status::InputFault, printed)
     };
-    Ok(status == ending.status && outside.stands(&ending, "output.sas", problem))
+    let words = ["translate", "d.pddl", "p.pddl"];
+    outside.ends(alloc, &files(problem), &words, &ending)
 }
 
 #[test]

@@ -1,6 +1,8 @@
 //! A run on made texts reads no file, and each of its writes fails once.
 
-use super::{Ending, OLDER, Outside, PROBLEM, answer, prepared};
+use super::{OLDER, ends_so, prepare};
+use calls_in_memory::switch::PROBLEM;
+use calls_in_memory::{Ending, Outside};
 use std::alloc::{AllocError, Global};
 use std::test::*;
 use tl_device::FileCall;
@@ -19,23 +21,6 @@ Translator operators: 10
 Translator axioms: 0
 ";
 
-/// How the run ends whose nth call of this kind fails.
-fn answer_without(
-    alloc: Global,
-    outside: &mut Outside,
-    what: FileCall,
-    nth: u64,
-) -> Result<Status, AllocError> {
-    outside.room("output.sas", 4000)?;
-    outside.fail(what, nth)?;
-    answer(alloc, outside, &WORDS)
-}
-
-/// Whether the run ended so, with this output.
-fn is_ended(outside: &Outside, status: Status, ending: &Ending<'_>) -> bool {
-    status == ending.status && outside.stands(ending, "output.sas", PROBLEM)
-}
-
 /// The ending of a run whose nth write fails, where this is what is written else.
 fn without_write(text: &[u8], nth: u64) -> Ending<'_> {
     let taken = (nth as usize).saturating_sub(1).saturating_mul(16);
@@ -49,36 +34,19 @@ fn without_write(text: &[u8], nth: u64) -> Ending<'_> {
 fn unwritten(output: &[u8]) -> Ending<'_> {
     Ending {
         status: Status::Device,
-        printed: b"translate: cannot write output.sas\n",
-        output: Some(output),
+        ..Ending::done(output, b"translate: cannot write output.sas\n")
     }
 }
 
 fn done(text: &[u8]) -> Ending<'_> {
-    Ending {
-        status: Status::Done,
-        printed: ONE_BALL,
-        output: Some(text),
-    }
-}
-
-/// Whether the run whose call of this kind fails ends as this.
-fn ends_so(
-    alloc: Global,
-    what: FileCall,
-    nth: u64,
-    ending: &Ending<'_>,
-) -> Result<bool, AllocError> {
-    let mut outside = prepared(alloc, PROBLEM)?;
-    let status = answer_without(alloc, &mut outside, what, nth)?;
-    Ok(is_ended(&outside, status, ending))
+    Ending::done(text, ONE_BALL)
 }
 
 /// Whether each write fails in turn and leaves those before it, until none does any more.
 fn writes_are_told(alloc: Global, text: &[u8]) -> Result<bool, AllocError> {
     for nth in 1..=500 {
         let ending = without_write(text, nth);
-        if !ends_so(alloc, FileCall::Write, nth, &ending)? {
+        if !ends_so(alloc, &WORDS, FileCall::Write, nth, &ending)? {
             return Ok(false);
         }
         if ending.status == Status::Done {
@@ -92,27 +60,29 @@ fn writes_are_told(alloc: Global, text: &[u8]) -> Result<bool, AllocError> {
 fn reads_nothing(alloc: Global, text: &[u8]) -> Result<bool, AllocError> {
     let ending = done(text);
     Ok(
-        ends_so(alloc, FileCall::OpenFile, 1, &ending)?
-            && ends_so(alloc, FileCall::Read, 1, &ending)?
-            && ends_so(alloc, FileCall::CreateFile, 1, &unwritten(OLDER))?
-            && ends_so(alloc, FileCall::CreateFile, 2, &ending)?,
+        ends_so(alloc, &WORDS, FileCall::OpenFile, 1, &ending)?
+            && ends_so(alloc, &WORDS, FileCall::Read, 1, &ending)?
+            && ends_so(alloc, &WORDS, FileCall::CreateFile, 1, &unwritten(OLDER))?
+            && ends_so(alloc, &WORDS, FileCall::CreateFile, 2, &ending)?,
     )
+}
+
+/// What the run writes if no call fails.
+fn text_in(alloc: Global, outside: &mut Outside) -> Result<Vec<u8>, AllocError> {
+    prepare(outside, PROBLEM)?;
+    outside.answer(alloc, &WORDS)?;
+    Vec::from_slice(alloc, outside.content("output.sas").unwrap_or(&[]))
+}
+
+fn text(alloc: Global) -> Result<Vec<u8>, AllocError> {
+    let mut outside = Outside::new(alloc);
+    text_in(alloc, &mut outside)
 }
 
 /// Whether all that holds of what a run without a failure writes.
 fn is_told(alloc: Global) -> Result<bool, AllocError> {
-    let mut whole = prepared(alloc, PROBLEM)?;
-    whole.room("output.sas", 4000)?;
-    let status = answer(alloc, &mut whole, &WORDS)?;
-    match whole.files.content("output.sas") {
-        Some(text) => Ok(
-            status == Status::Done
-                && !text.is_empty()
-                && reads_nothing(alloc, text)?
-                && writes_are_told(alloc, text)?,
-        ),
-        None => Ok(false),
-    }
+    let text = text(alloc)?;
+    Ok(!text.is_empty() && reads_nothing(alloc, &text)? && writes_are_told(alloc, &text)?)
 }
 
 #[test]

@@ -1,6 +1,8 @@
 //! Each print fails once, whatever is printed.
 
-use super::{Ending, MAPPED, OLDER, Outside, PROBLEM, SUMMARY, TEXT, answer, prepared};
+use super::{MAPPED, OLDER, files, prepare};
+use calls_in_memory::switch::{PROBLEM, SUMMARY, TEXT};
+use calls_in_memory::{Ending, Outside};
 use std::alloc::{AllocError, Global};
 use std::test::*;
 use translator::Status;
@@ -21,6 +23,7 @@ static CASES: [Case; 7] = [
         ending: Ending {
             status: Status::Done,
             printed: SUMMARY,
+            name: "output.sas",
             output: Some(TEXT),
         },
     },
@@ -31,6 +34,7 @@ static CASES: [Case; 7] = [
         ending: Ending {
             status: Status::Usage,
             printed: b"usage: translate DOMAIN PROBLEM [options]\n",
+            name: "output.sas",
             output: Some(OLDER),
         },
     },
@@ -41,6 +45,7 @@ static CASES: [Case; 7] = [
         ending: Ending {
             status: Status::InputFault,
             printed: b"translate: p.pddl:2: unknown predicate\n",
+            name: "output.sas",
             output: Some(OLDER),
         },
     },
@@ -51,6 +56,7 @@ static CASES: [Case; 7] = [
         ending: Ending {
             status: Status::Device,
             printed: b"translate: cannot read y.pddl\n",
+            name: "output.sas",
             output: Some(OLDER),
         },
     },
@@ -61,6 +67,7 @@ static CASES: [Case; 7] = [
         ending: Ending {
             status: Status::Device,
             printed: b"translate: cannot write output.sas\n",
+            name: "output.sas",
             output: Some(b"begin_version\n3"),
         },
     },
@@ -71,6 +78,7 @@ static CASES: [Case; 7] = [
         ending: Ending {
             status: Status::Done,
             printed: MAPPED,
+            name: "output.sas",
             output: Some(TEXT),
         },
     },
@@ -81,6 +89,7 @@ static CASES: [Case; 7] = [
         ending: Ending {
             status: Status::Device,
             printed: b"translate: cannot read no.plan\n",
+            name: "output.sas",
             output: Some(OLDER),
         },
     },
@@ -89,9 +98,10 @@ static CASES: [Case; 7] = [
 impl Case {
     /// How the run ends whose nth print fails.
     fn answer(&self, alloc: Global, outside: &mut Outside, nth: u64) -> Result<Status, AllocError> {
+        prepare(outside, self.problem)?;
         outside.room("output.sas", self.room)?;
         outside.fail_print(nth)?;
-        answer(alloc, outside, self.names)
+        outside.answer(alloc, self.names)
     }
 
     /// Whether the run ended with 30, printed a front of its text, and left files as it would else.
@@ -100,30 +110,30 @@ impl Case {
         let ending = Ending {
             status: Status::Device,
             printed,
-            output: self.ending.output,
+            ..self.ending
         };
         status == ending.status
-            && outside.stands(&ending, "output.sas", self.problem)
+            && outside.stands(&files(self.problem), &ending)
             && self.ending.printed.starts_with(printed)
             && printed.len() < self.ending.printed.len()
     }
 
     /// Whether the run ended as it should.
     fn is_whole(&self, outside: &Outside, status: Status) -> bool {
-        status == self.ending.status && outside.stands(&self.ending, "output.sas", self.problem)
+        status == self.ending.status && outside.stands(&files(self.problem), &self.ending)
     }
 }
 
 /// Whether the run is cut whose nth print fails, and at the first one prints nothing.
 fn is_cut(alloc: Global, case: &Case, nth: u64) -> Result<bool, AllocError> {
-    let mut outside = prepared(alloc, case.problem)?;
+    let mut outside = Outside::new(alloc);
     let status = case.answer(alloc, &mut outside, nth)?;
     Ok(case.is_cut(&outside, status) && (nth > 1 || outside.printed().is_empty()))
 }
 
 /// Whether the run in which an nth print isn't made ends as it should.
 fn is_whole(alloc: Global, case: &Case, nth: u64) -> Result<bool, AllocError> {
-    let mut outside = prepared(alloc, case.problem)?;
+    let mut outside = Outside::new(alloc);
     let status = case.answer(alloc, &mut outside, nth)?;
     Ok(case.is_whole(&outside, status))
 }

@@ -1,13 +1,14 @@
 //! Odd forms that are translated.
 
-use super::{SUMMARY, is_written, tells};
+use super::is_written;
+use calls_in_memory::switch::{DOMAIN, PROBLEM};
 use std::alloc::{AllocError, Global};
 use std::test::*;
 
 /// Requirements in the problem, and carriage returns in both files.
 static SWITCHES: [(&[u8], &[u8]); 2] = [
     (
-        super::DOMAIN,
+        DOMAIN,
         b"(define (problem one) (:requirements :strips) (:domain switch) (:init (off)) (:goal (on)))",
     ),
     (
@@ -43,6 +44,6 @@ fn a_hundred_predicates_and_empty_effects_are_translated(
     rt: HostRuntime,
 ) -> Result<(), AllocError> {
     let domain = large_domain(rt.alloc())?;
-    assert!(rt; tells(rt.alloc(), domain.as_bytes(), super::PROBLEM, SUMMARY)?);
+    assert!(rt; is_written(rt.alloc(), domain.as_bytes(), PROBLEM)?);
     Ok(())
 }

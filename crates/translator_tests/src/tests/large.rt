@@ -1,10 +1,12 @@
-//! Larger tasks, whose texts follow a rule.
+//! Larger tasks.
 
-use super::{PROBLEM, gives, tells};
+use super::written::Row;
+use super::{WORDS, is_written, tells};
+use calls_in_memory::switch::PROBLEM;
 use std::alloc::{AllocError, Global};
 use std::test::*;
 
-const GRIPPER: &[u8] = b"(define (domain gripper)
+const GRIPPER: &str = "(define (domain gripper)
  (:requirements :strips :typing)
  (:types room ball gripper)
  (:predicates (at-robby ?r - room) (at ?b - ball ?r - room)
@@ -20,7 +22,7 @@ const GRIPPER: &[u8] = b"(define (domain gripper)
   :effect (and (at ?b ?r) (free ?g) (not (carry ?b ?g)))))
 ";
 
-const FOUR_BALLS: &[u8] = b"(define (problem made)
+const CARRY_FOUR: &str = "(define (problem made)
  (:domain gripper)
  (:objects rooma roomb - room left right - gripper
   ball1 ball2 ball3 ball4 - ball)
@@ -29,140 +31,177 @@ const FOUR_BALLS: &[u8] = b"(define (problem made)
  (:goal (and (at ball1 roomb) (at ball2 roomb) (at ball3 roomb) (at ball4 roomb))))
 ";
 
-/// The rooms and the grippers, in the order of their objects.
-static ROOMS: [&str; 2] = ["rooma", "roomb"];
+/// What each of two hands has, where the robot is, and the place of each ball, which has none while it is carried.
+pub(super) static FOUR_BALLS: Row = Row {
+    domain: GRIPPER,
+    problem: CARRY_FOUR,
+    metric: "0",
+    variables: &[
+        (
+            "-1",
+            "Atom free(left) / Atom carry(ball1, left) / Atom carry(ball2, left) / Atom carry(ball3, left) / Atom carry(ball4, left)",
+        ),
+        (
+            "-1",
+            "Atom free(right) / Atom carry(ball1, right) / Atom carry(ball2, right) / Atom carry(ball3, right) / Atom carry(ball4, right)",
+        ),
+        ("-1", "Atom at-robby(rooma) / Atom at-robby(roomb)"),
+        (
+            "-1",
+            "Atom at(ball1, rooma) / Atom at(ball1, roomb) / <none of those>",
+        ),
+        (
+            "-1",
+            "Atom at(ball2, rooma) / Atom at(ball2, roomb) / <none of those>",
+        ),
+        (
+            "-1",
+            "Atom at(ball3, rooma) / Atom at(ball3, roomb) / <none of those>",
+        ),
+        (
+            "-1",
+            "Atom at(ball4, rooma) / Atom at(ball4, roomb) / <none of those>",
+        ),
+    ],
+    // What the left hand has, where each ball is, what the right hand has, and where the robot is.
+    groups: &[
+        "0 0 / 0 1 / 0 2 / 0 3 / 0 4",
+        "0 1 / 1 1 / 3 0 / 3 1",
+        "0 2 / 1 2 / 4 0 / 4 1",
+        "0 3 / 1 3 / 5 0 / 5 1",
+        "0 4 / 1 4 / 6 0 / 6 1",
+        "1 0 / 1 1 / 1 2 / 1 3 / 1 4",
+        "2 0 / 2 1",
+    ],
+    state: "0 / 0 / 0 / 0 / 0 / 0 / 0",
+    goal: "4 / 3 1 / 4 1 / 5 1 / 6 1",
+    operators: &[
+        "drop ball1 rooma left / 1 / 2 0 / 2 / 0 0 1 0 / 0 3 -1 0 / 1",
+        "drop ball1 rooma right / 1 / 2 0 / 2 / 0 1 1 0 / 0 3 -1 0 / 1",
+        "drop ball1 roomb left / 1 / 2 1 / 2 / 0 0 1 0 / 0 3 -1 1 / 1",
+        "drop ball1 roomb right / 1 / 2 1 / 2 / 0 1 1 0 / 0 3 -1 1 / 1",
+        "drop ball2 rooma left / 1 / 2 0 / 2 / 0 0 2 0 / 0 4 -1 0 / 1",
+        "drop ball2 rooma right / 1 / 2 0 / 2 / 0 1 2 0 / 0 4 -1 0 / 1",
+        "drop ball2 roomb left / 1 / 2 1 / 2 / 0 0 2 0 / 0 4 -1 1 / 1",
+        "drop ball2 roomb right / 1 / 2 1 / 2 / 0 1 2 0 / 0 4 -1 1 / 1",
+        "drop ball3 rooma left / 1 / 2 0 / 2 / 0 0 3 0 / 0 5 -1 0 / 1",
+        "drop ball3 rooma right / 1 / 2 0 / 2 / 0 1 3 0 / 0 5 -1 0 / 1",
+        "drop ball3 roomb left / 1 / 2 1 / 2 / 0 0 3 0 / 0 5 -1 1 / 1",
+        "drop ball3 roomb right / 1 / 2 1 / 2 / 0 1 3 0 / 0 5 -1 1 / 1",
+        "drop ball4 rooma left / 1 / 2 0 / 2 / 0 0 4 0 / 0 6 -1 0 / 1",
+        "drop ball4 rooma right / 1 / 2 0 / 2 / 0 1 4 0 / 0 6 -1 0 / 1",
+        "drop ball4 roomb left / 1 / 2 1 / 2 / 0 0 4 0 / 0 6 -1 1 / 1",
+        "drop ball4 roomb right / 1 / 2 1 / 2 / 0 1 4 0 / 0 6 -1 1 / 1",
+        "move rooma roomb / 0 / 1 / 0 2 0 1 / 1",
+        "move roomb rooma / 0 / 1 / 0 2 1 0 / 1",
+        "pick ball1 rooma left / 1 / 2 0 / 2 / 0 0 0 1 / 0 3 0 2 / 1",
+        "pick ball1 rooma right / 1 / 2 0 / 2 / 0 1 0 1 / 0 3 0 2 / 1",
+        "pick ball1 roomb left / 1 / 2 1 / 2 / 0 0 0 1 / 0 3 1 2 / 1",
+        "pick ball1 roomb right / 1 / 2 1 / 2 / 0 1 0 1 / 0 3 1 2 / 1",
+        "pick ball2 rooma left / 1 / 2 0 / 2 / 0 0 0 2 / 0 4 0 2 / 1",
+        "pick ball2 rooma right / 1 / 2 0 / 2 / 0 1 0 2 / 0 4 0 2 / 1",
+        "pick ball2 roomb left / 1 / 2 1 / 2 / 0 0 0 2 / 0 4 1 2 / 1",
+        "pick ball2 roomb right / 1 / 2 1 / 2 / 0 1 0 2 / 0 4 1 2 / 1",
+        "pick ball3 rooma left / 1 / 2 0 / 2 / 0 0 0 3 / 0 5 0 2 / 1",
+        "pick ball3 rooma right / 1 / 2 0 / 2 / 0 1 0 3 / 0 5 0 2 / 1",
+        "pick ball3 roomb left / 1 / 2 1 / 2 / 0 0 0 3 / 0 5 1 2 / 1",
+        "pick ball3 roomb right / 1 / 2 1 / 2 / 0 1 0 3 / 0 5 1 2 / 1",
+        "pick ball4 rooma left / 1 / 2 0 / 2 / 0 0 0 4 / 0 6 0 2 / 1",
+        "pick ball4 rooma right / 1 / 2 0 / 2 / 0 1 0 4 / 0 6 0 2 / 1",
+        "pick ball4 roomb left / 1 / 2 1 / 2 / 0 0 0 4 / 0 6 1 2 / 1",
+        "pick ball4 roomb right / 1 / 2 1 / 2 / 0 1 0 4 / 0 6 1 2 / 1",
+    ],
+    rules: &[],
+    found: (12, 3),
+};
 
-static GRIPPERS: [&str; 2] = ["left", "right"];
-
-/// What each of the two hands has: nothing, or one of the balls.
-static HANDS: &str =
-    "begin_variable\nvar0\n-1\n5\nAtom free(left)\nAtom carry(ball1, left)\nAtom carry(ball2, left)\nAtom carry(ball3, left)\nAtom carry(ball4, left)\nend_variable
-begin_variable\nvar1\n-1\n5\nAtom free(right)\nAtom carry(ball1, right)\nAtom carry(ball2, right)\nAtom carry(ball3, right)\nAtom carry(ball4, right)\nend_variable
-";
-
-/// The number of the robot's variable. Behind it stand those of the balls.
-const ROBOT: usize = 2;
-
-/// The hands, the robot's place, and the place of each ball, which has none while it is carried. With whole groups each
-/// gripper is a place of it too.
-fn push_variables(alloc: Global, text: &mut String, full: bool) -> Result<(), AllocError> {
-    text.push_str("7\n")?;
-    text.push_str(HANDS)?;
-    text.push_str(
-        "begin_variable\nvar2\n-1\n2\nAtom at-robby(rooma)\nAtom at-robby(roomb)\nend_variable\n",
-    )?;
-    for ball in 1..5usize {
-        let number = ROBOT + ball;
-        let block = if full {
-            format!(in alloc;
-                "begin_variable\nvar{number}\n-1\n4\nAtom at(ball{ball}, rooma)\nAtom at(ball{ball}, roomb)\nAtom carry(ball{ball}, left)\nAtom carry(ball{ball}, right)\nend_variable\n"
-            )?
-        } else {
-            format!(in alloc;
-                "begin_variable\nvar{number}\n-1\n3\nAtom at(ball{ball}, rooma)\nAtom at(ball{ball}, roomb)\n<none of those>\nend_variable\n"
-            )?
-        };
-        text.push_str(&block)?;
-    }
-    Ok(())
-}
-
-/// What the left hand has, where each ball is, what the right hand has, and where the robot is.
-fn push_groups(alloc: Global, text: &mut String) -> Result<(), AllocError> {
-    text.push_str("7\nbegin_mutex_group\n5\n0 0\n0 1\n0 2\n0 3\n0 4\nend_mutex_group\n")?;
-    for ball in 1..5usize {
-        let place = ROBOT + ball;
-        let block = format!(in alloc;
-            "begin_mutex_group\n4\n0 {ball}\n1 {ball}\n{place} 0\n{place} 1\nend_mutex_group\n"
-        )?;
-        text.push_str(&block)?;
-    }
-    text.push_str("begin_mutex_group\n5\n1 0\n1 1\n1 2\n1 3\n1 4\nend_mutex_group\n")?;
-    text.push_str("begin_mutex_group\n2\n2 0\n2 1\nend_mutex_group\n")
-}
-
-/// Whether an operator takes a ball or lets it go.
-#[derive(Clone, Copy, PartialEq, Eq)]
-enum Handling {
-    Drop,
-    Pick,
-}
-
-/// The operators that take or let go each of the four balls, in each of the two rooms, with each of the two grippers. Only
-/// with whole groups is it asked of the ball too that it is carried.
-fn push_handlings(
-    alloc: Global,
-    text: &mut String,
-    handling: Handling,
-    full: bool,
-) -> Result<(), AllocError> {
-    for number in 0..16usize {
-        let (ball, room, gripper) = (number / 4 + 1, number / 2 % 2, number % 2);
-        let place = ROBOT + ball;
-        let carried = if full { 2 + gripper } else { 2 };
-        let before = if full { ["2", "3"][gripper] } else { "-1" };
-        let objects = format!(in alloc; "ball{ball} {} {}", ROOMS[room], GRIPPERS[gripper])?;
-        let block = match handling {
-            Handling::Drop => format!(in alloc;
-                "begin_operator\ndrop {objects}\n1\n2 {room}\n2\n0 {gripper} {ball} 0\n0 {place} {before} {room}\n1\nend_operator\n"
-            )?,
-            Handling::Pick => format!(in alloc;
-                "begin_operator\npick {objects}\n1\n2 {room}\n2\n0 {gripper} 0 {ball}\n0 {place} {room} {carried}\n1\nend_operator\n"
-            )?,
-        };
-        text.push_str(&block)?;
-    }
-    Ok(())
-}
-
-/// The operators that move the robot from one room to the other.
-const MOVES: &str = "begin_operator
-move rooma roomb
-0
-1
-0 2 0 1
-1
-end_operator
-begin_operator
-move roomb rooma
-0
-1
-0 2 1 0
-1
-end_operator
-";
-
-/// The task of four balls, with whole groups or without.
-pub(super) fn four_balls(alloc: Global, full: bool) -> Result<String, AllocError> {
-    let mut text = String::new(alloc);
-    push_four_balls(alloc, &mut text, full)?;
-    Ok(text)
-}
-
-fn push_four_balls(alloc: Global, text: &mut String, full: bool) -> Result<(), AllocError> {
-    text.push_str("begin_version\n3\nend_version\nbegin_metric\n0\nend_metric\n")?;
-    push_variables(alloc, text, full)?;
-    push_groups(alloc, text)?;
-    text.push_str("begin_state\n0\n0\n0\n0\n0\n0\n0\nend_state\n")?;
-    text.push_str("begin_goal\n4\n3 1\n4 1\n5 1\n6 1\nend_goal\n34\n")?;
-    push_handlings(alloc, text, Handling::Drop, full)?;
-    text.push_str(MOVES)?;
-    push_handlings(alloc, text, Handling::Pick, full)?;
-    text.push_str("0\n")
-}
+/// The same of made texts, with whole groups: each gripper is a place of a ball too, and is asked of the ball.
+pub(super) static FOUR_WHOLE_BALLS: Row = Row {
+    domain: "",
+    problem: "",
+    metric: "0",
+    variables: &[
+        (
+            "-1",
+            "Atom free(left) / Atom carry(ball1, left) / Atom carry(ball2, left) / Atom carry(ball3, left) / Atom carry(ball4, left)",
+        ),
+        (
+            "-1",
+            "Atom free(right) / Atom carry(ball1, right) / Atom carry(ball2, right) / Atom carry(ball3, right) / Atom carry(ball4, right)",
+        ),
+        ("-1", "Atom at-robby(rooma) / Atom at-robby(roomb)"),
+        (
+            "-1",
+            "Atom at(ball1, rooma) / Atom at(ball1, roomb) / Atom carry(ball1, left) / Atom carry(ball1, right)",
+        ),
+        (
+            "-1",
+            "Atom at(ball2, rooma) / Atom at(ball2, roomb) / Atom carry(ball2, left) / Atom carry(ball2, right)",
+        ),
+        (
+            "-1",
+            "Atom at(ball3, rooma) / Atom at(ball3, roomb) / Atom carry(ball3, left) / Atom carry(ball3, right)",
+        ),
+        (
+            "-1",
+            "Atom at(ball4, rooma) / Atom at(ball4, roomb) / Atom carry(ball4, left) / Atom carry(ball4, right)",
+        ),
+    ],
+    // What the left hand has, where each ball is, what the right hand has, and where the robot is.
+    groups: &[
+        "0 0 / 0 1 / 0 2 / 0 3 / 0 4",
+        "0 1 / 1 1 / 3 0 / 3 1",
+        "0 2 / 1 2 / 4 0 / 4 1",
+        "0 3 / 1 3 / 5 0 / 5 1",
+        "0 4 / 1 4 / 6 0 / 6 1",
+        "1 0 / 1 1 / 1 2 / 1 3 / 1 4",
+        "2 0 / 2 1",
+    ],
+    state: "0 / 0 / 0 / 0 / 0 / 0 / 0",
+    goal: "4 / 3 1 / 4 1 / 5 1 / 6 1",
+    operators: &[
+        "drop ball1 rooma left / 1 / 2 0 / 2 / 0 0 1 0 / 0 3 2 0 / 1",
+        "drop ball1 rooma right / 1 / 2 0 / 2 / 0 1 1 0 / 0 3 3 0 / 1",
+        "drop ball1 roomb left / 1 / 2 1 / 2 / 0 0 1 0 / 0 3 2 1 / 1",
+        "drop ball1 roomb right / 1 / 2 1 / 2 / 0 1 1 0 / 0 3 3 1 / 1",
+        "drop ball2 rooma left / 1 / 2 0 / 2 / 0 0 2 0 / 0 4 2 0 / 1",
+        "drop ball2 rooma right / 1 / 2 0 / 2 / 0 1 2 0 / 0 4 3 0 / 1",
+        "drop ball2 roomb left / 1 / 2 1 / 2 / 0 0 2 0 / 0 4 2 1 / 1",
+        "drop ball2 roomb right / 1 / 2 1 / 2 / 0 1 2 0 / 0 4 3 1 / 1",
+        "drop ball3 rooma left / 1 / 2 0 / 2 / 0 0 3 0 / 0 5 2 0 / 1",
+        "drop ball3 rooma right / 1 / 2 0 / 2 / 0 1 3 0 / 0 5 3 0 / 1",
+        "drop ball3 roomb left / 1 / 2 1 / 2 / 0 0 3 0 / 0 5 2 1 / 1",
+        "drop ball3 roomb right / 1 / 2 1 / 2 / 0 1 3 0 / 0 5 3 1 / 1",
+        "drop ball4 rooma left / 1 / 2 0 / 2 / 0 0 4 0 / 0 6 2 0 / 1",
+        "drop ball4 rooma right / 1 / 2 0 / 2 / 0 1 4 0 / 0 6 3 0 / 1",
+        "drop ball4 roomb left / 1 / 2 1 / 2 / 0 0 4 0 / 0 6 2 1 / 1",
+        "drop ball4 roomb right / 1 / 2 1 / 2 / 0 1 4 0 / 0 6 3 1 / 1",
+        "move rooma roomb / 0 / 1 / 0 2 0 1 / 1",
+        "move roomb rooma / 0 / 1 / 0 2 1 0 / 1",
+        "pick ball1 rooma left / 1 / 2 0 / 2 / 0 0 0 1 / 0 3 0 2 / 1",
+        "pick ball1 rooma right / 1 / 2 0 / 2 / 0 1 0 1 / 0 3 0 3 / 1",
+        "pick ball1 roomb left / 1 / 2 1 / 2 / 0 0 0 1 / 0 3 1 2 / 1",
+        "pick ball1 roomb right / 1 / 2 1 / 2 / 0 1 0 1 / 0 3 1 3 / 1",
+        "pick ball2 rooma left / 1 / 2 0 / 2 / 0 0 0 2 / 0 4 0 2 / 1",
+        "pick ball2 rooma right / 1 / 2 0 / 2 / 0 1 0 2 / 0 4 0 3 / 1",
+        "pick ball2 roomb left / 1 / 2 1 / 2 / 0 0 0 2 / 0 4 1 2 / 1",
+        "pick ball2 roomb right / 1 / 2 1 / 2 / 0 1 0 2 / 0 4 1 3 / 1",
+        "pick ball3 rooma left / 1 / 2 0 / 2 / 0 0 0 3 / 0 5 0 2 / 1",
+        "pick ball3 rooma right / 1 / 2 0 / 2 / 0 1 0 3 / 0 5 0 3 / 1",
+        "pick ball3 roomb left / 1 / 2 1 / 2 / 0 0 0 3 / 0 5 1 2 / 1",
+        "pick ball3 roomb right / 1 / 2 1 / 2 / 0 1 0 3 / 0 5 1 3 / 1",
+        "pick ball4 rooma left / 1 / 2 0 / 2 / 0 0 0 4 / 0 6 0 2 / 1",
+        "pick ball4 rooma right / 1 / 2 0 / 2 / 0 1 0 4 / 0 6 0 3 / 1",
+        "pick ball4 roomb left / 1 / 2 1 / 2 / 0 0 0 4 / 0 6 1 2 / 1",
+        "pick ball4 roomb right / 1 / 2 1 / 2 / 0 1 0 4 / 0 6 1 3 / 1",
+    ],
+    rules: &[],
+    found: (12, 3),
+};
 
 #[test]
 fn gripper_with_four_balls_has_seven_variables(rt: HostRuntime) -> Result<(), AllocError> {
-    let text = four_balls(rt.alloc(), false)?;
-    let summary = "Translator candidates: 12
-Translator invariants: 3
-Translator variables: 7
-Translator facts: 24
-Translator mutex groups: 7
-Translator operators: 34
-Translator axioms: 0
-";
-    assert!(rt; gives(rt.alloc(), GRIPPER, FOUR_BALLS, &text, summary)?);
+    assert!(rt; FOUR_BALLS.is_written_by(rt.alloc(), &WORDS)?);
     Ok(())
 }
 
@@ -172,7 +211,7 @@ fn equal_operators_of_alternatives_are_written_once(rt: HostRuntime) -> Result<(
     let domain = format!(in rt.alloc();
         "(define (domain switch) (:predicates (on) (off)) (:action flip :precondition (or {parts}) :effect (and (on) (not (off)))))"
     )?;
-    assert!(rt; super::is_written(rt.alloc(), domain.as_bytes(), PROBLEM)?);
+    assert!(rt; is_written(rt.alloc(), domain.as_bytes(), PROBLEM)?);
     Ok(())
 }
 
@@ -206,6 +245,7 @@ Translator mutex groups: 1
 Translator operators: 2200
 Translator axioms: 0
 ";
-    assert!(rt; tells(rt.alloc(), LEAVE, problem.as_bytes(), summary)?);
+    let files = [("d.pddl", LEAVE), ("p.pddl", problem.as_bytes())];
+    assert!(rt; tells(rt.alloc(), &files, &WORDS, summary)?);
     Ok(())
 }

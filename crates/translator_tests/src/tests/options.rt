@@ -1,14 +1,11 @@
 //! The options of the command line.
 
-use super::{CANDIDATES, DOMAIN, Outside, PROBLEM, SUMMARY, TEXT, answers, prepared};
+use super::{CANDIDATES, SWITCH, USAGE};
+use calls_in_memory::switch::{SUMMARY, TEXT};
+use calls_in_memory::{Ending, Outside, ends};
 use std::alloc::{AllocError, Global};
 use std::test::*;
 use translator::Status;
-
-/// The switch task's files.
-fn switch(alloc: Global) -> Result<Outside, AllocError> {
-    prepared(alloc, DOMAIN, PROBLEM)
-}
 
 /// Words with which the switch task is written to the usual file, and all three candidates are tried.
 static ACCEPTED: [&[&str]; 4] = [
@@ -24,22 +21,11 @@ static ACCEPTED: [&[&str]; 4] = [
     ],
 ];
 
-/// Whether these words write this text of the switch task and print this.
-fn are_done(
-    alloc: Global,
-    words: &[&str],
-    text: &[u8],
-    printed: &[u8],
-) -> Result<bool, AllocError> {
-    let mut outside = switch(alloc)?;
-    let is_done = answers(alloc, words, &mut outside, Status::Done)?;
-    Ok(is_done && outside.holds("output.sas", text) && outside.has_printed(printed))
-}
-
 #[test]
 fn options_that_change_nothing_are_accepted(rt: HostRuntime) -> Result<(), AllocError> {
+    let ending = Ending::done(TEXT, SUMMARY);
     for (number, words) in ACCEPTED.iter().enumerate() {
-        assert!(rt; are_done(rt.alloc(), words, TEXT, SUMMARY)?, "row {number}");
+        assert!(rt; ends(rt.alloc(), &SWITCH, words, &ending)?, "row {number}");
     }
     Ok(())
 }
@@ -71,59 +57,67 @@ static REFUSED: [&[&str]; 17] = [
     &["translate", "--make", "4", "--make", "4"],
 ];
 
-const USAGE: &[u8] = b"usage: translate DOMAIN PROBLEM [options]\n";
-
-/// Whether these words are refused, and nothing is created.
-fn are_refused(alloc: Global, words: &[&str]) -> Result<bool, AllocError> {
-    let mut outside = switch(alloc)?;
-    let is_refused = answers(alloc, words, &mut outside, Status::Usage)?;
-    Ok(is_refused && outside.has_no_output() && outside.has_printed(USAGE))
-}
-
 #[test]
 fn other_words_are_refused(rt: HostRuntime) -> Result<(), AllocError> {
+    let ending = Ending::refused(Status::Usage, USAGE);
     for (number, words) in REFUSED.iter().enumerate() {
-        assert!(rt; are_refused(rt.alloc(), words)?, "row {number}");
+        assert!(rt; ends(rt.alloc(), &SWITCH, words, &ending)?, "row {number}");
     }
     Ok(())
 }
 
 const NAMED: [&str; 5] = ["translate", "--sas-file", "task.sas", "d.pddl", "p.pddl"];
 
-/// Whether the text is written to the file that the words name, and no other is created.
-fn is_written_elsewhere(alloc: Global) -> Result<bool, AllocError> {
-    let mut outside = switch(alloc)?;
-    outside.room_in("task.sas", 1000)?;
-    let is_done = answers(alloc, &NAMED, &mut outside, Status::Done)?;
-    Ok(
-        is_done
-            && outside.holds("task.sas", TEXT)
-            && outside.has_no_output()
-            && outside.has_printed(SUMMARY),
-    )
+/// A file that can't be created is told by its name. No other is.
+const UNWRITABLE: Ending<'static> = Ending {
+    status: Status::Device,
+    printed: b"translate: cannot write task.sas\n",
+    name: "task.sas",
+    output: None,
+};
+
+/// Whether the text is written to the file that the words name, which has room for it, and no other is created.
+fn is_written_to(
+    alloc: Global,
+    outside: &mut Outside,
+    name: &str,
+    words: &[&str],
+) -> Result<bool, AllocError> {
+    outside.prepare(&SWITCH)?;
+    outside.room(name, 1000)?;
+    let ending = Ending {
+        name,
+        ..Ending::done(TEXT, SUMMARY)
+    };
+    let is_written = outside.ends(alloc, &SWITCH, words, &ending)?;
+    Ok(is_written && outside.holds("output.sas", None))
 }
 
-/// Whether a file without room is told by its name.
-fn is_told_unwritable(alloc: Global) -> Result<bool, AllocError> {
-    let mut outside = switch(alloc)?;
-    let has_failed = answers(alloc, &NAMED, &mut outside, Status::Device)?;
-    Ok(has_failed && outside.has_printed(b"translate: cannot write task.sas\n"))
-}
+/// Names of the output, and words that give them. An input file is read before the output takes its place.
+static OUTPUTS: [(&str, &[&str]); 2] = [
+    ("task.sas", &NAMED),
+    (
+        "d.pddl",
+        &["translate", "d.pddl", "p.pddl", "--sas-file=d.pddl"],
+    ),
+];
 
-/// Whether the output takes the place of an input file once that is read.
-fn is_written_over_the_domain(alloc: Global) -> Result<bool, AllocError> {
-    let mut outside = switch(alloc)?;
-    outside.room_in("d.pddl", 1000)?;
-    let words = ["translate", "d.pddl", "p.pddl", "--sas-file=d.pddl"];
-    let is_done = answers(alloc, &words, &mut outside, Status::Done)?;
-    Ok(is_done && outside.holds("d.pddl", TEXT))
+fn is_written_with(alloc: Global, name: &str, words: &[&str]) -> Result<bool, AllocError> {
+    let mut outside = Outside::new(alloc);
+    is_written_to(alloc, &mut outside, name, words)
 }
 
 #[test]
 fn the_output_has_the_name_that_is_given(rt: HostRuntime) -> Result<(), AllocError> {
-    assert!(rt; is_written_elsewhere(rt.alloc())?);
-    assert!(rt; is_told_unwritable(rt.alloc())?);
-    assert!(rt; is_written_over_the_domain(rt.alloc())?);
+    for (name, words) in OUTPUTS {
+        assert!(rt; is_written_with(rt.alloc(), name, words)?, "{name}");
+    }
+    Ok(())
+}
+
+#[test]
+fn an_output_that_cannot_be_created_is_told_by_its_name(rt: HostRuntime) -> Result<(), AllocError> {
+    assert!(rt; ends(rt.alloc(), &SWITCH, &NAMED, &UNWRITABLE)?);
     Ok(())
 }
 
@@ -196,7 +190,12 @@ fn is_written_within(
     let printed = format!(in alloc;
         "Translator candidates: {candidates}\nTranslator invariants: {invariants}\nTranslator variables: {variables}\nTranslator facts: {facts}\nTranslator mutex groups: {groups}\nTranslator operators: 1\nTranslator axioms: 0\n"
     )?;
-    are_done(alloc, &words, text, printed.as_bytes())
+    ends(
+        alloc,
+        &SWITCH,
+        &words,
+        &Ending::done(text, printed.as_bytes()),
+    )
 }
 
 #[test]

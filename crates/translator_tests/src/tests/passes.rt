@@ -1,18 +1,18 @@
 //! Passes that the words name.
 
-use super::sets::{BACK, BACK_PROBLEM, BELL};
-use super::written::{Row, SHOP, TOUCH, TOUCH_PROBLEM, UNPRICED};
-use super::{DOMAIN, Outside, PROBLEM, WORDS, answers, prepared, words};
-use order_variables::order_variables;
+use super::large::FOUR_BALLS;
+use super::sets::{BACK, BACK_PROBLEM, BELL, PRUNED_BLOCKS};
+use super::written::{EVERYTHING, Row, SHOP, TOUCHED, UNPRICED};
+use super::{SWITCH, USAGE, examples};
+use calls_in_memory::{Ending, Outside, ends};
 use pass_book::{Book, Pass, PassKind};
-use pass_relevance::relevant;
 use sas_task::SasTask;
 use std::alloc::{AllocError, Global};
 use std::test::*;
 use translator::Status;
 
 /// The bell with its variables in order: three operators ring, and twelve move.
-static ORDERED: Row = Row {
+pub(super) static ORDERED: Row = Row {
     domain: BELL,
     problem: "(define (problem b) (:domain bell) (:objects l2 l3 l4) (:init (at l1)) (:goal (rung)))",
     metric: "0",
@@ -82,45 +82,25 @@ static REDUCED: [Row; 2] = [
     },
 ];
 
-/// Whether the call with these passes answers this, with a book that has a pass of each kind.
-fn answers_with(
-    alloc: Global,
-    passes: &str,
-    outside: &mut Outside,
-    status: Status,
-) -> Result<bool, AllocError> {
-    let words = words(alloc, &["translate", "d.pddl", "p.pddl", "--pass", passes])?;
-    let mut book = Book::new(alloc);
-    let run = Box::new(
-        alloc,
-        |alloc: Global, task: &SasTask| order_variables(alloc, task),
-    )?;
-    let kind = PassKind::Order;
-    let has_order = book.add(Pass { kind, run }).is_ok();
-    let run = Box::new(alloc, |alloc: Global, task: &SasTask| relevant(alloc, task))?;
-    let kind = PassKind::Relevance;
-    let has_relevance = book.add(Pass { kind, run }).is_ok();
-    Ok(has_order && has_relevance && outside.answer(alloc, words, &book) == status)
-}
-
 /// Whether these passes give the row's task.
 fn give(alloc: Global, passes: &str, row: &Row) -> Result<bool, AllocError> {
-    let mut outside = prepared(alloc, row.domain.as_bytes(), row.problem.as_bytes())?;
-    outside.room(10_000)?;
-    let is_done = answers_with(alloc, passes, &mut outside, Status::Done)?;
-    let text = row.text(alloc)?;
-    let summary = row.summary(alloc)?;
-    Ok(
-        is_done
-            && outside.holds("output.sas", text.as_bytes())
-            && outside.has_printed(summary.as_bytes()),
-    )
+    row.is_written_by(alloc, &["translate", "d.pddl", "p.pddl", "--pass", passes])
 }
 
+/// Passes that give the bell in order. All of its variables can influence its goal, and each pair of its facts is possible.
+static ORDERING: [&str; 5] = [
+    "order",
+    "order,order",
+    "relevance,order",
+    "order,relevance",
+    "h2,order",
+];
+
 #[test]
-fn variables_are_ordered_once_or_twice(rt: HostRuntime) -> Result<(), AllocError> {
-    assert!(rt; give(rt.alloc(), "order", &ORDERED)?);
-    assert!(rt; give(rt.alloc(), "order,order", &ORDERED)?);
+fn variables_are_ordered_whatever_stays_beside(rt: HostRuntime) -> Result<(), AllocError> {
+    for passes in ORDERING {
+        assert!(rt; give(rt.alloc(), passes, &ORDERED)?, "{passes}");
+    }
     Ok(())
 }
 
@@ -132,80 +112,125 @@ fn what_cannot_influence_the_goal_is_left_out(rt: HostRuntime) -> Result<(), All
     Ok(())
 }
 
+/// The goal is reached by an effect whose condition is the other variable.
 #[test]
-fn passes_of_two_kinds_follow_one_another(rt: HostRuntime) -> Result<(), AllocError> {
-    // All of the bell's variables can influence its goal.
-    assert!(rt; give(rt.alloc(), "relevance,order", &ORDERED)?);
-    assert!(rt; give(rt.alloc(), "order,relevance", &ORDERED)?);
+fn a_condition_of_an_effect_is_relevant(rt: HostRuntime) -> Result<(), AllocError> {
+    assert!(rt; give(rt.alloc(), "relevance", &TOUCHED)?);
     Ok(())
 }
 
-/// Whether the relevance pass leaves the text that is written without it.
-fn is_left(alloc: Global, domain: &[u8], problem: &[u8]) -> Result<bool, AllocError> {
-    let mut without = prepared(alloc, domain, problem)?;
-    let is_written = answers(alloc, &WORDS, &mut without, Status::Done)?;
-    let mut outside = prepared(alloc, domain, problem)?;
-    let is_done = answers_with(alloc, "relevance", &mut outside, Status::Done)?;
-    Ok(is_written && is_done && outside.holds_the_same("output.sas", &without))
+/// Whether no block stands on itself, and tasks stay in which an effect has a condition or there are rules.
+fn prunes(alloc: Global) -> Result<bool, AllocError> {
+    Ok(
+        give(alloc, "h2", &PRUNED_BLOCKS)?
+            && give(alloc, "h2,relevance,h2", &PRUNED_BLOCKS)?
+            && give(alloc, "h2", &TOUCHED)?
+            && give(alloc, "h2", &EVERYTHING[0])?,
+    )
 }
 
 #[test]
-fn a_condition_of_an_effect_is_relevant(rt: HostRuntime) -> Result<(), AllocError> {
-    assert!(rt; is_left(rt.alloc(), TOUCH.as_bytes(), TOUCH_PROBLEM.as_bytes())?);
+fn what_no_pair_of_facts_allows_is_left_out(rt: HostRuntime) -> Result<(), AllocError> {
+    assert!(rt; prunes(rt.alloc())?);
+    Ok(())
+}
+
+fn is_done_in(alloc: Global, outside: &mut Outside, row: &Row) -> Result<bool, AllocError> {
+    outside.prepare(&row.files())?;
+    let words = [
+        "translate",
+        "d.pddl",
+        "p.pddl",
+        "--pass",
+        "h2,relevance,order",
+    ];
+    Ok(outside.answer(alloc, &words)? == Status::Done)
+}
+
+/// Whether the row's files are translated with all passes.
+fn is_done(alloc: Global, row: &Row) -> Result<bool, AllocError> {
+    let mut outside = Outside::new(alloc);
+    is_done_in(alloc, &mut outside, row)
+}
+
+fn are_done(alloc: Global, rows: &[Row]) -> Result<bool, AllocError> {
+    for row in rows {
+        if !is_done(alloc, row)? {
+            return Ok(false);
+        }
+    }
+    Ok(true)
+}
+
+#[test]
+fn all_passes_may_follow_one_another(rt: HostRuntime) -> Result<(), AllocError> {
+    for (number, rows) in examples().iter().enumerate() {
+        assert!(rt; are_done(rt.alloc(), rows)?, "rows {number}");
+    }
+    assert!(rt; is_done(rt.alloc(), &FOUR_BALLS)?);
     Ok(())
 }
 
 /// Lists of passes that name one that there isn't.
-static REFUSED: [&str; 9] = [
+static REFUSED: [&str; 10] = [
     "order,none",
     "",
     ",order",
     "order,",
     "order, order",
     "ORDER",
-    "Relevance",
+    "H2",
     "relevance,",
-    "h2",
+    "h2,",
+    "h3",
 ];
-
-const USAGE: &[u8] = b"usage: translate DOMAIN PROBLEM [options]\n";
-
-/// Whether these passes are refused, and nothing is created.
-fn are_refused(alloc: Global, passes: &str) -> Result<bool, AllocError> {
-    let mut outside = prepared(alloc, DOMAIN, PROBLEM)?;
-    let is_refused = answers_with(alloc, passes, &mut outside, Status::Usage)?;
-    Ok(is_refused && outside.has_no_output() && outside.has_printed(USAGE))
-}
 
 #[test]
 fn other_passes_are_refused(rt: HostRuntime) -> Result<(), AllocError> {
+    let ending = Ending::refused(Status::Usage, USAGE);
     for passes in REFUSED {
-        assert!(rt; are_refused(rt.alloc(), passes)?, "{passes}");
+        let words = ["translate", "d.pddl", "p.pddl", "--pass", passes];
+        assert!(rt; ends(rt.alloc(), &SWITCH, &words, &ending)?, "{passes}");
     }
     Ok(())
+}
+
+const ORDER: [&str; 5] = ["translate", "d.pddl", "p.pddl", "--pass", "order"];
+
+/// Whether the call with this book ends so, and nothing is created.
+fn ends_with(
+    alloc: Global,
+    outside: &mut Outside,
+    book: &Book,
+    ending: &Ending<'_>,
+) -> Result<bool, AllocError> {
+    outside.prepare(&SWITCH)?;
+    let status = outside.answer_by(alloc, &ORDER, book)?;
+    Ok(status == ending.status && outside.stands(&SWITCH, ending))
 }
 
 #[test]
 fn passes_that_the_book_lacks_are_refused(rt: HostRuntime) -> Result<(), AllocError> {
     let alloc = rt.alloc();
-    let mut outside = prepared(alloc, DOMAIN, PROBLEM)?;
-    let words = words(alloc, &["translate", "d.pddl", "p.pddl", "--pass", "order"])?;
-    assert!(rt; outside.answer(alloc, words, &Book::new(alloc)) == Status::Usage);
-    assert!(rt; outside.has_no_output());
+    let mut outside = Outside::new(alloc);
+    let ending = Ending::refused(Status::Usage, USAGE);
+    assert!(rt; ends_with(alloc, &mut outside, &Book::new(alloc), &ending)?);
     Ok(())
+}
+
+/// Whether a pass that always wants memory is called.
+fn calls_the_pass(alloc: Global, outside: &mut Outside) -> Result<bool, AllocError> {
+    let mut book = Book::new(alloc);
+    let kind = PassKind::Order;
+    let run = Box::new(alloc, |_: Global, _: &SasTask| Err(AllocError))?;
+    let is_added = book.add(Pass { kind, run }).is_ok();
+    let ending = Ending::refused(Status::NoMemory, b"translate: out of memory\n");
+    Ok(is_added && ends_with(alloc, outside, &book, &ending)?)
 }
 
 #[test]
 fn the_pass_of_the_book_is_called(rt: HostRuntime) -> Result<(), AllocError> {
-    let alloc = rt.alloc();
-    let mut outside = prepared(alloc, DOMAIN, PROBLEM)?;
-    let words = words(alloc, &["translate", "d.pddl", "p.pddl", "--pass", "order"])?;
-    let mut book = Book::new(alloc);
-    let run = Box::new(alloc, |_: Global, _: &SasTask| Err(AllocError))?;
-    let kind = PassKind::Order;
-    assert!(rt; book.add(Pass { kind, run }).is_ok());
-    assert!(rt; outside.answer(alloc, words, &book) == Status::NoMemory);
-    assert!(rt; outside.has_printed(b"translate: out of memory\n"));
-    assert!(rt; outside.has_no_output());
+    let mut outside = Outside::new(rt.alloc());
+    assert!(rt; calls_the_pass(rt.alloc(), &mut outside)?);
     Ok(())
 }

@@ -1,19 +1,14 @@
 //! Plan files that are mapped back.
 
+use super::are_refused;
 use super::written::SHOP;
-use super::{DOMAIN, Outside, PROBLEM, SUMMARY, TEXT, answers, prepared};
+use calls_in_memory::switch::{DOMAIN, PROBLEM, SUMMARY, TEXT};
+use calls_in_memory::{Ending, ends};
 use std::alloc::{AllocError, Global};
 use std::test::*;
 use translator::Status;
 
 const WORDS: [&str; 5] = ["translate", "d.pddl", "--map-plan", "plan", "p.pddl"];
-
-/// The switch task's files, and a plan file with these bytes.
-fn switch_with(alloc: Global, plan: &[u8]) -> Result<Outside, AllocError> {
-    let mut outside = prepared(alloc, DOMAIN, PROBLEM)?;
-    outside.add("plan", plan)?;
-    Ok(outside)
-}
 
 /// Plans of the switch task, and what is printed of them after the sizes of the task.
 static MAPPED: [(&[u8], &str); 5] = [
@@ -31,23 +26,11 @@ static MAPPED: [(&[u8], &str); 5] = [
     (b"; no step\n\n \t\r\n;", "; cost = 0 (unit cost)\n"),
 ];
 
-/// Whether the words print this after that, and write this text.
-fn prints(
-    alloc: Global,
-    outside: &mut Outside,
-    text: &[u8],
-    sizes: &[u8],
-    lines: &str,
-) -> Result<bool, AllocError> {
-    let mut printed = Vec::from_slice(alloc, sizes)?;
-    printed.extend_from_slice(lines.as_bytes())?;
-    let is_done = answers(alloc, &WORDS, outside, Status::Done)?;
-    Ok(is_done && outside.has_printed(&printed) && outside.holds("output.sas", text))
-}
-
 fn is_mapped(alloc: Global, plan: &[u8], lines: &str) -> Result<bool, AllocError> {
-    let mut outside = switch_with(alloc, plan)?;
-    prints(alloc, &mut outside, TEXT, SUMMARY, lines)
+    let files = [("d.pddl", DOMAIN), ("p.pddl", PROBLEM), ("plan", plan)];
+    let mut printed = Vec::from_slice(alloc, SUMMARY)?;
+    printed.extend_from_slice(lines.as_bytes())?;
+    ends(alloc, &files, &WORDS, &Ending::done(TEXT, &printed))
 }
 
 #[test]
@@ -76,21 +59,9 @@ static REFUSED: [(&[u8], &str); 11] = [
     (b"(flip flip)", "plan:1: unknown step"),
 ];
 
-/// Whether the words end so and print this line, and no file is created.
-fn is_told(
-    alloc: Global,
-    outside: &mut Outside,
-    status: Status,
-    line: &str,
-) -> Result<bool, AllocError> {
-    let printed = format!(in alloc; "translate: {line}\n")?;
-    let is_so = answers(alloc, &WORDS, outside, status)?;
-    Ok(is_so && outside.has_printed(printed.as_bytes()) && outside.has_no_output())
-}
-
 fn is_refused(alloc: Global, plan: &[u8], line: &str) -> Result<bool, AllocError> {
-    let mut outside = switch_with(alloc, plan)?;
-    is_told(alloc, &mut outside, Status::InputFault, line)
+    let files = [("d.pddl", DOMAIN), ("p.pddl", PROBLEM), ("plan", plan)];
+    are_refused(alloc, &files, &WORDS, Status::InputFault, line)
 }
 
 #[test]
@@ -108,37 +79,90 @@ fn is_too_long(alloc: Global) -> Result<bool, AllocError> {
     is_refused(alloc, &plan, "plan:1: file too long")
 }
 
-/// Whether an absent plan file is told, where the pair has no fault.
-fn is_told_absent(alloc: Global) -> Result<bool, AllocError> {
-    let mut outside = prepared(alloc, DOMAIN, PROBLEM)?;
-    is_told(alloc, &mut outside, Status::Device, "cannot read plan")
-}
-
-/// Whether the fault of this problem is told, and nothing of a plan that is at fault or absent.
-fn comes_first(alloc: Global, problem: &[u8], line: &str) -> Result<bool, AllocError> {
-    let mut outside = prepared(alloc, DOMAIN, problem)?;
-    let is_first = is_told(alloc, &mut outside, Status::InputFault, line)?;
-    let mut beside = prepared(alloc, DOMAIN, problem)?;
-    beside.add("plan", b"flip")?;
-    Ok(is_first && is_told(alloc, &mut beside, Status::InputFault, line)?)
-}
+/// The switch task's files without a plan, and files whose problem has no list, without a plan and with one that is at fault.
+/// Behind them stand how the call ends and what it says.
+static BEFORE_THE_PLAN: [(&[(&str, &[u8])], Status, &str); 3] = [
+    (
+        &[("d.pddl", DOMAIN), ("p.pddl", PROBLEM)],
+        Status::Device,
+        "cannot read plan",
+    ),
+    (
+        &[("d.pddl", DOMAIN), ("p.pddl", b"")],
+        Status::InputFault,
+        "p.pddl:1: no list",
+    ),
+    (
+        &[("d.pddl", DOMAIN), ("p.pddl", b""), ("plan", b"flip")],
+        Status::InputFault,
+        "p.pddl:1: no list",
+    ),
+];
 
 #[test]
 fn long_and_absent_plans_are_told_after_the_pair(rt: HostRuntime) -> Result<(), AllocError> {
     assert!(rt; is_too_long(rt.alloc())?);
-    assert!(rt; is_told_absent(rt.alloc())?);
-    assert!(rt; comes_first(rt.alloc(), b"", "p.pddl:1: no list")?);
+    for (number, (files, status, line)) in BEFORE_THE_PLAN.iter().enumerate() {
+        assert!(rt;
+            are_refused(rt.alloc(), files, &WORDS, *status, line)?,
+            "row {number}"
+        );
+    }
     Ok(())
 }
 
 const PRICED: &[u8] = b"(define (problem s) (:domain shop) (:objects a b)
  (:init (= (total-cost) 0) (= (price a) 7) (= (price b) 5)) (:goal (done a)) (:metric minimize (total-cost)))";
 
-/// Whether steps that cost differently are told with the sum of what they cost.
-fn costs_are_added(alloc: Global) -> Result<bool, AllocError> {
-    let mut outside = prepared(alloc, SHOP.as_bytes(), PRICED)?;
-    outside.add("plan", b"(go b)\n(go a)\n(go a)\n")?;
-    let printed = b"Translator candidates: 2
+const PRICED_TEXT: &[u8] = b"begin_version
+3
+end_version
+begin_metric
+1
+end_metric
+2
+begin_variable
+var0
+-1
+2
+Atom done(a)
+NegatedAtom done(a)
+end_variable
+begin_variable
+var1
+-1
+2
+Atom done(b)
+NegatedAtom done(b)
+end_variable
+0
+begin_state
+1
+1
+end_state
+begin_goal
+1
+0 0
+end_goal
+2
+begin_operator
+go a
+0
+1
+0 0 -1 0
+7
+end_operator
+begin_operator
+go b
+0
+1
+0 1 -1 0
+5
+end_operator
+0
+";
+
+const PRICED_PLAN: &[u8] = b"Translator candidates: 2
 Translator invariants: 0
 Translator variables: 2
 Translator facts: 4
@@ -150,12 +174,16 @@ Translator axioms: 0
 (go a)
 ; cost = 19 (general cost)
 ";
-    let is_done = answers(alloc, &WORDS, &mut outside, Status::Done)?;
-    Ok(is_done && outside.has_printed(printed))
-}
 
 #[test]
 fn steps_cost_what_their_operators_do(rt: HostRuntime) -> Result<(), AllocError> {
-    assert!(rt; costs_are_added(rt.alloc())?);
+    let plan = b"(go b)\n(go a)\n(go a)\n";
+    let files = [
+        ("d.pddl", SHOP.as_bytes()),
+        ("p.pddl", PRICED),
+        ("plan", plan.as_slice()),
+    ];
+    let ending = Ending::done(PRICED_TEXT, PRICED_PLAN);
+    assert!(rt; ends(rt.alloc(), &files, &WORDS, &ending)?);
     Ok(())
 }

@@ -1,6 +1,7 @@
 //! The top call on the real files and the standard output.
 
-use super::{DOMAIN, PROBLEM, TEXT, words};
+use calls_in_memory::switch::{DOMAIN, PROBLEM, TEXT};
+use calls_in_memory::words;
 use pass_book::Book;
 use std::alloc::AllocError;
 use std::test::*;

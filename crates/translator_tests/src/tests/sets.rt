@@ -15,13 +15,15 @@ const BLOCKS: &str =
  (:action unstack :parameters (?x ?y) :precondition (and (on ?x ?y) (clear ?x) (handempty))
   :effect (and (holding ?x) (clear ?y) (not (clear ?x)) (not (handempty)) (not (on ?x ?y)))))";
 
+const THREE: &str = "(define (problem three) (:domain blocks) (:objects a b c)
+ (:init (ontable a) (ontable b) (ontable c) (clear a) (clear b) (clear c) (handempty)) (:goal (and (on a b) (on b c))))";
+
 /// Each block stands on one block, on the table or in the hand; has one block on it, is clear or is held; and the hand is
 /// empty or holds one block. So there are seven groups. The first three kinds of places become the variables of a, b and
 /// c, and of the other groups one fact each is left: what is clear, and the empty hand.
-static THREE_BLOCKS: [Row; 1] = [Row {
+pub(super) static THREE_BLOCKS: [Row; 1] = [Row {
     domain: BLOCKS,
-    problem: "(define (problem three) (:domain blocks) (:objects a b c)
- (:init (ontable a) (ontable b) (ontable c) (clear a) (clear b) (clear c) (handempty)) (:goal (and (on a b) (on b c))))",
+    problem: THREE,
     metric: "0",
     variables: &[
         (
@@ -82,6 +84,65 @@ static THREE_BLOCKS: [Row; 1] = [Row {
     rules: &[],
     found: (20, 3),
 }];
+
+/// No block ever stands on itself: no pair of facts lets it be held and clear at once.
+pub(super) static PRUNED_BLOCKS: Row = Row {
+    domain: BLOCKS,
+    problem: THREE,
+    metric: "0",
+    variables: &[
+        (
+            "-1",
+            "Atom on(a, b) / Atom on(a, c) / Atom ontable(a) / Atom holding(a)",
+        ),
+        (
+            "-1",
+            "Atom on(b, a) / Atom on(b, c) / Atom ontable(b) / Atom holding(b)",
+        ),
+        (
+            "-1",
+            "Atom on(c, a) / Atom on(c, b) / Atom ontable(c) / Atom holding(c)",
+        ),
+        ("-1", "Atom clear(a) / NegatedAtom clear(a)"),
+        ("-1", "Atom clear(b) / NegatedAtom clear(b)"),
+        ("-1", "Atom clear(c) / NegatedAtom clear(c)"),
+        ("-1", "Atom handempty() / NegatedAtom handempty()"),
+    ],
+    // Where a is; what is on b, on c and on a; what the hand has; where b and c are.
+    groups: &[
+        "0 0 / 0 1 / 0 2 / 0 3",
+        "0 0 / 1 3 / 2 1 / 4 0",
+        "0 1 / 1 1 / 2 3 / 5 0",
+        "0 3 / 1 0 / 2 0 / 3 0",
+        "0 3 / 1 3 / 2 3 / 6 0",
+        "1 0 / 1 1 / 1 2 / 1 3",
+        "2 0 / 2 1 / 2 2 / 2 3",
+    ],
+    state: "2 / 2 / 2 / 0 / 0 / 0 / 0",
+    goal: "2 / 0 0 / 1 1",
+    operators: &[
+        "pick-up a / 0 / 3 / 0 0 2 3 / 0 3 0 1 / 0 6 0 1 / 1",
+        "pick-up b / 0 / 3 / 0 1 2 3 / 0 4 0 1 / 0 6 0 1 / 1",
+        "pick-up c / 0 / 3 / 0 2 2 3 / 0 5 0 1 / 0 6 0 1 / 1",
+        "put-down a / 0 / 3 / 0 0 3 2 / 0 3 -1 0 / 0 6 -1 0 / 1",
+        "put-down b / 0 / 3 / 0 1 3 2 / 0 4 -1 0 / 0 6 -1 0 / 1",
+        "put-down c / 0 / 3 / 0 2 3 2 / 0 5 -1 0 / 0 6 -1 0 / 1",
+        "stack a b / 0 / 4 / 0 0 3 0 / 0 3 -1 0 / 0 4 0 1 / 0 6 -1 0 / 1",
+        "stack a c / 0 / 4 / 0 0 3 1 / 0 3 -1 0 / 0 5 0 1 / 0 6 -1 0 / 1",
+        "stack b a / 0 / 4 / 0 1 3 0 / 0 3 0 1 / 0 4 -1 0 / 0 6 -1 0 / 1",
+        "stack b c / 0 / 4 / 0 1 3 1 / 0 4 -1 0 / 0 5 0 1 / 0 6 -1 0 / 1",
+        "stack c a / 0 / 4 / 0 2 3 0 / 0 3 0 1 / 0 5 -1 0 / 0 6 -1 0 / 1",
+        "stack c b / 0 / 4 / 0 2 3 1 / 0 4 0 1 / 0 5 -1 0 / 0 6 -1 0 / 1",
+        "unstack a b / 0 / 4 / 0 0 0 3 / 0 3 0 1 / 0 4 -1 0 / 0 6 0 1 / 1",
+        "unstack a c / 0 / 4 / 0 0 1 3 / 0 3 0 1 / 0 5 -1 0 / 0 6 0 1 / 1",
+        "unstack b a / 0 / 4 / 0 1 0 3 / 0 3 -1 0 / 0 4 0 1 / 0 6 0 1 / 1",
+        "unstack b c / 0 / 4 / 0 1 1 3 / 0 4 0 1 / 0 5 -1 0 / 0 6 0 1 / 1",
+        "unstack c a / 0 / 4 / 0 2 0 3 / 0 3 -1 0 / 0 5 0 1 / 0 6 0 1 / 1",
+        "unstack c b / 0 / 4 / 0 2 1 3 / 0 4 -1 0 / 0 5 0 1 / 0 6 0 1 / 1",
+    ],
+    rules: &[],
+    found: (20, 3),
+};
 
 #[test]
 fn blocks_have_seven_groups(rt: HostRuntime) -> Result<(), AllocError> {
@@ -144,7 +205,7 @@ const MOVES_AND_RINGS: &[&str] = &[
     "ring / 1 / 0 3 / 1 / 0 1 -1 0 / 1",
 ];
 
-static NEGATED: [Row; 3] = [
+pub(super) static NEGATED: [Row; 3] = [
     // A negative literal gives an operator for each other value; staying where one is changes nothing and isn't written.
     Row {
         domain: BELL,

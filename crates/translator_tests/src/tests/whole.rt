@@ -1,41 +1,75 @@
 //! Groups that are kept whole.
 
-use super::large::four_balls;
-use super::made::makes;
+use super::large::FOUR_WHOLE_BALLS;
 use super::written::Row;
-use super::{answers, prepared};
+use super::{WORDS, text_of};
 use std::alloc::{AllocError, Global};
 use std::test::*;
-use translator::Status;
-
-/// Whether these words write the row's task for its files, and print its sizes.
-fn is_written(alloc: Global, row: &Row, words: &[&str]) -> Result<bool, AllocError> {
-    let mut outside = prepared(alloc, row.domain.as_bytes(), row.problem.as_bytes())?;
-    outside.room(1_000_000)?;
-    let text = row.text(alloc)?;
-    let summary = row.summary(alloc)?;
-    let is_done = answers(alloc, words, &mut outside, Status::Done)?;
-    Ok(
-        is_done
-            && outside.holds("output.sas", text.as_bytes())
-            && outside.has_printed(summary.as_bytes()),
-    )
-}
-
-const FOUR_BALLS: &str = "Translator candidates: 12
-Translator invariants: 3
-Translator variables: 7
-Translator facts: 28
-Translator mutex groups: 7
-Translator operators: 34
-Translator axioms: 0
-";
 
 #[test]
 fn a_ball_is_somewhere_or_held(rt: HostRuntime) -> Result<(), AllocError> {
-    let text = four_balls(rt.alloc(), true)?;
     let words = ["translate", "--make", "4", "--full-encoding"];
-    assert!(rt; makes(rt.alloc(), &words, &text, FOUR_BALLS)?);
+    assert!(rt; FOUR_WHOLE_BALLS.is_made_by(rt.alloc(), &words)?);
+    Ok(())
+}
+
+/// Two blocks that may lie in a box too, and whose tops may be closed. Each of the four groups of a block's places and of
+/// what is on a block has three facts. The first in order is that of a's places. Then b's places are chosen, of which none
+/// stands in a variable, and then both tops, of whose facts two don't. So that a is on b stands in a's place and in b's top.
+static BOXES: Row = Row {
+    domain: "(define (domain boxes) (:predicates (on ?x ?y) (ontable ?x) (boxed ?x) (clear ?x) (closed ?x))
+ (:action put :parameters (?x ?y) :precondition (and (ontable ?x) (clear ?x) (clear ?y) (not (= ?x ?y)))
+  :effect (and (not (ontable ?x)) (not (clear ?y)) (on ?x ?y)))
+ (:action take :parameters (?x ?y) :precondition (and (on ?x ?y) (clear ?x))
+  :effect (and (not (on ?x ?y)) (ontable ?x) (clear ?y)))
+ (:action box :parameters (?x) :precondition (ontable ?x) :effect (and (not (ontable ?x)) (boxed ?x)))
+ (:action unbox :parameters (?x) :precondition (boxed ?x) :effect (and (not (boxed ?x)) (ontable ?x)))
+ (:action close :parameters (?x) :precondition (clear ?x) :effect (and (not (clear ?x)) (closed ?x)))
+ (:action open :parameters (?x) :precondition (closed ?x) :effect (and (not (closed ?x)) (clear ?x))))",
+    problem: "(define (problem b) (:domain boxes) (:objects a b) (:init (ontable a) (ontable b) (clear a) (clear b)) (:goal (on a b)))",
+    metric: "0",
+    variables: &[
+        ("-1", "Atom on(a, b) / Atom ontable(a) / Atom boxed(a)"),
+        ("-1", "Atom on(b, a) / Atom ontable(b) / Atom boxed(b)"),
+        ("-1", "Atom on(a, b) / Atom clear(b) / Atom closed(b)"),
+        ("-1", "Atom on(b, a) / Atom clear(a) / Atom closed(a)"),
+    ],
+    groups: &[
+        "0 0 / 0 1 / 0 2",
+        "0 0 / 2 1 / 2 2",
+        "1 0 / 1 1 / 1 2",
+        "1 0 / 3 1 / 3 2",
+    ],
+    state: "1 / 1 / 1 / 1",
+    goal: "2 / 0 0 / 2 0",
+    operators: &[
+        "box a / 0 / 1 / 0 0 1 2 / 1",
+        "box b / 0 / 1 / 0 1 1 2 / 1",
+        "close a / 0 / 1 / 0 3 1 2 / 1",
+        "close b / 0 / 1 / 0 2 1 2 / 1",
+        "open a / 0 / 1 / 0 3 2 1 / 1",
+        "open b / 0 / 1 / 0 2 2 1 / 1",
+        "put a b / 1 / 3 1 / 2 / 0 0 1 0 / 0 2 1 0 / 1",
+        "put b a / 1 / 2 1 / 2 / 0 1 1 0 / 0 3 1 0 / 1",
+        "take a b / 1 / 3 1 / 2 / 0 0 0 1 / 0 2 0 1 / 1",
+        "take b a / 1 / 2 1 / 2 / 0 1 0 1 / 0 3 0 1 / 1",
+        "unbox a / 0 / 1 / 0 0 2 1 / 1",
+        "unbox b / 0 / 1 / 0 1 2 1 / 1",
+    ],
+    rules: &[],
+    found: (0, 0),
+};
+
+/// Whether the text for the blocks is theirs, whatever is printed.
+fn has_blocks_twice(alloc: Global) -> Result<bool, AllocError> {
+    let words = ["translate", "d.pddl", "p.pddl", "--full-encoding"];
+    let text = BOXES.text(alloc)?;
+    Ok(text_of(alloc, &BOXES.files(), &words)?.as_slice() == text.as_bytes())
+}
+
+#[test]
+fn a_block_has_its_place_and_is_on_the_one_below(rt: HostRuntime) -> Result<(), AllocError> {
+    assert!(rt; has_blocks_twice(rt.alloc())?);
     Ok(())
 }
 
@@ -96,10 +130,8 @@ static LOST_ALONE: Row = Row {
 
 #[test]
 fn a_group_loses_a_fact_with_its_first_place(rt: HostRuntime) -> Result<(), AllocError> {
-    let alloc = rt.alloc();
     let whole = ["translate", "d.pddl", "p.pddl", "--full-encoding"];
-    assert!(rt; is_written(alloc, &LOST_AT_ITS_FIRST_PLACE, &whole)?);
-    let plain = ["translate", "d.pddl", "p.pddl"];
-    assert!(rt; is_written(alloc, &LOST_ALONE, &plain)?);
+    assert!(rt; LOST_AT_ITS_FIRST_PLACE.is_written_by(rt.alloc(), &whole)?);
+    assert!(rt; LOST_ALONE.is_written_by(rt.alloc(), &WORDS)?);
     Ok(())
 }

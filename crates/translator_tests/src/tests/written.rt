@@ -1,6 +1,7 @@
 //! What is written for pairs of files. Every text was worked by hand from the rules of the output.
 
-use super::gives;
+use super::WORDS;
+use calls_in_memory::{Ending, ends};
 use std::alloc::{AllocError, Global};
 use std::process::Abort;
 use std::test::*;
@@ -106,7 +107,16 @@ impl Row {
 
     /// The lines that are printed: what was found, and the sizes of the task.
     pub(super) fn summary(&self, alloc: Global) -> Result<String, AllocError> {
-        let (candidates, invariants) = self.found;
+        self.summary_with(alloc, self.found)
+    }
+
+    /// The same, where so many candidates were tried and accepted.
+    pub(super) fn summary_with(
+        &self,
+        alloc: Global,
+        found: (u64, u64),
+    ) -> Result<String, AllocError> {
+        let (candidates, invariants) = found;
         let variables = self.variables.len();
         let mut facts = 0u64;
         for (_, values) in self.variables {
@@ -120,23 +130,42 @@ impl Row {
         )
     }
 
-    /// Whether its task is written for its files, and its sizes are printed.
-    fn is_written(&self, alloc: Global) -> Result<bool, AllocError> {
+    /// Whether the call with these words writes its task for its files, and prints its sizes.
+    pub(super) fn is_written_by(&self, alloc: Global, words: &[&str]) -> Result<bool, AllocError> {
+        self.is_written_on(alloc, &self.files(), words, self.found)
+    }
+
+    /// The same where no file stands.
+    pub(super) fn is_made_by(&self, alloc: Global, words: &[&str]) -> Result<bool, AllocError> {
+        self.is_written_on(alloc, &[], words, self.found)
+    }
+
+    /// The same on these files, where so many candidates are tried and accepted.
+    pub(super) fn is_written_on(
+        &self,
+        alloc: Global,
+        files: &[(&str, &[u8])],
+        words: &[&str],
+        found: (u64, u64),
+    ) -> Result<bool, AllocError> {
         let text = self.text(alloc)?;
-        let summary = self.summary(alloc)?;
-        gives(
-            alloc,
-            self.domain.as_bytes(),
-            self.problem.as_bytes(),
-            &text,
-            &summary,
-        )
+        let summary = self.summary_with(alloc, found)?;
+        let ending = Ending::done(text.as_bytes(), summary.as_bytes());
+        ends(alloc, files, words, &ending)
+    }
+
+    /// Its two files.
+    pub(super) fn files(&self) -> [(&str, &[u8]); 2] {
+        [
+            ("d.pddl", self.domain.as_bytes()),
+            ("p.pddl", self.problem.as_bytes()),
+        ]
     }
 }
 
 pub(super) fn assert_rows(rt: &impl Abort, alloc: Global, rows: &[Row]) -> Result<(), AllocError> {
     for (number, row) in rows.iter().enumerate() {
-        assert!(rt; row.is_written(alloc)?, "row {number}");
+        assert!(rt; row.is_written_by(alloc, &WORDS)?, "row {number}");
     }
     Ok(())
 }
@@ -148,12 +177,32 @@ pub(super) const SHOP: &str =
 pub(super) const UNPRICED: &str =
     "(define (problem s) (:domain shop) (:objects a b) (:init (= (total-cost) 0) (= (price a) 7)) (:goal (done a)))";
 
-pub(super) const TOUCH: &str = "(define (domain touch) (:predicates (p) (q))
+const TOUCH: &str = "(define (domain touch) (:predicates (p) (q))
  (:action drop-p :precondition (p) :effect (not (p)))
  (:action touch :effect (and (not (q)) (when (p) (q)))))";
 
-pub(super) const TOUCH_PROBLEM: &str =
+const TOUCH_PROBLEM: &str =
     "(define (problem t) (:domain touch) (:init (p) (q)) (:goal (not (q))))";
+
+/// An atom that only a conditional effect changes.
+pub(super) const TOUCHED: Row = Row {
+    domain: TOUCH,
+    problem: TOUCH_PROBLEM,
+    metric: "0",
+    variables: &[
+        ("-1", "Atom p() / NegatedAtom p()"),
+        ("-1", "Atom q() / NegatedAtom q()"),
+    ],
+    groups: &[],
+    state: "0 / 0",
+    goal: "1 / 1 1",
+    operators: &[
+        "drop-p / 0 / 1 / 0 0 0 1 / 1",
+        "touch / 0 / 2 / 1 0 0 1 -1 0 / 2 0 1 1 0 1 -1 1 / 1",
+    ],
+    rules: &[],
+    found: (2, 1),
+};
 
 const FIT: &str = "(define (domain fit) (:types t u) (:predicates (p ?x - t) (done))
  (:action go :parameters (?x - u) :precondition (p ?x) :effect (done)))";
@@ -485,7 +534,7 @@ fn conditions_and_goals_of_all_forms_are_translated(rt: HostRuntime) -> Result<(
     assert_rows(&rt, rt.alloc(), &CONDITIONS)
 }
 
-static EFFECTS: [Row; 8] = [
+pub(super) static EFFECTS: [Row; 8] = [
     // A delete effect without a condition needs none in the task, since nothing sets the other value.
     Row {
         domain: "(define (domain w) (:predicates (p)) (:action wipe :effect (not (p))))",
@@ -500,24 +549,7 @@ static EFFECTS: [Row; 8] = [
         found: (1, 1),
     },
     // A delete effect yields to an add effect that fires.
-    Row {
-        domain: TOUCH,
-        problem: TOUCH_PROBLEM,
-        metric: "0",
-        variables: &[
-            ("-1", "Atom p() / NegatedAtom p()"),
-            ("-1", "Atom q() / NegatedAtom q()"),
-        ],
-        groups: &[],
-        state: "0 / 0",
-        goal: "1 / 1 1",
-        operators: &[
-            "drop-p / 0 / 1 / 0 0 0 1 / 1",
-            "touch / 0 / 2 / 1 0 0 1 -1 0 / 2 0 1 1 0 1 -1 1 / 1",
-        ],
-        rules: &[],
-        found: (2, 1),
-    },
+    TOUCHED,
     // It fires where either literal of the add effect's condition is false, so there are two effects.
     Row {
         domain: "(define (domain yield) (:predicates (p) (q) (r)) (:action act :effect (and (not (q)) (when (and (p) (not (r))) (q)))) (:action change :effect (and (not (p)) (r))))",
@@ -647,7 +679,7 @@ fn conditional_effects_and_derived_atoms_are_translated(rt: HostRuntime) -> Resu
 }
 
 /// The texts of `examples/everything`. How the task was worked stands there, in the domain.
-static EVERYTHING: [Row; 1] = [Row {
+pub(super) static EVERYTHING: [Row; 1] = [Row {
     domain: "(define (domain all)
  (:requirements :strips :typing :adl :derived-predicates :action-costs)
  (:types place vehicle - object truck - vehicle)
