@@ -164,6 +164,39 @@ def lift(floors):
     )
 
 
+def satellites(count):
+    """Satellites, each with two instruments for three modes, that turn between as many directions as four a satellite."""
+    numbers, directions = range(count), range(4 * count)
+    modes = (b"infrared", b"image", b"spectrum")
+    instruments = [(s, k) for s in numbers for k in range(2)]
+    return (
+        b"""(define (domain satellite) (:requirements :typing) (:types satellite direction instrument mode)
+(:predicates (on-board ?i - instrument ?s - satellite) (supports ?i - instrument ?m - mode) (pointing ?s - satellite ?d - direction)
+ (power-avail ?s - satellite) (power-on ?i - instrument) (calibrated ?i - instrument) (have-image ?d - direction ?m - mode)
+ (calibration-target ?i - instrument ?d - direction))
+(:action turn-to :parameters (?s - satellite ?new ?old - direction) :precondition (and (pointing ?s ?old) (not (= ?new ?old)))
+ :effect (and (pointing ?s ?new) (not (pointing ?s ?old))))
+(:action switch-on :parameters (?i - instrument ?s - satellite) :precondition (and (on-board ?i ?s) (power-avail ?s))
+ :effect (and (power-on ?i) (not (calibrated ?i)) (not (power-avail ?s))))
+(:action switch-off :parameters (?i - instrument ?s - satellite) :precondition (and (on-board ?i ?s) (power-on ?i))
+ :effect (and (not (power-on ?i)) (power-avail ?s)))
+(:action calibrate :parameters (?s - satellite ?i - instrument ?d - direction)
+ :precondition (and (on-board ?i ?s) (calibration-target ?i ?d) (pointing ?s ?d) (power-on ?i)) :effect (calibrated ?i))
+(:action take-image :parameters (?s - satellite ?d - direction ?i - instrument ?m - mode)
+ :precondition (and (calibrated ?i) (on-board ?i ?s) (supports ?i ?m) (power-on ?i) (pointing ?s ?d)) :effect (have-image ?d ?m)))""",
+        b"(define (problem p) (:domain satellite) (:objects " + b" ".join(b"s%d" % s for s in numbers) + b" - satellite "
+        + b" ".join(b"d%d" % d for d in directions) + b" - direction "
+        + b" ".join(b"i%d-%d" % pair for pair in instruments) + b" - instrument " + b" ".join(modes) + b" - mode)\n(:init "
+        + b" ".join(b"(power-avail s%d) (pointing s%d d%d)" % (s, s, s) for s in numbers)
+        + b" ".join(
+            b" (on-board i%d-%d s%d) (supports i%d-%d %s) (calibration-target i%d-%d d%d)"
+            % (s, k, s, s, k, modes[(s + k) % 3], s, k, (s + 3 * k) % len(directions))
+            for s, k in instruments
+        )
+        + b")\n(:goal (and " + b" ".join(b"(have-image d%d %s)" % (d, modes[d % 3]) for d in directions[:: 2]) + b")))",
+    )
+
+
 def ring(nodes):
     """A ring, on which one hops over a node."""
     return (
