@@ -9,7 +9,7 @@ use std::test::*;
 
 /// A house with a cellar in which a lamp can be lit, which goes out on the way up. Nobody can fly to the attic or read,
 /// since the lamp never shines in the hall, and what flickers is two things at once.
-const HOUSE: &[u8] = b"begin_version
+const HOUSE: &str = "begin_version
 3
 end_version
 begin_metric
@@ -125,7 +125,7 @@ end_operator
 
 /// The house without the attic, without what needs light in the hall and without what flickers. Two groups are one, and
 /// a third has one fact left. That the book is read isn't possible, but the goal.
-const PRUNED_HOUSE: &[u8] = b"begin_version
+const PRUNED_HOUSE: &str = "begin_version
 3
 end_version
 begin_metric
@@ -208,12 +208,12 @@ fn pruned(alloc: Global, task: &SasTask) -> Result<Vec<u8>, AllocError> {
 }
 
 /// Whether the pass makes the wanted text of the text of a task.
-fn makes(alloc: Global, text: &[u8], wanted: &[u8]) -> Result<bool, AllocError> {
+fn makes(alloc: Global, text: &str, wanted: &str) -> Result<bool, AllocError> {
     if text.len() >= 10_000 {
         return Ok(false);
     }
-    match read_task(alloc, text) {
-        Ok(task) => Ok(pruned(alloc, &task)?.as_slice() == wanted),
+    match read_task(alloc, text.as_bytes()) {
+        Ok(task) => Ok(pruned(alloc, &task)?.as_slice() == wanted.as_bytes()),
         Err(_) => Ok(false),
     }
 }
@@ -223,6 +223,42 @@ fn what_no_pair_of_facts_allows_is_left_out(rt: HostRuntime) -> Result<(), Alloc
     let alloc = rt.alloc();
     assert!(rt; makes(alloc, HOUSE, PRUNED_HOUSE)?);
     assert!(rt; makes(alloc, PRUNED_HOUSE, PRUNED_HOUSE)?);
+    Ok(())
+}
+
+/// The text with one operator more than so many, which is the one of this block.
+fn with_one_twice(
+    alloc: Global,
+    text: &str,
+    counts: (&str, &str),
+    block: &str,
+) -> Result<String, AllocError> {
+    let (count, more) = counts;
+    let twice = block.repeat(alloc, 2)?;
+    text.replacen(alloc, count, more, 1)?
+        .replacen(alloc, block, &twice, 1)
+}
+
+/// Whether one descends by two operators, where two of them stand in the task.
+fn keeps_both(alloc: Global) -> Result<bool, AllocError> {
+    let text = with_one_twice(
+        alloc,
+        HOUSE,
+        ("\n6\nbegin_operator", "\n7\nbegin_operator"),
+        "begin_operator\ndescend\n0\n1\n0 0 2 0\n1\nend_operator\n",
+    )?;
+    let wanted = with_one_twice(
+        alloc,
+        PRUNED_HOUSE,
+        ("\n3\nbegin_operator", "\n4\nbegin_operator"),
+        "begin_operator\ndescend\n0\n1\n0 0 1 0\n1\nend_operator\n",
+    )?;
+    makes(alloc, &text, &wanted)
+}
+
+#[test]
+fn an_operator_that_stands_twice_stays_twice(rt: HostRuntime) -> Result<(), AllocError> {
+    assert!(rt; keeps_both(rt.alloc())?);
     Ok(())
 }
 
