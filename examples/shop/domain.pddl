@@ -1,6 +1,3 @@
-; Things are bought one by one, each at its price.
-(define (domain shop)
- (:predicates (bought ?x))
- (:functions (total-cost) - number (price ?x) - number)
- (:action buy :parameters (?x)
-  :effect (and (bought ?x) (increase (total-cost) (price ?x)))))
+; Things are done one by one, each at its price.
+(define (domain shop) (:predicates (done ?x)) (:functions (total-cost) - number (price ?x) - number)
+ (:action go :parameters (?x) :effect (and (done ?x) (increase (total-cost) (price ?x)))))

@@ -207,7 +207,7 @@ pub(super) const TOUCHED: Row = Row {
 const FIT: &str = "(define (domain fit) (:types t u) (:predicates (p ?x - t) (done))
  (:action go :parameters (?x - u) :precondition (p ?x) :effect (done)))";
 
-static GROUNDING: [Row; 9] = [
+pub(super) static GROUNDING: [Row; 9] = [
     // An instance whose cost has no value is none.
     Row {
         domain: SHOP,
