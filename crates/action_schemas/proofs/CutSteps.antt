@@ -1,6 +1,7 @@
 -- What a condition is cut into, one case for each variant, and what a loop over members has made.
 use Rattle.std.proofs.Common.{append-nil, ◌≡◌, ℕ, ◌+◌, Bool, true, false, not, List, [], ◌∷◌, ◌++◌, length, refl, ap, ◌∙◌, sym}
 use Rattle.std.specs.Prelude.{if◌then◌else◌}
+use Rattle.pddl_lexer.specs.declared.position.At.{At}
 use Rattle.pddl_parser.specs.declared.types.Condition.{Condition, Condition-F}
 use Rattle.pddl_parser.specs.declared.types.Condition.TheVariants as conditions
 use Rattle.pddl_parser.specs.declared.types.Domain.{Domain}
@@ -61,24 +62,24 @@ module _ (domain : Domain) (problem : Problem) (positive : Bool) (scope : Scope)
   abbrev cut_of : Condition → Made Part
   cut_of condition = parts domain problem condition positive scope around next
 
-  parts-Imply : (premise conclusion : Condition) (line : ℕ) →
-      combined (not positive) around (parts domain problem premise (not positive) scope around ∷ parts domain problem conclusion positive scope around ∷ []) next ≡ cut_of (conditions.Imply premise conclusion line)
-  parts-Imply premise conclusion line = sym (ap (λ (k : Known). k.cut positive scope around next) (c.fold-Imply Known (known_step domain problem) premise conclusion line) ∙ by positive)
+  parts-Imply : (premise conclusion : Condition) (at : At) →
+      combined (not positive) around (parts domain problem premise (not positive) scope around ∷ parts domain problem conclusion positive scope around ∷ []) next ≡ cut_of (conditions.Imply premise conclusion at)
+  parts-Imply premise conclusion at = sym (ap (λ (k : Known). k.cut positive scope around next) (c.fold-Imply Known (known_step domain problem) premise conclusion at) ∙ by positive)
     where
-      by : (b : Bool) → cut_step domain problem (Condition-F.Imply (known domain problem premise) (known domain problem conclusion) line) b scope around next
+      by : (b : Bool) → cut_step domain problem (Condition-F.Imply (known domain problem premise) (known domain problem conclusion) at) b scope around next
           ≡ combined (not b) around (parts domain problem premise (not b) scope around ∷ parts domain problem conclusion b scope around ∷ []) next
       by true = refl
       by false = refl
 
   module _ (condition : Condition) where
-    pub imply-is : (premise conclusion given other : Condition) (line : ℕ) → condition ≡ conditions.Imply premise conclusion line → given ≡ premise → other ≡ conclusion →
+    pub imply-is : (premise conclusion given other : Condition) (at : At) → condition ≡ conditions.Imply premise conclusion at → given ≡ premise → other ≡ conclusion →
         combined (not positive) around (parts domain problem given (not positive) scope around ∷ parts domain problem other positive scope around ∷ []) next ≡ cut_of condition
-    imply-is premise conclusion given other line is same same_too =
+    imply-is premise conclusion given other at is same same_too =
         ap (λ (x : Condition). combined (not positive) around (parts domain problem x (not positive) scope around ∷ parts domain problem other positive scope around ∷ []) next) same
         ∙ ap (λ (x : Condition). combined (not positive) around (parts domain problem premise (not positive) scope around ∷ parts domain problem x positive scope around ∷ []) next) same_too
-        ∙ parts-Imply premise conclusion line ∙ ap (λ (x : Condition). cut_of x) (sym is)
+        ∙ parts-Imply premise conclusion at ∙ ap (λ (x : Condition). cut_of x) (sym is)
 
-    module _ (variables listed : List Typed) (inside given : Condition) (line : ℕ) (same_variables : listed ≡ variables) (same_inside : given ≡ inside) where
+    module _ (variables listed : List Typed) (inside given : Condition) (at : At) (same_variables : listed ≡ variables) (same_inside : given ≡ inside) where
       none-same : (sign : Bool) → none_inside domain problem listed (known domain problem given) sign scope around next ≡ none_inside domain problem variables (known domain problem inside) sign scope around next
       none-same sign =
           ap (λ (v : List Typed). none_inside domain problem v (known domain problem given) sign scope around next) same_variables
@@ -89,26 +90,26 @@ module _ (domain : Domain) (problem : Problem) (positive : Bool) (scope : Scope)
           ap (λ (v : List Typed). exists_inside domain problem v (known domain problem given) sign scope around next) same_variables
           ∙ ap (λ (x : Condition). exists_inside domain problem variables (known domain problem x) sign scope around next) same_inside
 
-      forall-step : condition ≡ conditions.Forall variables inside line → (b : Bool) → positive ≡ b → cut_of condition ≡ cut_step domain problem (Condition-F.Forall variables (known domain problem inside) line) b scope around next
+      forall-step : condition ≡ conditions.Forall variables inside at → (b : Bool) → positive ≡ b → cut_of condition ≡ cut_step domain problem (Condition-F.Forall variables (known domain problem inside) at) b scope around next
       forall-step is b sign =
           ap (λ (x : Condition). cut_of x) is
-          ∙ ap (λ (k : Known). k.cut positive scope around next) (c.fold-Forall Known (known_step domain problem) variables inside line)
-          ∙ ap (λ (b : Bool). cut_step domain problem (Condition-F.Forall variables (known domain problem inside) line) b scope around next) sign
+          ∙ ap (λ (k : Known). k.cut positive scope around next) (c.fold-Forall Known (known_step domain problem) variables inside at)
+          ∙ ap (λ (b : Bool). cut_step domain problem (Condition-F.Forall variables (known domain problem inside) at) b scope around next) sign
 
-      exists-step : condition ≡ conditions.Exists variables inside line → (b : Bool) → positive ≡ b → cut_of condition ≡ cut_step domain problem (Condition-F.Exists variables (known domain problem inside) line) b scope around next
+      exists-step : condition ≡ conditions.Exists variables inside at → (b : Bool) → positive ≡ b → cut_of condition ≡ cut_step domain problem (Condition-F.Exists variables (known domain problem inside) at) b scope around next
       exists-step is b sign =
           ap (λ (x : Condition). cut_of x) is
-          ∙ ap (λ (k : Known). k.cut positive scope around next) (c.fold-Exists Known (known_step domain problem) variables inside line)
-          ∙ ap (λ (b : Bool). cut_step domain problem (Condition-F.Exists variables (known domain problem inside) line) b scope around next) sign
+          ∙ ap (λ (k : Known). k.cut positive scope around next) (c.fold-Exists Known (known_step domain problem) variables inside at)
+          ∙ ap (λ (b : Bool). cut_step domain problem (Condition-F.Exists variables (known domain problem inside) at) b scope around next) sign
 
-      pub forall-none : condition ≡ conditions.Forall variables inside line → positive ≡ true → none_inside domain problem listed (known domain problem given) false scope around next ≡ cut_of condition
+      pub forall-none : condition ≡ conditions.Forall variables inside at → positive ≡ true → none_inside domain problem listed (known domain problem given) false scope around next ≡ cut_of condition
       forall-none is sign = none-same false ∙ sym (forall-step is true sign)
 
-      pub forall-some : condition ≡ conditions.Forall variables inside line → positive ≡ false → exists_inside domain problem listed (known domain problem given) false scope around next ≡ cut_of condition
+      pub forall-some : condition ≡ conditions.Forall variables inside at → positive ≡ false → exists_inside domain problem listed (known domain problem given) false scope around next ≡ cut_of condition
       forall-some is sign = some-same false ∙ sym (forall-step is false sign)
 
-      pub exists-some : condition ≡ conditions.Exists variables inside line → positive ≡ true → exists_inside domain problem listed (known domain problem given) true scope around next ≡ cut_of condition
+      pub exists-some : condition ≡ conditions.Exists variables inside at → positive ≡ true → exists_inside domain problem listed (known domain problem given) true scope around next ≡ cut_of condition
       exists-some is sign = some-same true ∙ sym (exists-step is true sign)
 
-      pub exists-none : condition ≡ conditions.Exists variables inside line → positive ≡ false → none_inside domain problem listed (known domain problem given) true scope around next ≡ cut_of condition
+      pub exists-none : condition ≡ conditions.Exists variables inside at → positive ≡ false → none_inside domain problem listed (known domain problem given) true scope around next ≡ cut_of condition
       exists-none is sign = none-same true ∙ sym (exists-step is false sign)

@@ -193,33 +193,33 @@ module _ (domain : Domain) (problem : Problem) (all : List Mention) where
 
   pub condition-asks : (condition : Condition) → CutOf condition
   condition-asks = by_folds Known (Unit {0}) (List Mention) (known_step domain problem) (λ layer. tt) condition_step CutAsks record {
-    at_true = λ line sub positive scope around next. at_truth positive around next;
+    at_true = λ at sub positive scope around next. at_truth positive around next;
     at_atom = λ atom sub positive scope around next.
         record {
           items = one-part next (next + length {A = Fresh} []) (Holds positive (predicate_number domain atom.predicate.name) (map (place_of domain problem scope) atom.terms))
               (inl (record { mention = Asked atom; among = sub (Asked atom) (inl refl); named = atom.predicate; inside = inl refl; same = refl }));
           fresh = tt;
         };
-    at_equal = λ left right line sub positive scope around next.
+    at_equal = λ left right at sub positive scope around next.
         record { items = one-part next (next + length {A = Fresh} []) (Equal positive (place_of domain problem scope left) (place_of domain problem scope right)) tt; fresh = tt };
-    at_not = λ inside line held sub positive scope around. held sub (not positive) scope around;
-    at_and = λ members line held sub positive scope around next.
+    at_not = λ inside at held sub positive scope around. held sub (not positive) scope around;
+    at_and = λ members at held sub positive scope around next.
         all_or_turn positive (cuts true scope around (map (known domain problem) members)) (cuts false scope around (map (known domain problem) members)) around next
         (members-ask true scope around members held sub) (members-ask false scope around members held sub);
-    at_or = λ members line held sub positive scope around next.
+    at_or = λ members at held sub positive scope around next.
         turn_or_all positive (cuts true scope around (map (known domain problem) members)) (cuts false scope around (map (known domain problem) members)) around next
         (members-ask true scope around members held sub) (members-ask false scope around members held sub);
-    at_imply = λ premise conclusion line held later sub positive scope around next.
+    at_imply = λ premise conclusion at held later sub positive scope around next.
         let left = held (λ m among. sub m (among_left m (in_condition premise) (in_condition conclusion) among)) in
         let right = later (λ m among. sub m (among_right m (in_condition premise) (in_condition conclusion) among)) in
         turn_or_all positive ((known domain problem premise).cut false scope around ∷ (known domain problem conclusion).cut true scope around ∷ [])
         ((known domain problem premise).cut true scope around ∷ (known domain problem conclusion).cut false scope around ∷ []) around next
         (left false scope around, (right true scope around, tt)) (left true scope around, (right false scope around, tt));
-    at_forall = λ variables inside line held sub positive scope around next.
+    at_forall = λ variables inside at held sub positive scope around next.
         either positive (none_inside domain problem variables (known domain problem inside) false scope around next) (exists_inside domain problem variables (known domain problem inside) false scope around next) next
         (none-asks variables (known domain problem inside) false scope around (held (λ m among. sub m (inr among)) false) next)
         (exists-asks variables (known domain problem inside) false scope around (held (λ m among. sub m (inr among)) false) next);
-    at_exists = λ variables inside line held sub positive scope around next.
+    at_exists = λ variables inside at held sub positive scope around next.
         either positive (exists_inside domain problem variables (known domain problem inside) true scope around next) (none_inside domain problem variables (known domain problem inside) true scope around next) next
         (exists-asks variables (known domain problem inside) true scope around (held (λ m among. sub m (inr among)) true) next)
         (none-asks variables (known domain problem inside) true scope around (held (λ m among. sub m (inr among)) true) next);
@@ -272,13 +272,13 @@ module _ (domain : Domain) (problem : Problem) (all : List Mention) where
 
   pub effect-asks : (effect : Effect) → EffectOf effect
   effect-asks = four.by_folds (Rows domain problem) (Unit {0}) (Unit {0}) (List Mention) (row_step domain problem) (λ layer. tt) (λ layer. tt) effect_step EffectAsks record {
-    at_nothing = λ line sub required ask scope around next. tt;
+    at_nothing = λ at sub required ask scope around next. tt;
     at_add = λ atom sub required ask scope around next. (all_of-asks around (map (λ cut. cut around) required) (asks-here around required ask) next).fresh;
     at_delete = λ atom sub required ask scope around next. (all_of-asks around (map (λ cut. cut around) required) (asks-here around required ask) next).fresh;
-    at_and = λ members line held sub required ask scope around next. effects-ask members held sub required ask scope around next;
-    at_when = λ condition inside line held sub required ask scope around next.
+    at_and = λ members at held sub required ask scope around next. effects-ask members held sub required ask scope around next;
+    at_when = λ condition inside at held sub required ask scope around next.
         held (λ m among. sub m (among_right m (in_condition condition) (in_effect inside) among)) (required ++ (λ around. parts domain problem condition true scope around) ∷ [])
         (asks-also required (λ around. parts domain problem condition true scope around) ask (λ around. condition-asks condition (λ m among. sub m (among_left m (in_condition condition) (in_effect inside) among)) true scope around)) scope around next;
-    at_forall = λ variables inside line held sub required ask scope around next. held (λ m among. sub m (inr among)) required ask _ _ next;
-    at_increase = λ term cost line sub required ask scope around next. tt;
+    at_forall = λ variables inside at held sub required ask scope around next. held (λ m among. sub m (inr among)) required ask _ _ next;
+    at_increase = λ term cost at sub required ask scope around next. tt;
   }

@@ -1,9 +1,10 @@
 -- Where no variable is unbound, each free variable of a condition is bound by a list around it.
-use Rattle.std.proofs.Common.{◌≡◌, ℕ, Bool, true, false, not, ◌&&◌, ◌||◌, List, [], ◌∷◌, ◌++◌, map, refl, sym, ap, ◌∙◌, subst, inl, inr, ◌⊎◌}
+use Rattle.std.proofs.Common.{◌≡◌, Bool, true, false, not, ◌&&◌, ◌||◌, List, [], ◌∷◌, ◌++◌, map, refl, sym, ap, ◌∙◌, subst, inl, inr, ◌⊎◌}
 use Rattle.std.specs.List.{list_any, flat_map}
 use Rattle.std.proofs.lemmas.Bool.{and_parts, or_cases, not-true}
 use Rattle.std.proofs.lemmas.Cmp.{nat_list_eq_equiv}
 use Rattle.std.proofs.lemmas.List.Folds.{list_any-append}
+use Rattle.pddl_lexer.specs.declared.position.At.{At}
 use Rattle.pddl_parser.specs.declared.types.Condition.{Condition}
 use Rattle.pddl_parser.specs.declared.types.Domain.{Domain}
 use Rattle.pddl_parser.specs.declared.types.Problem.{Problem}
@@ -56,7 +57,7 @@ terms-bound names (term ∷ list) none name is =
     by (inr there) rest = rest there
 
 module _ (domain : Domain) (problem : Problem) where
-  abbrev FreeBound : Known → (scopes.Scope → List ℕ) → Unit {0} → Type 0
+  abbrev FreeBound : Known → (scopes.Scope → List At) → Unit {0} → Type 0
   FreeBound k unbound unused = (names : List Name) → unbound names ≡ [] → (name : Name) → k.is_free name ≡ true → is_in names name ≡ true
 
   abbrev Bound : Condition → Type 0
@@ -74,7 +75,7 @@ module _ (domain : Domain) (problem : Problem) where
       by (inl here) rest = each.0 names (left_empty (scopes.in_condition member names) (flat_map (λ member. member names) (map scopes.in_condition members)) none) name here
       by (inr there) rest = rest there
 
-  inside-bound : (variables : List Typed) (k : Known) (unbound : scopes.Scope → List ℕ) → FreeBound k unbound tt → (names : List Name) → unbound (scopes.inside_of variables names) ≡ [] →
+  inside-bound : (variables : List Typed) (k : Known) (unbound : scopes.Scope → List At) → FreeBound k unbound tt → (names : List Name) → unbound (scopes.inside_of variables names) ≡ [] →
       (name : Name) → (not (is_listed variables name) && k.is_free name) ≡ true → is_in names name ≡ true
   inside-bound variables k unbound held names none name free =
       let parts = and_parts (not (is_listed variables name)) (k.is_free name) free in
@@ -89,20 +90,20 @@ module _ (domain : Domain) (problem : Problem) where
 
   -- a free variable is one of the names
   pub free-bound : (condition : Condition) → Bound condition
-  free-bound = by_folds Known (scopes.Scope → List ℕ) (Unit {0}) (known_step domain problem) scopes.condition_step (λ layer. tt) FreeBound record {
-    at_true = λ line names none name free. absurd cc;
+  free-bound = by_folds Known (scopes.Scope → List At) (Unit {0}) (known_step domain problem) scopes.condition_step (λ layer. tt) FreeBound record {
+    at_true = λ at names none name free. absurd cc;
     at_atom = λ atom names none name free. terms-bound names atom.terms none name free;
-    at_equal = λ left right line names none name free.
+    at_equal = λ left right at names none name free.
         either-bound names name (is_term_of name left) (is_term_of name right)
         (term-bound names left (left_empty (scopes.unbound_term names left) (scopes.unbound_term names right ++ []) none) name)
         (term-bound names right (left_empty (scopes.unbound_term names right) [] (right_empty (scopes.unbound_term names left) (scopes.unbound_term names right ++ []) none)) name) free;
-    at_not = λ inside line held. held;
-    at_and = λ members line held. members-bound members held;
-    at_or = λ members line held. members-bound members held;
-    at_imply = λ premise conclusion line held later names none name free.
+    at_not = λ inside at held. held;
+    at_and = λ members at held. members-bound members held;
+    at_or = λ members at held. members-bound members held;
+    at_imply = λ premise conclusion at held later names none name free.
         either-bound names name ((known domain problem premise).is_free name) ((known domain problem conclusion).is_free name)
         (held names (left_empty (scopes.in_condition premise names) (scopes.in_condition conclusion names) none) name)
         (later names (right_empty (scopes.in_condition premise names) (scopes.in_condition conclusion names) none) name) free;
-    at_forall = λ variables inside line held. inside-bound variables (known domain problem inside) (scopes.in_condition inside) held;
-    at_exists = λ variables inside line held. inside-bound variables (known domain problem inside) (scopes.in_condition inside) held;
+    at_forall = λ variables inside at held. inside-bound variables (known domain problem inside) (scopes.in_condition inside) held;
+    at_exists = λ variables inside at held. inside-bound variables (known domain problem inside) (scopes.in_condition inside) held;
   }

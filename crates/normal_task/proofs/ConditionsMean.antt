@@ -7,6 +7,7 @@ use Rattle.std.proofs.lemmas.Bool.{and_parts, and_from, or_left, or_right}
 use Rattle.std.proofs.lemmas.Bool.Decides.{nat_tests}
 use Rattle.std.proofs.lemmas.Cmp.{nat_list_eq_equiv}
 use Rattle.lists.specs.Members.{is_among}
+use Rattle.pddl_lexer.specs.declared.position.At.{At}
 use Rattle.pddl_parser.specs.declared.types.Atom.{Atom}
 use Rattle.pddl_parser.specs.declared.types.Condition.{Condition, Condition-F}
 use Rattle.pddl_parser.specs.declared.types.Domain.{Domain}
@@ -142,8 +143,8 @@ module _ (domain : Domain) (problem : Problem) where
         ∙ ap (λ (os : List ℕ). answers positive (numbered (atom_of (predicate_number domain atom.predicate.name) os))) objects.0
         ∙ ap (answers positive) (shows (holds.ground named atom) (and_from (is_declared domain problem atom.predicate.name) (list_all (is_known domain problem) (map (holds.object_of named) atom.terms)) name objects.1))
 
-    equal-means : (left right : Term) (line : ℕ) → Means (known_step domain problem (Condition-F.Equal left right line)) (holds.holds_step domain problem full (Condition-F.Equal left right line)) (condition_step (Condition-F.Equal left right line))
-    equal-means left right line mentioned positive scope named binding stand next given =
+    equal-means : (left right : Term) (at : At) → Means (known_step domain problem (Condition-F.Equal left right at)) (holds.holds_step domain problem full (Condition-F.Equal left right at)) (condition_step (Condition-F.Equal left right at))
+    equal-means left right at mentioned positive scope named binding stand next given =
         let parts = and_parts (is_known_mention domain problem (Compared left right)) true mentioned in
         let sides = and_parts (is_known_term domain problem left) (is_known_term domain problem right && true) parts.0 in
         let one = term-object scope named binding left sides.0 (λ name is. stand name (or_left (is_term_of name left) (is_term_of name right) is)) in
@@ -259,36 +260,36 @@ module _ (domain : Domain) (problem : Problem) where
     any-truths : (positive : Bool) (named : pddl.Binding) (members : List Condition) → list_any (λ truth. truth) (truths positive named members) ≡ list_any (λ truth. answers positive (truth named)) (map (holds.holds domain problem full) members)
     any-truths positive named members = any-map (λ truth. truth) (λ (truth : pddl.Binding → Bool). answers positive (truth named)) (map (holds.holds domain problem full) members)
 
-    true-means : (line : ℕ) → Means (known_step domain problem (Condition-F.True line)) (holds.holds_step domain problem full (Condition-F.True line)) (condition_step (Condition-F.True line))
-    true-means line mentioned true scope named binding stand next given = refl
-    true-means line mentioned false scope named binding stand next given = refl
+    true-means : (at : At) → Means (known_step domain problem (Condition-F.True at)) (holds.holds_step domain problem full (Condition-F.True at)) (condition_step (Condition-F.True at))
+    true-means at mentioned true scope named binding stand next given = refl
+    true-means at mentioned false scope named binding stand next given = refl
 
-    and-means : (members : List Condition) (line : ℕ) → Each Meant members →
-        Means (known_step domain problem (Condition-F.And (map (known domain problem) members) line)) (holds.holds_step domain problem full (Condition-F.And (map (holds.holds domain problem full) members) line)) (condition_step (Condition-F.And (map in_condition members) line))
-    and-means members line each mentioned true scope named binding stand next given =
+    and-means : (members : List Condition) (at : At) → Each Meant members →
+        Means (known_step domain problem (Condition-F.And (map (known domain problem) members) at)) (holds.holds_step domain problem full (Condition-F.And (map (holds.holds domain problem full) members) at)) (condition_step (Condition-F.And (map in_condition members) at))
+    and-means members at each mentioned true scope named binding stand next given =
         all_of-means declared numbered binding (cuts domain problem true scope (length binding) (map (known domain problem) members)) (truths true named members)
         (each-fits true scope named binding members mentioned stand) (members-mean true scope named binding members each mentioned stand) next given
         ∙ all-truths true named members
-    and-means members line each mentioned false scope named binding stand next given =
+    and-means members at each mentioned false scope named binding stand next given =
         in_turn-means declared numbered binding (cuts domain problem false scope (length binding) (map (known domain problem) members)) (truths false named members) (members-mean false scope named binding members each mentioned stand) next given
         ∙ any-truths false named members
         ∙ any-not (λ (truth : pddl.Binding → Bool). truth named) (map (holds.holds domain problem full) members)
 
-    or-means : (members : List Condition) (line : ℕ) → Each Meant members →
-        Means (known_step domain problem (Condition-F.Or (map (known domain problem) members) line)) (holds.holds_step domain problem full (Condition-F.Or (map (holds.holds domain problem full) members) line)) (condition_step (Condition-F.Or (map in_condition members) line))
-    or-means members line each mentioned false scope named binding stand next given =
+    or-means : (members : List Condition) (at : At) → Each Meant members →
+        Means (known_step domain problem (Condition-F.Or (map (known domain problem) members) at)) (holds.holds_step domain problem full (Condition-F.Or (map (holds.holds domain problem full) members) at)) (condition_step (Condition-F.Or (map in_condition members) at))
+    or-means members at each mentioned false scope named binding stand next given =
         all_of-means declared numbered binding (cuts domain problem false scope (length binding) (map (known domain problem) members)) (truths false named members)
         (each-fits false scope named binding members mentioned stand) (members-mean false scope named binding members each mentioned stand) next given
         ∙ all-truths false named members
         ∙ all-not (λ (truth : pddl.Binding → Bool). truth named) (map (holds.holds domain problem full) members)
-    or-means members line each mentioned true scope named binding stand next given =
+    or-means members at each mentioned true scope named binding stand next given =
         in_turn-means declared numbered binding (cuts domain problem true scope (length binding) (map (known domain problem) members)) (truths true named members) (members-mean true scope named binding members each mentioned stand) next given
         ∙ any-truths true named members
 
-    imply-means : (premise conclusion : Condition) (line : ℕ) → Meant premise → Meant conclusion →
-        Means (known_step domain problem (Condition-F.Imply (known domain problem premise) (known domain problem conclusion) line)) (holds.holds_step domain problem full (Condition-F.Imply (holds.holds domain problem full premise) (holds.holds domain problem full conclusion) line))
-        (condition_step (Condition-F.Imply (in_condition premise) (in_condition conclusion) line))
-    imply-means premise conclusion line held later mentioned positive scope named binding stand next given =
+    imply-means : (premise conclusion : Condition) (at : At) → Meant premise → Meant conclusion →
+        Means (known_step domain problem (Condition-F.Imply (known domain problem premise) (known domain problem conclusion) at)) (holds.holds_step domain problem full (Condition-F.Imply (holds.holds domain problem full premise) (holds.holds domain problem full conclusion) at))
+        (condition_step (Condition-F.Imply (in_condition premise) (in_condition conclusion) at))
+    imply-means premise conclusion at held later mentioned positive scope named binding stand next given =
         by positive next given
       where
         left : Means (known domain problem premise) (holds.holds domain problem full premise) (in_condition premise) → (positive : Bool) → MeansFrom declared numbered binding ((known domain problem premise).cut positive scope (length binding)) (answers positive (holds.holds domain problem full premise named))
@@ -317,7 +318,7 @@ module _ (domain : Domain) (problem : Problem) where
         and_end true false = refl
         and_end false q = refl
 
-        by : (positive : Bool) → MeansFrom declared numbered binding (cut_step domain problem (Condition-F.Imply (known domain problem premise) (known domain problem conclusion) line) positive scope (length binding))
+        by : (positive : Bool) → MeansFrom declared numbered binding (cut_step domain problem (Condition-F.Imply (known domain problem premise) (known domain problem conclusion) at) positive scope (length binding))
             (answers positive (not (holds.holds domain problem full premise named) || holds.holds domain problem full conclusion named))
         by true next given =
             in_turn-means declared numbered binding ((known domain problem premise).cut false scope (length binding) ∷ (known domain problem conclusion).cut true scope (length binding) ∷ [])
@@ -332,29 +333,29 @@ module _ (domain : Domain) (problem : Problem) where
     not_not true = refl
     not_not false = refl
 
-    forall-means : (variables : List Typed) (inside : Condition) (line : ℕ) → Meant inside →
-        Means (known_step domain problem (Condition-F.Forall variables (known domain problem inside) line)) (holds.holds_step domain problem full (Condition-F.Forall variables (holds.holds domain problem full inside) line))
-        (condition_step (Condition-F.Forall variables (in_condition inside) line))
-    forall-means variables inside line held mentioned true scope named binding stand next given =
+    forall-means : (variables : List Typed) (inside : Condition) (at : At) → Meant inside →
+        Means (known_step domain problem (Condition-F.Forall variables (known domain problem inside) at)) (holds.holds_step domain problem full (Condition-F.Forall variables (holds.holds domain problem full inside) at))
+        (condition_step (Condition-F.Forall variables (in_condition inside) at))
+    forall-means variables inside at held mentioned true scope named binding stand next given =
         none-means variables (known domain problem inside) (holds.holds domain problem full inside) false (held mentioned false) scope named binding stand next given
         ∙ ap not (any-not (λ names. holds.holds domain problem full inside (pddl.bound variables names named)) (pddl.choices domain problem variables))
         ∙ not_not (list_all (λ names. holds.holds domain problem full inside (pddl.bound variables names named)) (pddl.choices domain problem variables))
-    forall-means variables inside line held mentioned false scope named binding stand next given =
+    forall-means variables inside at held mentioned false scope named binding stand next given =
         exists-means variables (known domain problem inside) (holds.holds domain problem full inside) false (held mentioned false) scope named binding stand next given
         ∙ any-not (λ names. holds.holds domain problem full inside (pddl.bound variables names named)) (pddl.choices domain problem variables)
 
-    exists-means-both : (variables : List Typed) (inside : Condition) (line : ℕ) → Meant inside →
-        Means (known_step domain problem (Condition-F.Exists variables (known domain problem inside) line)) (holds.holds_step domain problem full (Condition-F.Exists variables (holds.holds domain problem full inside) line))
-        (condition_step (Condition-F.Exists variables (in_condition inside) line))
-    exists-means-both variables inside line held mentioned true scope named binding stand next given =
+    exists-means-both : (variables : List Typed) (inside : Condition) (at : At) → Meant inside →
+        Means (known_step domain problem (Condition-F.Exists variables (known domain problem inside) at)) (holds.holds_step domain problem full (Condition-F.Exists variables (holds.holds domain problem full inside) at))
+        (condition_step (Condition-F.Exists variables (in_condition inside) at))
+    exists-means-both variables inside at held mentioned true scope named binding stand next given =
         exists-means variables (known domain problem inside) (holds.holds domain problem full inside) true (held mentioned true) scope named binding stand next given
-    exists-means-both variables inside line held mentioned false scope named binding stand next given =
+    exists-means-both variables inside at held mentioned false scope named binding stand next given =
         none-means variables (known domain problem inside) (holds.holds domain problem full inside) true (held mentioned true) scope named binding stand next given
 
-    not-means : (inside : Condition) (line : ℕ) → Meant inside →
-        Means (known_step domain problem (Condition-F.Not (known domain problem inside) line)) (holds.holds_step domain problem full (Condition-F.Not (holds.holds domain problem full inside) line)) (condition_step (Condition-F.Not (in_condition inside) line))
-    not-means inside line held mentioned true scope named binding stand next given = held mentioned false scope named binding stand next given
-    not-means inside line held mentioned false scope named binding stand next given = held mentioned true scope named binding stand next given ∙ sym (not_not (holds.holds domain problem full inside named))
+    not-means : (inside : Condition) (at : At) → Meant inside →
+        Means (known_step domain problem (Condition-F.Not (known domain problem inside) at)) (holds.holds_step domain problem full (Condition-F.Not (holds.holds domain problem full inside) at)) (condition_step (Condition-F.Not (in_condition inside) at))
+    not-means inside at held mentioned true scope named binding stand next given = held mentioned false scope named binding stand next given
+    not-means inside at held mentioned false scope named binding stand next given = held mentioned true scope named binding stand next given ∙ sym (not_not (holds.holds domain problem full inside named))
 
     -- a condition holds exactly where some part is met
     pub condition-means : (condition : Condition) → Meant condition

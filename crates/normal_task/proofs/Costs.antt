@@ -5,6 +5,7 @@ use Rattle.std.specs.List.{list_all, list_any, flat_map}
 use Rattle.std.specs.Cmp.Lexicographic.{pointwise}
 use Rattle.std.proofs.lemmas.Bool.{and_parts, and_from, or_cases, eqb-true, false≢true, not-true}
 use Rattle.lists.specs.Members.{is_among}
+use Rattle.pddl_lexer.specs.declared.position.At.{At}
 use Rattle.pddl_lexer.specs.declared.fault.Kind.TheVariants as kinds
 use Rattle.pddl_parser.specs.declared.types.Action.{Action}
 use Rattle.pddl_parser.specs.declared.types.Atom.{Atom}
@@ -90,8 +91,8 @@ module _ (domain : Domain) (problem : Problem) where
   -- a value is given to a declared function of known objects, or to the total cost
   abbrev is_known_value : Init → Bool
   is_known_value (inits.Holds atom) = true
-  is_known_value (inits.HoldsNot atom line) = true
-  is_known_value (inits.Value term value line) = names.is_function domain term.predicate.name && list_all (is_known domain problem) (holds.ground [] term).objects
+  is_known_value (inits.HoldsNot atom at) = true
+  is_known_value (inits.Value term value at) = names.is_function domain term.predicate.name && list_all (is_known domain problem) (holds.ground [] term).objects
 
   declared-function : (name : Name) → names.is_function domain name ≡ true → is_same name total_cost ≡ false → is_function name ≡ true
   declared-function name known other = sym (declared_among domain.functions name) ∙ by (or_cases (names.is_declared domain.functions name) (is_same name total_cost) known)
@@ -105,9 +106,9 @@ module _ (domain : Domain) (problem : Problem) where
       task.value_in (flat_map (value_row domain problem) entries) (function_number domain atom.predicate) (map (num domain problem) atom.objects) ≡ step.value_in entries atom
   same-values [] known atom is_it other objects = refl
   same-values (inits.Holds stated ∷ entries) known atom is_it other objects = same-values entries known atom is_it other objects
-  same-values (inits.HoldsNot denied line ∷ entries) known atom is_it other objects = same-values entries known atom is_it other objects
-  same-values (inits.Value term value line ∷ entries) known atom is_it other objects =
-      let parts = and_parts (is_known_value (inits.Value term value line)) (list_all is_known_value entries) known in
+  same-values (inits.HoldsNot denied at ∷ entries) known atom is_it other objects = same-values entries known atom is_it other objects
+  same-values (inits.Value term value at ∷ entries) known atom is_it other objects =
+      let parts = and_parts (is_known_value (inits.Value term value at)) (list_all is_known_value entries) known in
       let sides = and_parts (names.is_function domain term.predicate.name) (list_all (is_known domain problem) (holds.ground [] term).objects) parts.0 in
       by (is_same term.predicate.name total_cost) refl sides.0 sides.1 (same-values entries parts.1 atom is_it other objects)
     where
@@ -145,7 +146,7 @@ module _ (domain : Domain) (problem : Problem) where
   abbrev is_sound_mention : Mention → Bool
   is_sound_mention mention = is_known_mention domain problem mention && is_function_mention domain problem mention
 
-  abbrev IncreasesSound : List Cost → (Depth → List Increase) → (scopes.Scope → List ℕ) → List Mention → Type 0
+  abbrev IncreasesSound : List Cost → (Depth → List Increase) → (scopes.Scope → List At) → List Mention → Type 0
   IncreasesSound costs list unbound mentions =
       ((list_all is_formed (list Inner) ≡ true → costs ≡ []) × ((depth : Depth) → list_all is_formed (list depth) ≡ true → (in_scope : List Name) → unbound in_scope ≡ [] → list_all is_sound_mention mentions ≡ true → Each (CostSound in_scope) costs))
 
@@ -175,17 +176,17 @@ module _ (domain : Domain) (problem : Problem) where
       (right_empty (scopes.in_effect member in_scope) (flat_map (λ member. member in_scope) (map scopes.in_effect members)) unbound)
       (all-right is_sound_mention (in_effect member) (flat_map (λ mentions. mentions) (map in_effect members)) mentioned))
 
-  increase-sound : (term : Atom) (cost : Cost) (line : ℕ) → IncreasesSound (step.increases_step (Effect-F.Increase term cost line)) (increases.increases_step (Effect-F.Increase term cost line)) (scopes.effect_step (Effect-F.Increase term cost line)) (effect_step (Effect-F.Increase term cost line))
-  increase-sound term cost line = ((λ formed. absurd (false≢true formed)), λ depth formed in_scope unbound mentioned. (by cost depth formed in_scope unbound mentioned, tt))
+  increase-sound : (term : Atom) (cost : Cost) (at : At) → IncreasesSound (step.increases_step (Effect-F.Increase term cost at)) (increases.increases_step (Effect-F.Increase term cost at)) (scopes.effect_step (Effect-F.Increase term cost at)) (effect_step (Effect-F.Increase term cost at))
+  increase-sound term cost at = ((λ formed. absurd (false≢true formed)), λ depth formed in_scope unbound mentioned. (by cost depth formed in_scope unbound mentioned, tt))
     where
-      formed-proper : (cost : Cost) (depth : Depth) → list_all is_formed (increases.increases_step (Effect-F.Increase term cost line) depth) ≡ true → not (increases.is_total_cost_term cost) ≡ true
+      formed-proper : (cost : Cost) (depth : Depth) → list_all is_formed (increases.increases_step (Effect-F.Increase term cost at) depth) ≡ true → not (increases.is_total_cost_term cost) ≡ true
       formed-proper cost depth formed =
           let one = (and_parts (increases.may_stand depth && increases.is_proper term cost) true formed).0 in
           let proper = (and_parts (increases.may_stand depth) (increases.is_proper term cost) one).1 in
           (and_parts (is_same term.predicate.name total_cost) (not (increases.is_total_cost_term cost)) proper).1
 
-      by : (cost : Cost) (depth : Depth) → list_all is_formed (increases.increases_step (Effect-F.Increase term cost line) depth) ≡ true → (in_scope : List Name) → scopes.effect_step (Effect-F.Increase term cost line) in_scope ≡ [] →
-          list_all is_sound_mention (effect_step (Effect-F.Increase term cost line)) ≡ true → CostSound in_scope cost
+      by : (cost : Cost) (depth : Depth) → list_all is_formed (increases.increases_step (Effect-F.Increase term cost at) depth) ≡ true → (in_scope : List Name) → scopes.effect_step (Effect-F.Increase term cost at) in_scope ≡ [] →
+          list_all is_sound_mention (effect_step (Effect-F.Increase term cost at)) ≡ true → CostSound in_scope cost
       by (pddl_costs.Number number) depth formed in_scope unbound mentioned = tt
       by (pddl_costs.Term function) depth formed in_scope unbound mentioned =
           let not_total = not-true (is_same function.predicate.name total_cost) (formed-proper (pddl_costs.Term function) depth formed) in
@@ -198,14 +199,14 @@ module _ (domain : Domain) (problem : Problem) where
           )
 
   costs-sound : (effect : Effect) → Sound effect
-  costs-sound = by_folds (List Cost) (Depth → List Increase) (scopes.Scope → List ℕ) (List Mention) step.increases_step increases.increases_step scopes.effect_step effect_step IncreasesSound record {
-    at_nothing = λ line. ((λ formed. refl), λ depth formed in_scope unbound mentioned. tt);
+  costs-sound = by_folds (List Cost) (Depth → List Increase) (scopes.Scope → List At) (List Mention) step.increases_step increases.increases_step scopes.effect_step effect_step IncreasesSound record {
+    at_nothing = λ at. ((λ formed. refl), λ depth formed in_scope unbound mentioned. tt);
     at_add = λ atom. ((λ formed. refl), λ depth formed in_scope unbound mentioned. tt);
     at_delete = λ atom. ((λ formed. refl), λ depth formed in_scope unbound mentioned. tt);
-    at_and = λ members line held. (none-inner members held, λ depth formed in_scope unbound mentioned. members-sound members held (increases.joined_depth depth) formed in_scope unbound mentioned);
-    at_when = λ condition inside line held.
+    at_and = λ members at held. (none-inner members held, λ depth formed in_scope unbound mentioned. members-sound members held (increases.joined_depth depth) formed in_scope unbound mentioned);
+    at_when = λ condition inside at held.
         ((λ formed. held.0 formed), λ depth formed in_scope unbound mentioned. subst (Each (CostSound in_scope)) (sym (held.0 formed)) tt);
-    at_forall = λ variables inside line held.
+    at_forall = λ variables inside at held.
         ((λ formed. held.0 formed), λ depth formed in_scope unbound mentioned. subst (Each (CostSound in_scope)) (sym (held.0 formed)) tt);
     at_increase = increase-sound;
   }
@@ -214,12 +215,12 @@ module _ (domain : Domain) (problem : Problem) where
   all-formed [] none = refl
   all-formed (increase ∷ []) none = by increase.is_formed refl none
     where
-      by : (b : Bool) → increase.is_formed ≡ b → ((if b then [] else increase.line ∷ []) ++ []) ≡ [] → (increase.is_formed && true) ≡ true
+      by : (b : Bool) → increase.is_formed ≡ b → ((if b then [] else increase.at ∷ []) ++ []) ≡ [] → (increase.is_formed && true) ≡ true
       by true e none = ap (λ b. b && true) e
       by false e none = absurd cc
-  all-formed (increase ∷ other ∷ more) none = absurd (some (if increase.is_formed then [] else increase.line ∷ []) none)
+  all-formed (increase ∷ other ∷ more) none = absurd (some (if increase.is_formed then [] else increase.at ∷ []) none)
     where
-      some : (xs : List ℕ) → xs ++ (other.line ∷ map (λ (other : Increase). other.line) more) ≡ [] → ⊥
+      some : (xs : List At) → xs ++ (other.at ∷ map (λ (other : Increase). other.at) more) ≡ [] → ⊥
       some [] none = cc
       some (x ∷ xs) none = cc
 
@@ -229,15 +230,15 @@ module _ (domain : Domain) (problem : Problem) where
 
     functions : (list_all (is_function_mention domain problem) (in_domain domain) ≡ true) × (list_all (is_function_mention domain problem) (in_problem problem) ≡ true)
     functions =
-        let lines = row_empty domain problem none function_row (inr (inr (inr (inr (inl refl))))) in
-        (functions_known domain problem (in_domain domain) lines.0, functions_known domain problem (in_problem problem) lines.1)
+        let positions = row_empty domain problem none function_row (inr (inr (inr (inr (inl refl))))) in
+        (functions_known domain problem (in_domain domain) positions.0, functions_known domain problem (in_problem problem) positions.1)
 
     -- ---- the values of the initial state
 
     value-known : (entry : Init) → AreKnown domain problem (in_init entry) → list_all (is_function_mention domain problem) (in_init entry) ≡ true → scopes.in_init entry ≡ [] → is_known_value entry ≡ true
     value-known (inits.Holds atom) mentioned function bound = refl
-    value-known (inits.HoldsNot atom line) mentioned function bound = refl
-    value-known (inits.Value term value line) mentioned function bound =
+    value-known (inits.HoldsNot atom at) mentioned function bound = refl
+    value-known (inits.Value term value at) mentioned function bound =
         let mention = (and_parts (is_known_mention domain problem (Function term)) true mentioned).0 in
         let use_it = (and_parts (is_function_mention domain problem (Function term)) true function).0 in
         and_from (names.is_function domain term.predicate.name) (list_all (is_known domain problem) (holds.ground [] term).objects)

@@ -1,6 +1,7 @@
 -- A condition has as many parts as its size says, and so has each quantifier that is replaced.
 use Rattle.std.proofs.Common.{◌≡◌, ℕ, suc, ◌+◌, ◌*◌, Bool, true, false, not, List, [], ◌∷◌, ◌++◌, map, length, sum, refl, sym, ap, ◌∙◌, arith}
 use Rattle.std.specs.List.{flat_map, fold}
+use Rattle.pddl_lexer.specs.declared.position.At.{At}
 use Rattle.pddl_parser.specs.declared.types.Condition.{Condition, Condition-F}
 use Rattle.pddl_parser.specs.declared.types.Domain.{Domain}
 use Rattle.pddl_parser.specs.declared.types.Problem.{Problem}
@@ -99,8 +100,8 @@ module _ (domain : Domain) (problem : Problem) where
       let inner = held positive inside (around + length variables) next in
       record { parts = length-map (with_variables (ranges_of domain problem variables)) (k.cut positive inside (around + length variables) next).items ∙ inner.parts; fresh = inner.fresh }
 
-  none-counts : (variables : List Typed) (k : Known) (size : Bool → Size) (line : ℕ) → Counted k size tt → (positive : Bool) (scope : Scope) (around next : ℕ) → Counts (none_inside domain problem variables k positive scope around next) (sizes.replaced_by (size positive) line)
-  none-counts variables k size line held positive scope around next =
+  none-counts : (variables : List Typed) (k : Known) (size : Bool → Size) (at : At) → Counted k size tt → (positive : Bool) (scope : Scope) (around next : ℕ) → Counts (none_inside domain problem variables k positive scope around next) (sizes.replaced_by (size positive) at)
+  none-counts variables k size at held positive scope around next =
       let arguments = free_slots domain problem variables k scope in
       let inner = exists-counts variables k size held positive (renumbered arguments 0 []) (length arguments) (suc next) in
       let made = exists_inside domain problem variables k positive (renumbered arguments 0 []) (length arguments) (suc next) in
@@ -114,8 +115,8 @@ module _ (domain : Domain) (problem : Problem) where
   condition-counts = by_folds Known (Bool → Size) (Unit {0}) (known_step domain problem) size_step (λ layer. tt) Counted record {
     at_true = at_truth;
     at_atom = λ atom positive scope around next. record { parts = refl; fresh = refl };
-    at_equal = λ left right line positive scope around next. record { parts = refl; fresh = refl };
-    at_not = λ inside line held positive scope around next. held (not positive) scope around next;
+    at_equal = λ left right at positive scope around next. record { parts = refl; fresh = refl };
+    at_not = λ inside at held positive scope around next. held (not positive) scope around next;
     at_and = at_conjunction;
     at_or = at_disjunction;
     at_imply = at_implication;
@@ -123,27 +124,27 @@ module _ (domain : Domain) (problem : Problem) where
     at_exists = at_existential;
   }
     where
-      at_truth : (line : ℕ) → Counted (known_step domain problem (Condition-F.True line)) (size_step (Condition-F.True line)) tt
-      at_truth line true scope around next = record { parts = refl; fresh = refl }
-      at_truth line false scope around next = record { parts = refl; fresh = refl }
+      at_truth : (at : At) → Counted (known_step domain problem (Condition-F.True at)) (size_step (Condition-F.True at)) tt
+      at_truth at true scope around next = record { parts = refl; fresh = refl }
+      at_truth at false scope around next = record { parts = refl; fresh = refl }
 
-      at_conjunction : (members : List Condition) (line : ℕ) → Each AsCounted members → Counted (known_step domain problem (Condition-F.And (map (known domain problem) members) line)) (size_step (Condition-F.And (map size_of members) line)) tt
-      at_conjunction members line each true scope around next = pairing-counts around (map (λ member. member.cut true scope around) (map (known domain problem) members)) (map (λ (member : Bool → Size). member true) (map size_of members)) (members-counts true scope around members each) next
-      at_conjunction members line each false scope around next = turn-counts around (map (λ member. member.cut false scope around) (map (known domain problem) members)) (map (λ (member : Bool → Size). member false) (map size_of members)) (members-counts false scope around members each) next
+      at_conjunction : (members : List Condition) (at : At) → Each AsCounted members → Counted (known_step domain problem (Condition-F.And (map (known domain problem) members) at)) (size_step (Condition-F.And (map size_of members) at)) tt
+      at_conjunction members at each true scope around next = pairing-counts around (map (λ member. member.cut true scope around) (map (known domain problem) members)) (map (λ (member : Bool → Size). member true) (map size_of members)) (members-counts true scope around members each) next
+      at_conjunction members at each false scope around next = turn-counts around (map (λ member. member.cut false scope around) (map (known domain problem) members)) (map (λ (member : Bool → Size). member false) (map size_of members)) (members-counts false scope around members each) next
 
-      at_disjunction : (members : List Condition) (line : ℕ) → Each AsCounted members → Counted (known_step domain problem (Condition-F.Or (map (known domain problem) members) line)) (size_step (Condition-F.Or (map size_of members) line)) tt
-      at_disjunction members line each true scope around next = turn-counts around (map (λ member. member.cut true scope around) (map (known domain problem) members)) (map (λ (member : Bool → Size). member true) (map size_of members)) (members-counts true scope around members each) next
-      at_disjunction members line each false scope around next = pairing-counts around (map (λ member. member.cut false scope around) (map (known domain problem) members)) (map (λ (member : Bool → Size). member false) (map size_of members)) (members-counts false scope around members each) next
+      at_disjunction : (members : List Condition) (at : At) → Each AsCounted members → Counted (known_step domain problem (Condition-F.Or (map (known domain problem) members) at)) (size_step (Condition-F.Or (map size_of members) at)) tt
+      at_disjunction members at each true scope around next = turn-counts around (map (λ member. member.cut true scope around) (map (known domain problem) members)) (map (λ (member : Bool → Size). member true) (map size_of members)) (members-counts true scope around members each) next
+      at_disjunction members at each false scope around next = pairing-counts around (map (λ member. member.cut false scope around) (map (known domain problem) members)) (map (λ (member : Bool → Size). member false) (map size_of members)) (members-counts false scope around members each) next
 
-      at_implication : (premise conclusion : Condition) (line : ℕ) → AsCounted premise → AsCounted conclusion →
-          Counted (known_step domain problem (Condition-F.Imply (known domain problem premise) (known domain problem conclusion) line)) (size_step (Condition-F.Imply (size_of premise) (size_of conclusion) line)) tt
-      at_implication premise conclusion line held later true scope around next = turn-counts around ((known domain problem premise).cut false scope around ∷ (known domain problem conclusion).cut true scope around ∷ []) (size_of premise false ∷ size_of conclusion true ∷ []) (held false scope around, (later true scope around, tt)) next
-      at_implication premise conclusion line held later false scope around next = pairing-counts around ((known domain problem premise).cut true scope around ∷ (known domain problem conclusion).cut false scope around ∷ []) (size_of premise true ∷ size_of conclusion false ∷ []) (held true scope around, (later false scope around, tt)) next
+      at_implication : (premise conclusion : Condition) (at : At) → AsCounted premise → AsCounted conclusion →
+          Counted (known_step domain problem (Condition-F.Imply (known domain problem premise) (known domain problem conclusion) at)) (size_step (Condition-F.Imply (size_of premise) (size_of conclusion) at)) tt
+      at_implication premise conclusion at held later true scope around next = turn-counts around ((known domain problem premise).cut false scope around ∷ (known domain problem conclusion).cut true scope around ∷ []) (size_of premise false ∷ size_of conclusion true ∷ []) (held false scope around, (later true scope around, tt)) next
+      at_implication premise conclusion at held later false scope around next = pairing-counts around ((known domain problem premise).cut true scope around ∷ (known domain problem conclusion).cut false scope around ∷ []) (size_of premise true ∷ size_of conclusion false ∷ []) (held true scope around, (later false scope around, tt)) next
 
-      at_universal : (variables : List Typed) (inside : Condition) (line : ℕ) → AsCounted inside → Counted (known_step domain problem (Condition-F.Forall variables (known domain problem inside) line)) (size_step (Condition-F.Forall variables (size_of inside) line)) tt
-      at_universal variables inside line held true scope around next = none-counts variables (known domain problem inside) (size_of inside) line held false scope around next
-      at_universal variables inside line held false scope around next = exists-counts variables (known domain problem inside) (size_of inside) held false scope around next
+      at_universal : (variables : List Typed) (inside : Condition) (at : At) → AsCounted inside → Counted (known_step domain problem (Condition-F.Forall variables (known domain problem inside) at)) (size_step (Condition-F.Forall variables (size_of inside) at)) tt
+      at_universal variables inside at held true scope around next = none-counts variables (known domain problem inside) (size_of inside) at held false scope around next
+      at_universal variables inside at held false scope around next = exists-counts variables (known domain problem inside) (size_of inside) held false scope around next
 
-      at_existential : (variables : List Typed) (inside : Condition) (line : ℕ) → AsCounted inside → Counted (known_step domain problem (Condition-F.Exists variables (known domain problem inside) line)) (size_step (Condition-F.Exists variables (size_of inside) line)) tt
-      at_existential variables inside line held true scope around next = exists-counts variables (known domain problem inside) (size_of inside) held true scope around next
-      at_existential variables inside line held false scope around next = none-counts variables (known domain problem inside) (size_of inside) line held true scope around next
+      at_existential : (variables : List Typed) (inside : Condition) (at : At) → AsCounted inside → Counted (known_step domain problem (Condition-F.Exists variables (known domain problem inside) at)) (size_step (Condition-F.Exists variables (size_of inside) at)) tt
+      at_existential variables inside at held true scope around next = exists-counts variables (known domain problem inside) (size_of inside) held true scope around next
+      at_existential variables inside at held false scope around next = none-counts variables (known domain problem inside) (size_of inside) at held true scope around next

@@ -2,6 +2,7 @@
 use Rattle.std.proofs.Common.{◌≡◌, ℕ, ◌+◌, Bool, true, false, ◌&&◌, List, [], ◌∷◌, ◌++◌, map, length, refl, arith}
 use Rattle.std.specs.List.{flat_map}
 use Rattle.std.proofs.lemmas.Bool.{and_parts}
+use Rattle.pddl_lexer.specs.declared.position.At.{At}
 use Rattle.pddl_parser.specs.declared.types.Atom.{Atom}
 use Rattle.pddl_parser.specs.declared.types.Domain.{Domain}
 use Rattle.pddl_parser.specs.declared.types.Effect.{Effect}
@@ -26,7 +27,7 @@ module _ (domain : Domain) (problem : Problem) where
   abbrev pub AllInScope : List Name → Scope → ℕ → Type 0
   AllInScope names scope around = (name : Name) → is_in names name ≡ true → InScope scope around name
 
-  abbrev EffectFits : Rows domain problem → Unit {0} → (scopes.Scope → List ℕ) → List Mention → Type 0
+  abbrev EffectFits : Rows domain problem → Unit {0} → (scopes.Scope → List At) → List Mention → Type 0
   EffectFits rows unused unbound mentions =
       AreKnown domain problem mentions → (required : List (ℕ → ℕ → Made Part)) (names : List Name) (scope : Scope) (around : ℕ) → unbound names ≡ [] → AllInScope names scope around → RequiredFits domain problem around required →
       (next : ℕ) → fresh_fit (declared domain problem) next (rows required scope around next).fresh ≡ true
@@ -55,21 +56,21 @@ module _ (domain : Domain) (problem : Problem) where
 
   -- the parts of the new predicates of an effect fit
   pub effect-fits : (effect : Effect) → Fit effect
-  effect-fits = by_folds (Rows domain problem) (Unit {0}) (scopes.Scope → List ℕ) (List Mention) (row_step domain problem) (λ layer. tt) scopes.effect_step effect_step EffectFits record {
-    at_nothing = λ line mentioned required names scope around unbound in_scope fit next. refl;
+  effect-fits = by_folds (Rows domain problem) (Unit {0}) (scopes.Scope → List At) (List Mention) (row_step domain problem) (λ layer. tt) scopes.effect_step effect_step EffectFits record {
+    at_nothing = λ at mentioned required names scope around unbound in_scope fit next. refl;
     at_add = λ atom mentioned required names scope around unbound in_scope fit next. written-fits true atom required scope around fit next;
     at_delete = λ atom mentioned required names scope around unbound in_scope fit next. written-fits false atom required scope around fit next;
-    at_and = λ members line held mentioned required names scope around unbound in_scope fit next. members-fit members held mentioned required names scope around unbound in_scope fit next;
-    at_when = λ condition inside line held mentioned required names scope around unbound in_scope fit next.
+    at_and = λ members at held mentioned required names scope around unbound in_scope fit next. members-fit members held mentioned required names scope around unbound in_scope fit next;
+    at_when = λ condition inside at held mentioned required names scope around unbound in_scope fit next.
         let here = left_empty (scopes.in_condition condition names) (scopes.in_effect inside names) unbound in
         held (all-right (is_known_mention domain problem) (in_condition condition) (in_effect inside) mentioned) (required ++ (λ around. parts domain problem condition true scope around) ∷ []) names scope around
         (right_empty (scopes.in_condition condition names) (scopes.in_effect inside names) unbound) in_scope
         (fits-also domain problem around required (λ around. parts domain problem condition true scope around) fit
         (λ more least. condition-fits domain problem condition (all-left (is_known_mention domain problem) (in_condition condition) (in_effect inside) mentioned) true scope more
         (λ name free. wider scope around more name least (in_scope name (free-bound domain problem condition names here name free))))) next;
-    at_forall = λ variables inside line held mentioned required names scope around unbound in_scope fit next.
+    at_forall = λ variables inside at held mentioned required names scope around unbound in_scope fit next.
         held (and_parts (true && true) _ mentioned).1 required (scopes.inside_of variables names) (scope_inside domain problem variables around scope) (around + length variables) unbound
         (λ name inside_it. inside-in_scope domain problem variables around scope name (λ unlisted. in_scope name (in-inside variables names name inside_it unlisted)))
         (fits-wider domain problem around (around + length variables) (omega arith) required fit) next;
-    at_increase = λ term cost line mentioned required names scope around unbound in_scope fit next. refl;
+    at_increase = λ term cost at mentioned required names scope around unbound in_scope fit next. refl;
   }

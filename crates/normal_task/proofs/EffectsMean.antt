@@ -6,6 +6,7 @@ use Rattle.std.specs.Cmp.Lexicographic.{pointwise}
 use Rattle.std.proofs.lemmas.Bool.{and_parts, and_from}
 use Rattle.std.proofs.lemmas.List.Folds.{list_any-append, list_all-append}
 use Rattle.std.proofs.Math.Bool.{and-false, and-true}
+use Rattle.pddl_lexer.specs.declared.position.At.{At}
 use Rattle.pddl_parser.specs.declared.types.Atom.{Atom}
 use Rattle.pddl_parser.specs.declared.types.Condition.{Condition}
 use Rattle.pddl_parser.specs.declared.types.Domain.{Domain}
@@ -134,7 +135,7 @@ module _ (domain : Domain) (problem : Problem) where
       abbrev some_row : Binding → GroundAtom → List EffectRow → Bool
       some_row binding atom rows = task.writes numbered adds rows binding atom
 
-      abbrev pub EffectMeans : Rows domain problem → (pddl.Binding → holds.State) → (scopes.Scope → List ℕ) → List Mention → Type 0
+      abbrev pub EffectMeans : Rows domain problem → (pddl.Binding → holds.State) → (scopes.Scope → List At) → List Mention → Type 0
       EffectMeans rows change unbound mentions =
           AreKnown domain problem mentions → (required : List (ℕ → ℕ → Made Part)) (truths : List Bool) (names : List Name) (scope : Scope) (named : pddl.Binding) (binding : Binding) →
           unbound names ≡ [] → StandAll names scope named binding → RequiredFits (length binding) required → Required binding required truths →
@@ -225,10 +226,10 @@ module _ (domain : Domain) (problem : Problem) where
           let is = stand name (free-bound domain problem condition names unbound name free) in
           record { slot = is.slot; found = is.found; within = omega (arith, least, is.within) }
 
-      when-means : (condition : Condition) (inside : Effect) (line : ℕ) → Meant inside →
-          EffectMeans (row_step domain problem (Effect-F.When condition (rows_of domain problem inside) line)) (step.writes_step domain problem full adds (Effect-F.When condition (change inside) line))
-          (scopes.effect_step (Effect-F.When condition (scopes.in_effect inside) line)) (effect_step (Effect-F.When condition (in_effect inside) line))
-      when-means condition inside line held mentioned required truths names scope named binding unbound stand fit is next given atom known_atom =
+      when-means : (condition : Condition) (inside : Effect) (at : At) → Meant inside →
+          EffectMeans (row_step domain problem (Effect-F.When condition (rows_of domain problem inside) at)) (step.writes_step domain problem full adds (Effect-F.When condition (change inside) at))
+          (scopes.effect_step (Effect-F.When condition (scopes.in_effect inside) at)) (effect_step (Effect-F.When condition (in_effect inside) at))
+      when-means condition inside at held mentioned required truths names scope named binding unbound stand fit is next given atom known_atom =
           held (all-right (is_known_mention domain problem) (in_condition condition) (in_effect inside) mentioned) (required ++ cut ∷ []) (truths ++ holds.holds domain problem full condition named ∷ []) names scope named binding
           (right_empty (scopes.in_condition condition names) (scopes.in_effect inside names) unbound) stand
           (fits-also (length binding) required cut fit
@@ -264,10 +265,10 @@ module _ (domain : Domain) (problem : Problem) where
           ∙ sym (any-and_left (answers adds row.adds) (λ os. list_any (λ ps. task.is_on numbered atom row ((binding ++ os) ++ ps)) (choices row.variables)) (choices ranges))) rows
           ∙ any-swap (λ row os. task.row_writes numbered adds (binding ++ os) atom row) rows (choices ranges)
 
-      forall-means : (variables : List Typed) (inside : Effect) (line : ℕ) → Meant inside →
-          EffectMeans (row_step domain problem (Effect-F.Forall variables (rows_of domain problem inside) line)) (step.writes_step domain problem full adds (Effect-F.Forall variables (change inside) line))
-          (scopes.effect_step (Effect-F.Forall variables (scopes.in_effect inside) line)) (effect_step (Effect-F.Forall variables (in_effect inside) line))
-      forall-means variables inside line held mentioned required truths names scope named binding unbound stand fit is next given atom known_atom =
+      forall-means : (variables : List Typed) (inside : Effect) (at : At) → Meant inside →
+          EffectMeans (row_step domain problem (Effect-F.Forall variables (rows_of domain problem inside) at)) (step.writes_step domain problem full adds (Effect-F.Forall variables (change inside) at))
+          (scopes.effect_step (Effect-F.Forall variables (scopes.in_effect inside) at)) (effect_step (Effect-F.Forall variables (in_effect inside) at))
+      forall-means variables inside at held mentioned required truths names scope named binding unbound stand fit is next given atom known_atom =
           let rows = rows_of domain problem inside in
           let target = numbered_atom domain problem atom in
           with_variables-write binding target (ranges_of domain problem variables) (inner variables rows required scope binding next)
@@ -286,7 +287,7 @@ module _ (domain : Domain) (problem : Problem) where
           (required-longer binding (map (number domain problem) objects) required truths is) next given_here atom known_atom) given)
           ∙ any-and_left (all_true truths) (λ objects. change inside (pddl.bound variables objects named) atom) (pddl.choices domain problem variables)
         where
-          all_right_of : AreKnown domain problem (effect_step (Effect-F.Forall variables (in_effect inside) line)) → AreKnown domain problem (in_effect inside)
+          all_right_of : AreKnown domain problem (effect_step (Effect-F.Forall variables (in_effect inside) at)) → AreKnown domain problem (in_effect inside)
           all_right_of known = (and_parts (true && true) _ known).1
 
       ended : (this : Bool) (b : Bool) (truths : List Bool) → (all_true truths && (answers adds this && b)) ≡ (all_true truths && (if this then adds && b else not adds && b))
@@ -306,15 +307,15 @@ module _ (domain : Domain) (problem : Problem) where
 
       -- the rows of an effect write what it writes
       pub effect-means : (effect : Effect) → Meant effect
-      effect-means = by_folds (Rows domain problem) (pddl.Binding → holds.State) (scopes.Scope → List ℕ) (List Mention) (row_step domain problem) (step.writes_step domain problem full adds) scopes.effect_step effect_step EffectMeans record {
-        at_nothing = λ line mentioned required truths names scope named binding unbound stand fit is next given atom known_atom. nothing-means truths;
+      effect-means = by_folds (Rows domain problem) (pddl.Binding → holds.State) (scopes.Scope → List At) (List Mention) (row_step domain problem) (step.writes_step domain problem full adds) scopes.effect_step effect_step EffectMeans record {
+        at_nothing = λ at mentioned required truths names scope named binding unbound stand fit is next given atom known_atom. nothing-means truths;
         at_add = λ written_atom mentioned required truths names scope named binding unbound stand fit is next given atom known_atom.
             written-means true written_atom mentioned required truths names scope named binding unbound stand fit is next given atom known_atom ∙ ended true (is_written named written_atom atom) truths;
         at_delete = λ written_atom mentioned required truths names scope named binding unbound stand fit is next given atom known_atom.
             written-means false written_atom mentioned required truths names scope named binding unbound stand fit is next given atom known_atom ∙ ended false (is_written named written_atom atom) truths;
-        at_and = λ members line held mentioned required truths names scope named binding unbound stand fit is next given atom known_atom.
+        at_and = λ members at held mentioned required truths names scope named binding unbound stand fit is next given atom known_atom.
             members-mean members held mentioned required truths names scope named binding unbound stand fit is next given atom known_atom;
         at_when = when-means;
         at_forall = forall-means;
-        at_increase = λ term cost line mentioned required truths names scope named binding unbound stand fit is next given atom known_atom. nothing-means truths;
+        at_increase = λ term cost at mentioned required truths names scope named binding unbound stand fit is next given atom known_atom. nothing-means truths;
       }

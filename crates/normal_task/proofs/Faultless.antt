@@ -77,7 +77,7 @@ module _ (domain : Domain) (problem : Problem) where
       let all_names : List Named = map (λ (usage : Use). usage.name) uses in
       sym (all_flat_map (λ (usage : Use). is_declared domain problem usage.name.name) predicate_uses mentions)
       ∙ sym (list_all-map passes (λ (usage : Use). usage.name) uses)
-      ∙ none_fails fails passes (λ named. ap not (declared_among domain.predicates named.name)) all_names (map_empty (λ (named : Named). named.line) (filter fails all_names) none)
+      ∙ none_fails fails passes (λ named. ap not (declared_among domain.predicates named.name)) all_names (map_empty (λ (named : Named). named.at) (filter fails all_names) none)
 
   terms_known : (list : List Term) → flat_map (names.unknown_object domain problem) list ≡ [] → list_all (is_known_term domain problem) list ≡ true
   terms_known [] none = refl
@@ -87,7 +87,7 @@ module _ (domain : Domain) (problem : Problem) where
       (by (list_any (λ (known : Typed). is_same known.name.name object.name) (objects domain problem)) refl (left_empty (names.unknown_object domain problem (terms.Object object)) (flat_map (names.unknown_object domain problem) list) none))
       (terms_known list (right_empty (names.unknown_object domain problem (terms.Object object)) (flat_map (names.unknown_object domain problem) list) none))
     where
-      by : (b : Bool) → list_any (λ (known : Typed). is_same known.name.name object.name) (objects domain problem) ≡ b → (if b then [] else object.line ∷ []) ≡ [] → is_known domain problem object.name ≡ true
+      by : (b : Bool) → list_any (λ (known : Typed). is_same known.name.name object.name) (objects domain problem) ≡ b → (if b then [] else object.at ∷ []) ≡ [] → is_known domain problem object.name ≡ true
       by true e none = sym (objects_among (objects domain problem) object.name) ∙ e
       by false e none = absurd cc
 
@@ -109,7 +109,7 @@ module _ (domain : Domain) (problem : Problem) where
       let all_names : List Named = map (λ (usage : Use). usage.name) uses in
       sym (all_flat_map (λ (usage : Use). names.is_function domain usage.name.name) function_uses mentions)
       ∙ sym (list_all-map passes (λ (usage : Use). usage.name) uses)
-      ∙ none_fails fails passes (λ named. refl) all_names (map_empty (λ (named : Named). named.line) (filter fails all_names) none)
+      ∙ none_fails fails passes (λ named. refl) all_names (map_empty (λ (named : Named). named.at) (filter fails all_names) none)
 
   -- ---- what is declared
 
@@ -188,7 +188,7 @@ module _ (domain : Domain) (problem : Problem) where
         in_each_action (is_basic_mention domain problem)
         (sym (all_flat_map (λ (name : Named). not (holds.is_derived domain name.name)) written_predicates (in_domain domain))
         ∙ none_fails (λ (name : Named). holds.is_derived domain name.name) (λ (name : Named). not (holds.is_derived domain name.name)) (λ name. not_not (holds.is_derived domain name.name)) (flat_map written_predicates (in_domain domain))
-        (map_empty (λ (named : Named). named.line) (filter (λ (name : Named). holds.is_derived domain name.name) (flat_map written_predicates (in_domain domain)))
+        (map_empty (λ (named : Named). named.at) (filter (λ (name : Named). holds.is_derived domain name.name) (flat_map written_predicates (in_domain domain)))
         (row_empty domain problem none (row kinds.DerivedWritten (names.written_derived domain (in_domain domain)) (names.written_derived domain (in_problem problem))) (inr (inr (inr (inr (inr (inr (inr (inr (inl refl)))))))))).0))
       where
         not_not : (b : Bool) → b ≡ not (not b)
@@ -200,7 +200,7 @@ module _ (domain : Domain) (problem : Problem) where
     problem_basic =
         sym (all_flat_map (λ (name : Named). not (holds.is_derived domain name.name)) written_predicates (in_problem problem))
         ∙ none_fails (λ (name : Named). holds.is_derived domain name.name) (λ (name : Named). not (holds.is_derived domain name.name)) (λ name. not_not (holds.is_derived domain name.name)) (flat_map written_predicates (in_problem problem))
-        (map_empty (λ (named : Named). named.line) (filter (λ (name : Named). holds.is_derived domain name.name) (flat_map written_predicates (in_problem problem)))
+        (map_empty (λ (named : Named). named.at) (filter (λ (name : Named). holds.is_derived domain name.name) (flat_map written_predicates (in_problem problem)))
         (row_empty domain problem none (row kinds.DerivedWritten (names.written_derived domain (in_domain domain)) (names.written_derived domain (in_problem problem))) (inr (inr (inr (inr (inr (inr (inr (inr (inl refl)))))))))).1)
       where
         not_not : (b : Bool) → b ≡ not (not b)
@@ -215,8 +215,8 @@ module _ (domain : Domain) (problem : Problem) where
         let sides = and_parts (is_declared domain problem atom.predicate.name && true) (list_all (is_known_term domain problem) atom.terms) mention in
         and_from (is_declared domain problem atom.predicate.name) (list_all (is_known domain problem) (map (holds.object_of []) atom.terms)) (and_parts (is_declared domain problem atom.predicate.name) true sides.0).0
         (terms-objects domain problem [] [] [] atom.terms sides.1 (λ name is. absurd (false≢true (terms-bound [] atom.terms bound name is)))).1
-    entry_known (inits.HoldsNot atom line) mentioned bound = refl
-    entry_known (inits.Value term value line) mentioned bound = refl
+    entry_known (inits.HoldsNot atom at) mentioned bound = refl
+    entry_known (inits.Value term value at) mentioned bound = refl
 
     pub init_known : list_all (is_known_entry domain problem) problem.init ≡ true
     init_known =

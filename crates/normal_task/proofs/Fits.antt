@@ -314,7 +314,7 @@ module _ (domain : Domain) (problem : Problem) where
   -- the parts of a condition, and those of its new predicates, fit
   pub condition-fits : (condition : Condition) → Fit condition
   condition-fits = by_folds Known (Unit {0}) (List Mention) (known_step domain problem) (λ layer. tt) condition_step CutFits record {
-    at_true = λ line mentioned positive scope around in_scope next. at_truth positive around next;
+    at_true = λ at mentioned positive scope around in_scope next. at_truth positive around next;
     at_atom = λ atom mentioned positive scope around in_scope next.
         let parts = and_parts (is_known_mention domain problem (Asked atom)) true mentioned in
         let names = and_parts (is_declared domain problem atom.predicate.name && true) (list_all (is_known_term domain problem) atom.terms) parts.0 in
@@ -326,7 +326,7 @@ module _ (domain : Domain) (problem : Problem) where
               (or_left (nat_lt number declared) (nat_le (declared + next) number) (predicate-declared atom.predicate.name name));
           fresh = refl;
         };
-    at_equal = λ left right line mentioned positive scope around in_scope next.
+    at_equal = λ left right at mentioned positive scope around in_scope next.
         record {
           items =
               one_literal (Equal positive (place_of domain problem scope left) (place_of domain problem scope right)) around next
@@ -335,14 +335,14 @@ module _ (domain : Domain) (problem : Problem) where
               (term-within scope around right (λ name is. in_scope name (or_right (is_term_of name left) (is_term_of name right) is)))) refl;
           fresh = refl;
         };
-    at_not = λ inside line held mentioned positive scope around in_scope. held mentioned (not positive) scope around in_scope;
-    at_and = λ members line held mentioned positive scope around in_scope next.
+    at_not = λ inside at held mentioned positive scope around in_scope. held mentioned (not positive) scope around in_scope;
+    at_and = λ members at held mentioned positive scope around in_scope next.
         all_or_turn positive (cuts true scope around (map (known domain problem) members)) (cuts false scope around (map (known domain problem) members)) around next
         (members-fit true scope around members held mentioned in_scope) (members-fit false scope around members held mentioned in_scope);
-    at_or = λ members line held mentioned positive scope around in_scope next.
+    at_or = λ members at held mentioned positive scope around in_scope next.
         turn_or_all positive (cuts true scope around (map (known domain problem) members)) (cuts false scope around (map (known domain problem) members)) around next
         (members-fit true scope around members held mentioned in_scope) (members-fit false scope around members held mentioned in_scope);
-    at_imply = λ premise conclusion line held later mentioned positive scope around in_scope next.
+    at_imply = λ premise conclusion at held later mentioned positive scope around in_scope next.
         let left = held (all-left _ (in_condition premise) (in_condition conclusion) mentioned) in
         let right = later (all-right _ (in_condition premise) (in_condition conclusion) mentioned) in
         let of_left : InScopes (known domain problem premise).is_free scope around = λ name free. in_scope name (or_left ((known domain problem premise).is_free name) ((known domain problem conclusion).is_free name) free) in
@@ -350,11 +350,11 @@ module _ (domain : Domain) (problem : Problem) where
         turn_or_all positive ((known domain problem premise).cut false scope around ∷ (known domain problem conclusion).cut true scope around ∷ [])
         ((known domain problem premise).cut true scope around ∷ (known domain problem conclusion).cut false scope around ∷ []) around next
         (left false scope around of_left, (right true scope around of_right, tt)) (left true scope around of_left, (right false scope around of_right, tt));
-    at_forall = λ variables inside line held mentioned positive scope around in_scope next.
+    at_forall = λ variables inside at held mentioned positive scope around in_scope next.
         either positive (none_inside domain problem variables (known domain problem inside) false scope around next) (exists_inside domain problem variables (known domain problem inside) false scope around next) around next
         (none-fits variables (known domain problem inside) false scope around (held mentioned false) in_scope next)
         (exists-fits variables (known domain problem inside) false scope around (held mentioned false) in_scope next);
-    at_exists = λ variables inside line held mentioned positive scope around in_scope next.
+    at_exists = λ variables inside at held mentioned positive scope around in_scope next.
         either positive (exists_inside domain problem variables (known domain problem inside) true scope around next) (none_inside domain problem variables (known domain problem inside) true scope around next) around next
         (exists-fits variables (known domain problem inside) true scope around (held mentioned true) in_scope next)
         (none-fits variables (known domain problem inside) true scope around (held mentioned true) in_scope next);

@@ -62,8 +62,8 @@ module _ (domain : Domain) (problem : Problem) where
         (subst (λ (n : ℕ). is_predicate task (λ row. lawful.has_arity task n row && not row.derived) (predicate_number domain atom.predicate.name) ≡ true) (sym long) (declared-basic domain problem none (use_of atom) basic declared))
 
     entry-atoms : (entry : Init) → Among entry problem.init → list_all (is_init task) (stated domain problem entry) ≡ true
-    entry-atoms (inits.HoldsNot atom line) among = refl
-    entry-atoms (inits.Value term value line) among = refl
+    entry-atoms (inits.HoldsNot atom at) among = refl
+    entry-atoms (inits.Value term value at) among = refl
     entry-atoms (inits.Holds atom) among =
         let declared = in_each_entry domain problem (has_predicate domain) (predicates_declared domain problem none) (inits.Holds atom) among in
         let known = in_each_entry domain problem (has_objects domain problem) (objects_known domain problem none) (inits.Holds atom) among in
@@ -81,21 +81,21 @@ module _ (domain : Domain) (problem : Problem) where
 
     entry-values : IsWellSpelledProblem problem → (entry : Init) → Among entry problem.init → list_all (is_value task) (value_row domain problem entry) ≡ true
     entry-values spelled (inits.Holds atom) among = refl
-    entry-values spelled (inits.HoldsNot atom line) among = refl
-    entry-values spelled (inits.Value term value line) among = by (is_same term.predicate.name (codes "total-cost"))
+    entry-values spelled (inits.HoldsNot atom at) among = refl
+    entry-values spelled (inits.Value term value at) among = by (is_same term.predicate.name (codes "total-cost"))
       where
         row : ValueRow
         row = record { function = function_number domain term.predicate.name; objects = map (object_number domain problem) (ground [] term).objects; value = value }
 
         small : value ≤ most
-        small = All-contains HasSmallValue problem.init (inits.Value term value line) spelled.values (contains_among problem.init (inits.Value term value line) among)
+        small = All-contains HasSmallValue problem.init (inits.Value term value at) spelled.values (contains_among problem.init (inits.Value term value at) among)
 
         known : list_all (is_known domain problem) term.terms ≡ true
         known =
-            (and_parts (has_objects domain problem (Function term)) true (in_each_entry domain problem (has_objects domain problem) (objects_known domain problem none) (inits.Value term value line) among)).0
+            (and_parts (has_objects domain problem (Function term)) true (in_each_entry domain problem (has_objects domain problem) (objects_known domain problem none) (inits.Value term value at) among)).0
 
         objects_are : list_all (is_object task) row.objects ≡ true
-        objects_are = ground-objects term.terms known (entry_bound domain problem none (inits.Value term value line) among)
+        objects_are = ground-objects term.terms known (entry_bound domain problem none (inits.Value term value at) among)
 
         by : (total : Bool) → list_all (is_value task) (if total then [] else row ∷ []) ≡ true
         by true = refl

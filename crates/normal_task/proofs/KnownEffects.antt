@@ -3,6 +3,7 @@ use Rattle.std.proofs.Common.{◌≡◌, ℕ, ◌+◌, ◌≤◌, Bool, true, fa
 use Rattle.std.specs.Prelude.{nat_lt, if◌then◌else◌}
 use Rattle.std.specs.List.{list_all, flat_map}
 use Rattle.std.proofs.lemmas.Bool.{and_parts, and_from, not-true, ltb-true, lt-ltb}
+use Rattle.pddl_lexer.specs.declared.position.At.{At}
 use Rattle.pddl_parser.specs.declared.types.Atom.{Atom}
 use Rattle.pddl_parser.specs.declared.types.Domain.{Domain}
 use Rattle.pddl_parser.specs.declared.types.Effect.{Effect}
@@ -154,7 +155,7 @@ module _ (domain : Domain) (problem : Problem) (task : Normal) (tables : HasTabl
     pub fit : RequiredFits domain problem around required
     pub required_known : RequiredKnown required
 
-  abbrev EffectKnown : Rows domain problem → Unit {0} → (scopes.Scope → List ℕ) → List Mention → Type 0
+  abbrev EffectKnown : Rows domain problem → Unit {0} → (scopes.Scope → List At) → List Mention → Type 0
   EffectKnown rows unused unbound mentions =
       (required : List (ℕ → ℕ → Made Part)) (in_scope : List Name) (scope : Scope) (around : ℕ) → unbound in_scope ≡ [] → Around mentions required in_scope scope around →
       (next : ℕ) → HaveRows task base next (rows required scope around next).fresh → RowsKnown around (rows required scope around next)
@@ -270,12 +271,12 @@ module _ (domain : Domain) (problem : Problem) (task : Normal) (tables : HasTabl
 
   -- the rows of an effect are lawful, and the parts of its new predicates are known
   pub effect-known : (effect : Effect) → KnownOf effect
-  effect-known = by_folds (Rows domain problem) (Unit {0}) (scopes.Scope → List ℕ) (List Mention) (row_step domain problem) (λ layer. tt) scopes.effect_step effect_step EffectKnown record {
-    at_nothing = λ line required in_scope scope around unbound told next rows. record { items = refl; fresh = refl };
+  effect-known = by_folds (Rows domain problem) (Unit {0}) (scopes.Scope → List At) (List Mention) (row_step domain problem) (λ layer. tt) scopes.effect_step effect_step EffectKnown record {
+    at_nothing = λ at required in_scope scope around unbound told next rows. record { items = refl; fresh = refl };
     at_add = λ atom required in_scope scope around unbound told next rows. written-known true atom required in_scope scope around unbound told next rows;
     at_delete = λ atom required in_scope scope around unbound told next rows. written-known false atom required in_scope scope around unbound told next rows;
-    at_and = λ members line held required in_scope scope around unbound told next rows. members-known members held required in_scope scope around unbound told next rows;
-    at_when = λ condition inside line held required in_scope scope around unbound told next rows.
+    at_and = λ members at held required in_scope scope around unbound told next rows. members-known members held required in_scope scope around unbound told next rows;
+    at_when = λ condition inside at held required in_scope scope around unbound told next rows.
         let here = left_empty (scopes.in_condition condition in_scope) (scopes.in_effect inside in_scope) unbound in
         let one = left-told (in_condition condition) (in_effect inside) required in_scope scope around told in
         let other = right-told (in_condition condition) (in_effect inside) required in_scope scope around told in
@@ -294,7 +295,7 @@ module _ (domain : Domain) (problem : Problem) (task : Normal) (tables : HasTabl
               known-also required (λ around. parts domain problem condition true scope around) told.required_known
               (λ more. condition-known domain problem task tables condition one.well true scope more told.ranges);
         } next rows;
-    at_forall = λ variables inside line held required in_scope scope around unbound told next rows.
+    at_forall = λ variables inside at held required in_scope scope around unbound told next rows.
         let inner_scope = scope_inside domain problem variables around scope in
         let inner =
         held required (scopes.inside_of variables in_scope) inner_scope (around + length variables) unbound
@@ -311,5 +312,5 @@ module _ (domain : Domain) (problem : Problem) (task : Normal) (tables : HasTabl
           items = inside-lawful variables around _ inner.items;
           fresh = inner.fresh;
         };
-    at_increase = λ term cost line required in_scope scope around unbound told next rows. record { items = refl; fresh = refl };
+    at_increase = λ term cost at required in_scope scope around unbound told next rows. record { items = refl; fresh = refl };
   }

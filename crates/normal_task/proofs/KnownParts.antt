@@ -278,7 +278,7 @@ module _ (domain : Domain) (problem : Problem) (task : Normal) (tables : HasTabl
   -- the parts of a condition, and those of its new predicates, are known
   pub condition-known : (condition : Condition) → CutOf condition
   condition-known = by_folds Known (Unit {0}) (List Mention) (known_step domain problem) (λ layer. tt) condition_step CutKnown record {
-    at_true = λ line mentioned positive scope around is next rows. at_truth positive around next;
+    at_true = λ at mentioned positive scope around is next rows. at_truth positive around next;
     at_atom = λ atom mentioned positive scope around is next rows.
         let parts = and_parts (has_predicate domain (Asked atom)) (has_objects domain problem (Asked atom)) (and_parts (well_mentioned (Asked atom)) true mentioned).0 in
         let declared = (and_parts (names.has_arity domain.predicates (use_of atom)) true parts.0).0 in
@@ -291,7 +291,7 @@ module _ (domain : Domain) (problem : Problem) (task : Normal) (tables : HasTabl
               (terms-known scope atom.terms parts.1));
           fresh = refl;
         };
-    at_equal = λ left right line mentioned positive scope around is next rows.
+    at_equal = λ left right at mentioned positive scope around is next rows.
         let parts = and_parts (has_predicate domain (Compared left right)) (has_objects domain problem (Compared left right)) (and_parts (well_mentioned (Compared left right)) true mentioned).0 in
         let one = and_parts (is_known domain problem left) (is_known domain problem right && true) parts.1 in
         record {
@@ -301,24 +301,24 @@ module _ (domain : Domain) (problem : Problem) (task : Normal) (tables : HasTabl
               (term-known scope left one.0) (term-known scope right (and_parts (is_known domain problem right) true one.1).0));
           fresh = refl;
         };
-    at_not = λ inside line held mentioned positive scope around is. held mentioned (not positive) scope around is;
-    at_and = λ members line held mentioned positive scope around is next rows.
+    at_not = λ inside at held mentioned positive scope around is. held mentioned (not positive) scope around is;
+    at_and = λ members at held mentioned positive scope around is next rows.
         all_or_turn positive (cuts true scope around (map (known domain problem) members)) (cuts false scope around (map (known domain problem) members)) around next
         (members-known true scope around members held mentioned is) (members-known false scope around members held mentioned is) rows;
-    at_or = λ members line held mentioned positive scope around is next rows.
+    at_or = λ members at held mentioned positive scope around is next rows.
         turn_or_all positive (cuts true scope around (map (known domain problem) members)) (cuts false scope around (map (known domain problem) members)) around next
         (members-known true scope around members held mentioned is) (members-known false scope around members held mentioned is) rows;
-    at_imply = λ premise conclusion line held later mentioned positive scope around is next rows.
+    at_imply = λ premise conclusion at held later mentioned positive scope around is next rows.
         let left = held (all-left well_mentioned (in_condition premise) (in_condition conclusion) mentioned) in
         let right = later (all-right well_mentioned (in_condition premise) (in_condition conclusion) mentioned) in
         turn_or_all positive ((known domain problem premise).cut false scope around ∷ (known domain problem conclusion).cut true scope around ∷ [])
         ((known domain problem premise).cut true scope around ∷ (known domain problem conclusion).cut false scope around ∷ []) around next
         (left false scope around is, (right true scope around is, tt)) (left true scope around is, (right false scope around is, tt)) rows;
-    at_forall = λ variables inside line held mentioned positive scope around is next.
+    at_forall = λ variables inside at held mentioned positive scope around is next.
         either positive (none_inside domain problem variables (known domain problem inside) false scope around next) (exists_inside domain problem variables (known domain problem inside) false scope around next) next
         (none-known variables (known domain problem inside) false scope around (held mentioned false) is next)
         (exists-known variables (known domain problem inside) false scope around (held mentioned false) is next);
-    at_exists = λ variables inside line held mentioned positive scope around is next.
+    at_exists = λ variables inside at held mentioned positive scope around is next.
         either positive (exists_inside domain problem variables (known domain problem inside) true scope around next) (none_inside domain problem variables (known domain problem inside) true scope around next) next
         (exists-known variables (known domain problem inside) true scope around (held mentioned true) is next)
         (none-known variables (known domain problem inside) true scope around (held mentioned true) is next);

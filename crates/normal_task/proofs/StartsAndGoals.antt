@@ -51,8 +51,8 @@ module _ (domain : Domain) (problem : Problem) where
   -- an entry that states an atom states a known one
   abbrev pub is_known_entry : Init → Bool
   is_known_entry (inits.Holds atom) = is_known_atom domain problem (holds.ground [] atom)
-  is_known_entry (inits.HoldsNot atom line) = true
-  is_known_entry (inits.Value term value line) = true
+  is_known_entry (inits.HoldsNot atom at) = true
+  is_known_entry (inits.Value term value at) = true
 
   stated-entries : (entries : List Init) → list_all is_known_entry entries ≡ true → (atom : holds.GroundAtom) → is_known_atom domain problem atom ≡ true →
       list_any (λ known. task.is_same_atom known (numbered_atom domain problem atom)) (flat_map (stated domain problem) entries) ≡ list_any (plans.is_stated atom) entries
@@ -67,8 +67,8 @@ module _ (domain : Domain) (problem : Problem) where
           let rest = each entries parts.1 in
           let end = or-false (task.is_same_atom (numbered_atom domain problem (holds.ground [] stated_atom)) (numbered_atom domain problem atom)) in
           cc (here, rest, end)
-      each (inits.HoldsNot stated_atom line ∷ entries) known = each entries known
-      each (inits.Value term value line ∷ entries) known = each entries known
+      each (inits.HoldsNot stated_atom at ∷ entries) known = each entries known
+      each (inits.Value term value at ∷ entries) known = each entries known
 
   pub start : list_all is_known_entry problem.init ≡ true → Shows domain problem (plans.initial problem) (task.initial (planning domain problem))
   start known atom known_atom basic =

@@ -3,6 +3,7 @@ use Rattle.std.proofs.Common.{◌≡◌, ℕ, ◌+◌, Bool, true, false, not, �
 use Rattle.std.specs.List.{list_all, list_any, flat_map}
 use Rattle.std.proofs.lemmas.Bool.{and_parts, and_from, or_cases, false≢true, not-true}
 use Rattle.std.proofs.lemmas.List.Folds.{list_any-append}
+use Rattle.pddl_lexer.specs.declared.position.At.{At}
 use Rattle.pddl_parser.specs.declared.types.Atom.{Atom}
 use Rattle.pddl_parser.specs.declared.types.Domain.{Domain}
 use Rattle.pddl_parser.specs.declared.types.Effect.{Effect, Effect-F}
@@ -69,7 +70,7 @@ module _ (domain : Domain) (problem : Problem) where
 
   module _ (full : holds.State) (numbered : State) (shows : ShowsFull domain problem full numbered) (adds : Bool) where
     -- both say of what they write that it is basic
-    abbrev WritesBasic : Rows domain problem → (pddl.Binding → holds.State) → (scopes.Scope → List ℕ) → List Mention → Type 0
+    abbrev WritesBasic : Rows domain problem → (pddl.Binding → holds.State) → (scopes.Scope → List At) → List Mention → Type 0
     WritesBasic rows change unbound mentions =
         AreKnown domain problem mentions → AreBasic mentions → (names : List Name) (scope : Scope) (named : pddl.Binding) (binding : Binding) → unbound names ≡ [] → StandAll domain problem names scope named binding →
         (((atom : holds.GroundAtom) → change named atom ≡ true → Basic atom)
@@ -131,10 +132,10 @@ module _ (domain : Domain) (problem : Problem) where
         either (inl x) f g = f x
         either (inr y) f g = g y
 
-    forall-basic : (variables : List Typed) (inside : Effect) (line : ℕ) → Shown inside →
-        WritesBasic (row_step domain problem (Effect-F.Forall variables (rows_of domain problem inside) line)) (step.writes_step domain problem full adds (Effect-F.Forall variables (change inside) line))
-        (scopes.effect_step (Effect-F.Forall variables (scopes.in_effect inside) line)) (effect_step (Effect-F.Forall variables (in_effect inside) line))
-    forall-basic variables inside line held mentioned basic names scope named binding unbound stand = (
+    forall-basic : (variables : List Typed) (inside : Effect) (at : At) → Shown inside →
+        WritesBasic (row_step domain problem (Effect-F.Forall variables (rows_of domain problem inside) at)) (step.writes_step domain problem full adds (Effect-F.Forall variables (change inside) at))
+        (scopes.effect_step (Effect-F.Forall variables (scopes.in_effect inside) at)) (effect_step (Effect-F.Forall variables (in_effect inside) at))
+    forall-basic variables inside at held mentioned basic names scope named binding unbound stand = (
       (λ atom some.
           let found = passing (λ objects. change inside (pddl.bound variables objects named) atom) (pddl.choices domain problem variables) some in
           (inner found.item found.among).0 atom found.passes),
@@ -164,16 +165,16 @@ module _ (domain : Domain) (problem : Problem) where
 
     -- what an effect writes is basic
     pub effect-basic : (effect : Effect) → Shown effect
-    effect-basic = by_folds (Rows domain problem) (pddl.Binding → holds.State) (scopes.Scope → List ℕ) (List Mention) (row_step domain problem) (step.writes_step domain problem full adds) scopes.effect_step effect_step WritesBasic record {
-      at_nothing = λ line mentioned basic names scope named binding unbound stand. ((λ atom some. absurd (false≢true some)), λ required next target some. absurd (false≢true some));
+    effect-basic = by_folds (Rows domain problem) (pddl.Binding → holds.State) (scopes.Scope → List At) (List Mention) (row_step domain problem) (step.writes_step domain problem full adds) scopes.effect_step effect_step WritesBasic record {
+      at_nothing = λ at mentioned basic names scope named binding unbound stand. ((λ atom some. absurd (false≢true some)), λ required next target some. absurd (false≢true some));
       at_add = λ atom mentioned basic names scope named binding unbound stand. atom-basic true atom adds mentioned basic names scope named binding unbound stand;
       at_delete = λ atom mentioned basic names scope named binding unbound stand. atom-basic false atom (not adds) mentioned basic names scope named binding unbound stand;
-      at_and = λ members line held mentioned basic names scope named binding unbound stand. members-basic members held mentioned basic names scope named binding unbound stand;
-      at_when = λ condition inside line held mentioned basic names scope named binding unbound stand.
+      at_and = λ members at held mentioned basic names scope named binding unbound stand. members-basic members held mentioned basic names scope named binding unbound stand;
+      at_when = λ condition inside at held mentioned basic names scope named binding unbound stand.
           let rest =
           held (all-right (is_known_mention domain problem) (in_condition condition) (in_effect inside) mentioned) (all-right is_basic_mention (in_condition condition) (in_effect inside) basic) names scope named binding
           (right_empty (scopes.in_condition condition names) (scopes.in_effect inside names) unbound) stand in
           ((λ atom some. rest.0 atom (and_parts (holds.holds domain problem full condition named) (change inside named atom) some).1), λ required next target some. rest.1 _ next target some);
       at_forall = forall-basic;
-      at_increase = λ term cost line mentioned basic names scope named binding unbound stand. ((λ atom some. absurd (false≢true some)), λ required next target some. absurd (false≢true some));
+      at_increase = λ term cost at mentioned basic names scope named binding unbound stand. ((λ atom some. absurd (false≢true some)), λ required next target some. absurd (false≢true some));
     }

@@ -72,14 +72,14 @@ module _ (domain : Domain) (problem : Problem) where
       }
 
   abbrev pub row_step : Effect-F Rows → Rows
-  row_step (Effect-F.Nothing line) required scope around next = in_turn [] next
+  row_step (Effect-F.Nothing at) required scope around next = in_turn [] next
   row_step (Effect-F.Add atom) required scope around next = written true atom required scope around next
   row_step (Effect-F.Delete atom) required scope around next = written false atom required scope around next
-  row_step (Effect-F.And members line) required scope around next = in_turn (map (λ member. member required scope around) members) next
-  row_step (Effect-F.When condition inside line) required scope around next =
+  row_step (Effect-F.And members at) required scope around next = in_turn (map (λ member. member required scope around) members) next
+  row_step (Effect-F.When condition inside at) required scope around next =
       inside (required ++ (λ around. parts domain problem condition true scope around) ∷ []) scope around next
-  row_step (Effect-F.Forall variables inside line) required scope around next = for_each variables inside required scope around next
-  row_step (Effect-F.Increase term cost line) required scope around next = in_turn [] next
+  row_step (Effect-F.Forall variables inside at) required scope around next = for_each variables inside required scope around next
+  row_step (Effect-F.Increase term cost at) required scope around next = in_turn [] next
 
   abbrev pub rows_of : Effect → Rows
   rows_of = fold-Effect Rows row_step
@@ -177,8 +177,8 @@ module _ (domain : Domain) (problem : Problem) where
 
   abbrev pub stated : Init → List GroundAtom
   stated (inits.Holds atom) = numbered_atom (pddl.ground [] atom) ∷ []
-  stated (inits.HoldsNot atom line) = []
-  stated (inits.Value term value line) = []
+  stated (inits.HoldsNot atom at) = []
+  stated (inits.Value term value at) = []
 
   -- each item once, where it stands first
   abbrev pub once_after : {A : Type 0} → (A → A → Bool) → List A → List A → List A
@@ -187,8 +187,8 @@ module _ (domain : Domain) (problem : Problem) where
 
   abbrev pub value_row : Init → List ValueRow
   value_row (inits.Holds atom) = []
-  value_row (inits.HoldsNot atom line) = []
-  value_row (inits.Value term value line) =
+  value_row (inits.HoldsNot atom at) = []
+  value_row (inits.Value term value at) =
       if is_same term.predicate.name (codes "total-cost") then []
       else
       record {

@@ -136,15 +136,15 @@ is_listed variables name = list_any (λ variable. is_same variable.name.name nam
 
 -- one layer: whether the variable is free in it
 abbrev pub is_free_step : Condition-F Known → Name → Bool
-is_free_step (Condition-F.True line) name = false
+is_free_step (Condition-F.True at) name = false
 is_free_step (Condition-F.Atom atom) name = list_any (is_term_of name) atom.terms
-is_free_step (Condition-F.Equal left right line) name = is_term_of name left || is_term_of name right
-is_free_step (Condition-F.Not inside line) name = inside.is_free name
-is_free_step (Condition-F.And members line) name = list_any (λ member. member.is_free name) members
-is_free_step (Condition-F.Or members line) name = list_any (λ member. member.is_free name) members
-is_free_step (Condition-F.Imply premise conclusion line) name = premise.is_free name || conclusion.is_free name
-is_free_step (Condition-F.Forall variables inside line) name = not (is_listed variables name) && inside.is_free name
-is_free_step (Condition-F.Exists variables inside line) name = not (is_listed variables name) && inside.is_free name
+is_free_step (Condition-F.Equal left right at) name = is_term_of name left || is_term_of name right
+is_free_step (Condition-F.Not inside at) name = inside.is_free name
+is_free_step (Condition-F.And members at) name = list_any (λ member. member.is_free name) members
+is_free_step (Condition-F.Or members at) name = list_any (λ member. member.is_free name) members
+is_free_step (Condition-F.Imply premise conclusion at) name = premise.is_free name || conclusion.is_free name
+is_free_step (Condition-F.Forall variables inside at) name = not (is_listed variables name) && inside.is_free name
+is_free_step (Condition-F.Exists variables inside at) name = not (is_listed variables name) && inside.is_free name
 
 module _ (domain : Domain) (problem : Problem) where
   -- the new predicates are numbered behind the declared ones
@@ -184,24 +184,24 @@ module _ (domain : Domain) (problem : Problem) where
 
   -- one layer: how it is cut
   abbrev pub cut_step : Condition-F Known → Cut
-  cut_step (Condition-F.True line) positive scope around next = if positive then all_of around [] next else in_turn [] next
+  cut_step (Condition-F.True at) positive scope around next = if positive then all_of around [] next else in_turn [] next
   cut_step (Condition-F.Atom atom) positive scope around next =
       only (Holds positive (predicate_number domain atom.predicate.name) (places_of domain problem scope atom.terms))
-  cut_step (Condition-F.Equal left right line) positive scope around next =
+  cut_step (Condition-F.Equal left right at) positive scope around next =
       only (Equal positive (place_of domain problem scope left) (place_of domain problem scope right))
-  cut_step (Condition-F.Not inside line) positive scope around next = inside.cut (not positive) scope around next
-  cut_step (Condition-F.And members line) positive scope around next =
+  cut_step (Condition-F.Not inside at) positive scope around next = inside.cut (not positive) scope around next
+  cut_step (Condition-F.And members at) positive scope around next =
       if positive then all_of around (map (λ member. member.cut true scope around) members) next
       else in_turn (map (λ member. member.cut false scope around) members) next
-  cut_step (Condition-F.Or members line) positive scope around next =
+  cut_step (Condition-F.Or members at) positive scope around next =
       if positive then in_turn (map (λ member. member.cut true scope around) members) next
       else all_of around (map (λ member. member.cut false scope around) members) next
-  cut_step (Condition-F.Imply premise conclusion line) positive scope around next =
+  cut_step (Condition-F.Imply premise conclusion at) positive scope around next =
       if positive then in_turn (premise.cut false scope around ∷ conclusion.cut true scope around ∷ []) next
       else all_of around (premise.cut true scope around ∷ conclusion.cut false scope around ∷ []) next
-  cut_step (Condition-F.Forall variables inside line) positive scope around next =
+  cut_step (Condition-F.Forall variables inside at) positive scope around next =
       if positive then none_inside variables inside false scope around next else exists_inside variables inside false scope around next
-  cut_step (Condition-F.Exists variables inside line) positive scope around next =
+  cut_step (Condition-F.Exists variables inside at) positive scope around next =
       if positive then exists_inside variables inside true scope around next else none_inside variables inside true scope around next
 
   abbrev pub known_step : Condition-F Known → Known

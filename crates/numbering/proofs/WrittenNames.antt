@@ -47,18 +47,18 @@ module _ (name : Name) where
   -- a condition writes nothing
   condition-none : (condition : Condition) → WritesNone condition
   condition-none = condition_by_cases WritesNone record {
-    at_true = λ line. ap (list_any is_on) (c.fold-True (List Mention) condition_step line);
+    at_true = λ at. ap (list_any is_on) (c.fold-True (List Mention) condition_step at);
     at_atom = λ atom. ap (list_any is_on) (c.fold-Atom (List Mention) condition_step atom);
-    at_equal = λ left right line. ap (list_any is_on) (c.fold-Equal (List Mention) condition_step left right line);
-    at_not = λ inside line held. ap (list_any is_on) (c.fold-Not (List Mention) condition_step inside line) ∙ held;
-    at_and = λ members line held. ap (list_any is_on) (c.fold-And (List Mention) condition_step members line) ∙ members-none members held;
-    at_or = λ members line held. ap (list_any is_on) (c.fold-Or (List Mention) condition_step members line) ∙ members-none members held;
-    at_imply = λ premise conclusion line held held_too.
-        ap (list_any is_on) (c.fold-Imply (List Mention) condition_step premise conclusion line)
+    at_equal = λ left right at. ap (list_any is_on) (c.fold-Equal (List Mention) condition_step left right at);
+    at_not = λ inside at held. ap (list_any is_on) (c.fold-Not (List Mention) condition_step inside at) ∙ held;
+    at_and = λ members at held. ap (list_any is_on) (c.fold-And (List Mention) condition_step members at) ∙ members-none members held;
+    at_or = λ members at held. ap (list_any is_on) (c.fold-Or (List Mention) condition_step members at) ∙ members-none members held;
+    at_imply = λ premise conclusion at held held_too.
+        ap (list_any is_on) (c.fold-Imply (List Mention) condition_step premise conclusion at)
         ∙ any_append is_on (in_condition premise) (in_condition conclusion)
         ∙ neither (list_any is_on (in_condition premise)) (list_any is_on (in_condition conclusion)) held held_too;
-    at_forall = λ variables inside line held. ap (list_any is_on) (c.fold-Forall (List Mention) condition_step variables inside line) ∙ held;
-    at_exists = λ variables inside line held. ap (list_any is_on) (c.fold-Exists (List Mention) condition_step variables inside line) ∙ held;
+    at_forall = λ variables inside at held. ap (list_any is_on) (c.fold-Forall (List Mention) condition_step variables inside at) ∙ held;
+    at_exists = λ variables inside at held. ap (list_any is_on) (c.fold-Exists (List Mention) condition_step variables inside at) ∙ held;
   }
 
   abbrev Tells : Effect → Type 0
@@ -81,26 +81,26 @@ module _ (name : Name) where
 
   effect-tells : (effect : Effect) → Tells effect
   effect-tells = effect_by_cases Tells record {
-    at_nothing = λ line. ap (list_any is_on) (e.fold-Nothing (List Mention) effect_step line) ∙ sym (ap (λ (test : Name → Bool). test name) (e.fold-Nothing (Name → Bool) is_written_step line));
+    at_nothing = λ at. ap (list_any is_on) (e.fold-Nothing (List Mention) effect_step at) ∙ sym (ap (λ (test : Name → Bool). test name) (e.fold-Nothing (Name → Bool) is_written_step at));
     at_add = λ atom.
         ap (list_any is_on) (e.fold-Add (List Mention) effect_step atom) ∙ one (is_same atom.predicate.name name)
         ∙ sym (ap (λ (test : Name → Bool). test name) (e.fold-Add (Name → Bool) is_written_step atom));
     at_delete = λ atom.
         ap (list_any is_on) (e.fold-Delete (List Mention) effect_step atom) ∙ one (is_same atom.predicate.name name)
         ∙ sym (ap (λ (test : Name → Bool). test name) (e.fold-Delete (Name → Bool) is_written_step atom));
-    at_and = λ members line held.
-        ap (list_any is_on) (e.fold-And (List Mention) effect_step members line) ∙ members-tell members held
-        ∙ sym (ap (λ (test : Name → Bool). test name) (e.fold-And (Name → Bool) is_written_step members line));
-    at_when = λ condition inside line held.
-        ap (list_any is_on) (e.fold-When (List Mention) effect_step condition inside line)
+    at_and = λ members at held.
+        ap (list_any is_on) (e.fold-And (List Mention) effect_step members at) ∙ members-tell members held
+        ∙ sym (ap (λ (test : Name → Bool). test name) (e.fold-And (Name → Bool) is_written_step members at));
+    at_when = λ condition inside at held.
+        ap (list_any is_on) (e.fold-When (List Mention) effect_step condition inside at)
         ∙ any_append is_on (in_condition condition) (in_effect inside) ∙ ap (λ b. b || list_any is_on (in_effect inside)) (condition-none condition) ∙ held
-        ∙ sym (ap (λ (test : Name → Bool). test name) (e.fold-When (Name → Bool) is_written_step condition inside line));
-    at_forall = λ variables inside line held.
-        ap (list_any is_on) (e.fold-Forall (List Mention) effect_step variables inside line) ∙ held
-        ∙ sym (ap (λ (test : Name → Bool). test name) (e.fold-Forall (Name → Bool) is_written_step variables inside line));
-    at_increase = λ term cost line.
-        ap (list_any is_on) (e.fold-Increase (List Mention) effect_step term cost line) ∙ cost-none cost
-        ∙ sym (ap (λ (test : Name → Bool). test name) (e.fold-Increase (Name → Bool) is_written_step term cost line));
+        ∙ sym (ap (λ (test : Name → Bool). test name) (e.fold-When (Name → Bool) is_written_step condition inside at));
+    at_forall = λ variables inside at held.
+        ap (list_any is_on) (e.fold-Forall (List Mention) effect_step variables inside at) ∙ held
+        ∙ sym (ap (λ (test : Name → Bool). test name) (e.fold-Forall (Name → Bool) is_written_step variables inside at));
+    at_increase = λ term cost at.
+        ap (list_any is_on) (e.fold-Increase (List Mention) effect_step term cost at) ∙ cost-none cost
+        ∙ sym (ap (λ (test : Name → Bool). test name) (e.fold-Increase (Name → Bool) is_written_step term cost at));
   }
 
 module _ (domain : Domain) (problem : Problem) where

@@ -1,6 +1,7 @@
 -- Types that are found below others: sets of types that grow by the entries of `:types`.
 use Rattle.std.specs.Prelude.{◌≡◌, ℕ, Bool, true, false, not, ◌&&◌, ◌||◌, List, [], ◌∷◌, ◌++◌, map, length, if◌then◌else◌}
 use Rattle.std.specs.List.{list_any, filter}
+use Rattle.pddl_lexer.specs.Positions.{nowhere}
 use Rattle.pddl_parser.specs.declared.types.Domain.{Domain}
 use Rattle.pddl_parser.specs.declared.types.Named.{Named}
 use Rattle.pddl_parser.specs.declared.types.Problem.{Problem}
@@ -57,4 +58,4 @@ range_of_types domain problem listed = map (object_number domain problem) (map (
 
 -- the numbers of the objects of the type
 abbrev pub objects_of_type : Domain → Problem → Name → List ℕ
-objects_of_type domain problem type = range_of_types domain problem (record { name = type; line = 0 } ∷ [])
+objects_of_type domain problem type = range_of_types domain problem (record { name = type; at = nowhere } ∷ [])

@@ -3,6 +3,7 @@ use Rattle.std.proofs.Common.{◌≡◌, ℕ, suc, ◌<◌, ◌≤◌, ◌+◌, 
 use Rattle.std.proofs.lemmas.List.{append-nil, length-append, length-map, map_push, map-set, get_or-map}
 use Rattle.std.proofs.Math.Seq.{set-append_seam, get_or-append_seam}
 use Rattle.std.specs.Vec.{vec_len}
+use Rattle.pddl_lexer.specs.declared.position.At.{At}
 use Rattle.pddl_lexer.specs.declared.tree.Node.{Node}
 use Rattle.pddl_lexer.specs.declared.builder.Builder.{Builder}
 use Rattle.pddl_lexer.specs.Members.{Members, NoMore, WordThen, ListThen, count}
@@ -44,7 +45,7 @@ snoc_same (a ∷ xs) (b ∷ ys) x y e =
 pub length-shown : (ns : List Node) → length (shown ns) ≡ length ns
 length-shown ns = length-map {B = Entry} ns entry
 
-pub represents_word : (b b' : Builder) (partial : Partial) (n : Node) (at : ℕ) (word : List ℕ) → Represents b partial → b'.nodes.items ≡ b.nodes.items ++ n ∷ [] → b'.open.items ≡ b.open.items → entry n ≡ word_entry at word (length b.open.items)
+pub represents_word : (b b' : Builder) (partial : Partial) (n : Node) (at : At) (word : List ℕ) → Represents b partial → b'.nodes.items ≡ b.nodes.items ++ n ∷ [] → b'.open.items ≡ b.open.items → entry n ≡ word_entry at word (length b.open.items)
     → Represents b' (with_member partial (WordThen at word NoMore))
 represents_word b b' partial n at word kept nodes_are open_are is =
     let deep : length b.open.items ≡ depth partial = ap length kept.open_are ∙ length-places partial in
@@ -56,7 +57,7 @@ represents_word b b' partial n at word kept nodes_are open_are is =
       open_are = open_are ∙ kept.open_are ∙ sym (places-with_member partial (WordThen at word NoMore));
     }
 
-pub represents_list : (b b' : Builder) (partial : Partial) (n : Node) (at : ℕ) → Represents b partial → b'.nodes.items ≡ b.nodes.items ++ n ∷ [] → b'.open.items ≡ b.open.items ++ vec_len b.nodes ∷ [] → entry n ≡ list_entry at (length b.open.items) 0
+pub represents_list : (b b' : Builder) (partial : Partial) (n : Node) (at : At) → Represents b partial → b'.nodes.items ≡ b.nodes.items ++ n ∷ [] → b'.open.items ≡ b.open.items ++ vec_len b.nodes ∷ [] → entry n ≡ list_entry at (length b.open.items) 0
     → Represents b' (Within partial at NoMore)
 represents_list b b' partial n at kept nodes_are open_are is =
     let deep : length b.open.items ≡ depth partial = ap length kept.open_are ∙ length-places partial in
@@ -72,7 +73,7 @@ represents_list b b' partial n at kept nodes_are open_are is =
 -- where the innermost open list stands
 pub record IsInnermost (partial : Partial) (list : ℕ) (open' : List ℕ) : Type 0 where
   pub around : Partial
-  pub at : ℕ
+  pub at : At
   pub read : Members
   pub is : partial ≡ Within around at read
   pub list_is : list ≡ length (entries_so_far around)
@@ -90,18 +91,18 @@ list_within b partial list open' kept e =
     omega (arith, i.list_is, length-shown b.nodes.items, ap length kept.nodes_are, ap (λ (h : Partial). length (entries_so_far h)) i.is, length-append (entries_so_far i.around) (list_entry i.at (depth i.around) 0 ∷ entries (suc (depth i.around)) i.read))
 
 -- the nodes that an open list has, once it is closed
-closed_nodes : (around : Partial) (at : ℕ) (read : Members) → set (entries_so_far (Within around at read)) (length (entries_so_far around)) (list_entry at (depth around) (count read)) ≡ entries_so_far (with_member around (ListThen at read NoMore))
+closed_nodes : (around : Partial) (at : At) (read : Members) → set (entries_so_far (Within around at read)) (length (entries_so_far around)) (list_entry at (depth around) (count read)) ≡ entries_so_far (with_member around (ListThen at read NoMore))
 closed_nodes around at read =
     set-append_seam (entries_so_far around) (list_entry at (depth around) 0) (entries (suc (depth around)) read) (list_entry at (depth around) (count read))
     ∙ ap (λ (es : List Entry). entries_so_far around ++ (list_entry at (depth around) (count read) ∷ es)) (sym (append-nil (entries (suc (depth around)) read)))
     ∙ sym (entries-with_member around (ListThen at read NoMore))
 
 -- the node of an open list
-open_node : (around : Partial) (at : ℕ) (read : Members) (d : Entry) → get_or (entries_so_far (Within around at read)) (length (entries_so_far around)) d ≡ list_entry at (depth around) 0
+open_node : (around : Partial) (at : At) (read : Members) (d : Entry) → get_or (entries_so_far (Within around at read)) (length (entries_so_far around)) d ≡ list_entry at (depth around) 0
 open_node around at read d = get_or-append_seam (entries_so_far around) (list_entry at (depth around) 0) (entries (suc (depth around)) read) d
 
-represents_end_within : (b b' : Builder) (around : Partial) (at : ℕ) (read : Members) (list below : ℕ) (n n' : Node) → Represents b (Within around at read) → list ≡ length (entries_so_far around) → b'.open.items ≡ places_open around
-    → n ≡ get_or b.nodes.items list n → b'.nodes.items ≡ set b.nodes.items list n' → entry n' ≡ list_entry n.line n.depth below → below ≡ length b.nodes.items - list - 1
+represents_end_within : (b b' : Builder) (around : Partial) (at : At) (read : Members) (list below : ℕ) (n n' : Node) → Represents b (Within around at read) → list ≡ length (entries_so_far around) → b'.open.items ≡ places_open around
+    → n ≡ get_or b.nodes.items list n → b'.nodes.items ≡ set b.nodes.items list n' → entry n' ≡ list_entry n.at n.depth below → below ≡ length b.nodes.items - list - 1
     → Represents b' (with_member around (ListThen at read NoMore))
 represents_end_within b b' around at read list below n n' kept list_is others n-is nodes_are is below_is =
     let long = length-append (entries_so_far around) (list_entry at (depth around) 0 ∷ entries (suc (depth around)) read) in
@@ -114,7 +115,7 @@ represents_end_within b b' around at read list below n n' kept list_is others n-
     ∙ open_node around at read (entry n) in
     let counted : below ≡ count read = omega (arith, total, list_is, below_is) in
     let node' : entry n' ≡ list_entry at (depth around) (count read) =
-    is ∙ ap (λ (e : Entry). list_entry e.line e.depth below) node ∙ ap (λ (k : ℕ). list_entry at (depth around) k) counted in
+    is ∙ ap (λ (e : Entry). list_entry e.at e.depth below) node ∙ ap (λ (k : ℕ). list_entry at (depth around) k) counted in
     record {
       nodes_are = ap shown nodes_are ∙ map-set entry b.nodes.items list n'
           ∙ ap (λ (es : List Entry). set es list (entry n')) kept.nodes_are
@@ -125,7 +126,7 @@ represents_end_within b b' around at read list below n n' kept list_is others n-
     }
 
 pub represents_end : (b b' : Builder) (partial : Partial) (list len : ℕ) (n n' : Node) → Represents b partial → b.open.items ≡ b'.open.items ++ list ∷ []
-    → n ≡ get_or b.nodes.items list n → b'.nodes.items ≡ set b.nodes.items list n' → entry n' ≡ list_entry n.line n.depth (len - list - 1) → len ≡ length b.nodes.items
+    → n ≡ get_or b.nodes.items list n → b'.nodes.items ≡ set b.nodes.items list n' → entry n' ≡ list_entry n.at n.depth (len - list - 1) → len ≡ length b.nodes.items
     → Represents b' (with_end partial)
 represents_end b b' partial list len n n' kept open_is n-is nodes_are is len_is =
     let i = innermost partial list b'.open.items (sym kept.open_are ∙ open_is) in

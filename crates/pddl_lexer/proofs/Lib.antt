@@ -1,4 +1,5 @@
 -- laws, which other crates may cite
+pub mod Positions
 pub mod Places
 pub mod Lowered
 -- lemmas of this crate

@@ -3,6 +3,8 @@ use Rattle.std.proofs.Common.{◌≡◌, ℕ, zero, suc, ◌<◌, ◌≤◌, ◌
 use Rattle.std.proofs.lemmas.Bool.{cases_lt, false≢true}
 use Rattle.std.proofs.lemmas.List.{append-nil, drop_at, drop-append-le, length-append, length-drop, get_or-drop, get_or_append_left, get_or-append-add, get_or-map, length-map}
 use Rattle.std.proofs.Math.Seq.{drop-append-add}
+use Rattle.pddl_lexer.specs.declared.position.At.{At}
+use Rattle.pddl_lexer.specs.Positions.{nowhere}
 use Rattle.pddl_lexer.specs.Members.{Members, NoMore, WordThen, ListThen, IsOneList, count, nodes, from, inside, rest, is_empty, members_at, IsPlace, beginning}
 use Rattle.pddl_lexer.specs.Nodes.{Entry, list_entry, entries, Shows, AreNodesOf, content_below, depth_of, entry, shown, kept}
 use Rattle.pddl_lexer.specs.declared.tree.Node.{Node}
@@ -39,7 +41,7 @@ pub record Place (depth : ℕ) (tree : Members) (i : ℕ) : Type 0 where
   pub ends : Ends deep more_entries
   pub same : length more_nodes ≡ length more_entries
 
-place_inside : (depth at : ℕ) (inner more : Members) (i : ℕ) → i < length (nodes inner) → Place (suc depth) inner i → Place depth (ListThen at inner more) (suc i)
+place_inside : (depth : ℕ) (at : At) (inner more : Members) (i : ℕ) → i < length (nodes inner) → Place (suc depth) inner i → Place depth (ListThen at inner more) (suc i)
 place_inside depth at inner more i lt p =
     let here : from (ListThen at inner more) (suc i) ≡ from inner i = get_or_append_left (nodes inner) (nodes more) NoMore i lt in
     let within : i ≤ length (entries (suc depth) inner) = omega (arith, length-entries (suc depth) inner, length-nodes inner) in
@@ -55,7 +57,7 @@ place_inside depth at inner more i lt p =
       same = omega (arith, p.same, length-append p.more_nodes (nodes more), length-append p.more_entries (entries depth more), length-nodes more, length-entries depth more);
     }
 
-place_after : (depth at : ℕ) (inner more : Members) (i k : ℕ) → i ≡ length (nodes inner) + k → Place depth more k → Place depth (ListThen at inner more) (suc i)
+place_after : (depth : ℕ) (at : At) (inner more : Members) (i k : ℕ) → i ≡ length (nodes inner) + k → Place depth more k → Place depth (ListThen at inner more) (suc i)
 place_after depth at inner more i k i-is p =
     let here : from (ListThen at inner more) (suc i) ≡ from more k = ap (λ (n : ℕ). get_or (nodes inner ++ nodes more) n NoMore) i-is ∙ get_or-append-add (nodes inner) (nodes more) k NoMore in
     let i-is' : i ≡ length (entries (suc depth) inner) + k = omega (arith, length-entries (suc depth) inner, length-nodes inner) in
@@ -123,10 +125,10 @@ some_member tree i lt = (place 0 tree i lt).some
 
 -- ---- the lists from a node on
 
-first_entry : (deep : ℕ) (x : Members) (es : List Entry) → is_empty x ≡ false → Shows (get_or (entries deep x ++ es) 0 (list_entry 0 0 0)) x × ((get_or (entries deep x ++ es) 0 (list_entry 0 0 0)).depth ≡ deep)
+first_entry : (deep : ℕ) (x : Members) (es : List Entry) → is_empty x ≡ false → Shows (get_or (entries deep x ++ es) 0 (list_entry nowhere 0 0)) x × ((get_or (entries deep x ++ es) 0 (list_entry nowhere 0 0)).depth ≡ deep)
 first_entry deep NoMore es some = absurd cc
-first_entry deep (WordThen at bytes more) es some = (record { line_is = refl; word_is = refl; below_is = refl }, refl)
-first_entry deep (ListThen at inner more) es some = (record { line_is = refl; word_is = refl; below_is = refl }, refl)
+first_entry deep (WordThen at bytes more) es some = (record { at_is = refl; word_is = refl; below_is = refl }, refl)
+first_entry deep (ListThen at inner more) es some = (record { at_is = refl; word_is = refl; below_is = refl }, refl)
 
 first_node : (x : Members) (xs : List Members) → is_empty x ≡ false → get_or (nodes x ++ xs) 0 NoMore ≡ x
 first_node NoMore xs some = absurd cc
@@ -171,7 +173,7 @@ count_parts NoMore some = absurd cc
 count_parts (WordThen at bytes more) some = omega arith
 count_parts (ListThen at inner more) some = refl
 
-ends_first : (deep : ℕ) (es : List Entry) → 0 < length es → Ends deep es → (get_or es 0 (list_entry 0 0 0)).depth < deep
+ends_first : (deep : ℕ) (es : List Entry) → 0 < length es → Ends deep es → (get_or es 0 (list_entry nowhere 0 0)).depth < deep
 ends_first deep [] lt h = absurd (omega arith)
 ends_first deep (e ∷ es) lt h = h
 
@@ -180,7 +182,7 @@ module _ (tree : Members) (i : ℕ) (lt : i < length (nodes tree)) where
   x = from tree i
 
   abbrev none : Entry
-  none = list_entry 0 0 0
+  none = list_entry nowhere 0 0
 
   abbrev spot : Place 0 tree i
   spot = place 0 tree i lt
@@ -197,7 +199,7 @@ module _ (tree : Members) (i : ℕ) (lt : i < length (nodes tree)) where
   length_is : length (nodes tree) ≡ after + count (rest x) + length spot.more_nodes
   length_is = omega (arith, lt, length-drop i (nodes tree), ap length spot.nodes_are, length-append (nodes x) spot.more_nodes, length-nodes x, count_parts x spot.some)
 
-  pub node_shows : Shows (get_or (entries 0 tree) i (list_entry 0 0 0)) (from tree i)
+  pub node_shows : Shows (get_or (entries 0 tree) i (list_entry nowhere 0 0)) (from tree i)
   node_shows = subst (λ (e : Entry). Shows e (from tree i)) (sym entry_is) (first_entry spot.deep x spot.more_entries spot.some).0
 
   pub node_fits : i + 1 + count (inside (from tree i)) ≤ length (nodes tree)
@@ -240,8 +242,8 @@ pub tells : (ns : List Node) (tree : Members) (i : ℕ) (n : Node) → kept ns �
 tells ns tree i n view_is inv lt is =
     let same : shown ns ≡ entries 0 tree = inv.shown_are ∙ ap (entries 0) view_is in
     let within : i < length ns = omega (arith, same_length ns tree view_is inv) in
-    let entry_is : entry n ≡ get_or (entries 0 tree) i (list_entry 0 0 0) =
-    ap entry is ∙ sym (get_or-map entry ns i n (list_entry 0 0 0) within) ∙ ap (λ (es : List Entry). get_or es i (list_entry 0 0 0)) same in
+    let entry_is : entry n ≡ get_or (entries 0 tree) i (list_entry nowhere 0 0) =
+    ap entry is ∙ sym (get_or-map entry ns i n (list_entry nowhere 0 0) within) ∙ ap (λ (es : List Entry). get_or es i (list_entry nowhere 0 0)) same in
     let shows : Shows (entry n) (from tree i) = subst (λ (e : Entry). Shows e (from tree i)) (sym entry_is) (node_shows tree i lt) in
     record {
       shows = shows;

@@ -1,13 +1,16 @@
 -- What one turn of the reader's loop keeps.
-use Rattle.std.proofs.Common.{◌≡◌, ℕ, suc, ◌<◌, ◌≤◌, ◌+◌, ◌-◌, ◌^◌, cond, eqb, ltb, true, false, List, [], ◌∷◌, ◌++◌, length, get_or, take, drop, Option, Some, None, refl, sym, ap, subst, ◌∙◌, arith}
+use Rattle.std.proofs.Common.{◌≡◌, ℕ, suc, ◌<◌, ◌≤◌, ◌+◌, ◌-◌, ◌^◌, Bool, cond, eqb, ltb, true, false, List, [], ◌∷◌, ◌++◌, length, not, ◌==◌, get_or, take, drop, Option, Some, None, refl, sym, ap, subst, ◌∙◌, arith}
 use Rattle.std.proofs.lemmas.List.{take_all}
+use Rattle.std.proofs.lemmas.List.Sums.{take_while-cons}
+use Rattle.std.specs.List.{take_while}
 use Rattle.std.specs.Vec.{vec_len}
 use Rattle.pddl_lexer.specs.declared.scanner.Scanner.{Scanner}
 use Rattle.pddl_lexer.specs.declared.scanner.Mark.{Mark}
 use Rattle.pddl_lexer.specs.declared.fault.Kind.{Kind}
 use Rattle.pddl_lexer.specs.declared.fault.Fault.{Fault}
 use Rattle.pddl_lexer.specs.declared.builder.Builder.{Builder}
-use Rattle.pddl_lexer.specs.Text.{Line, mark, line}
+use Rattle.pddl_lexer.specs.Text.{line_feed, mark, line, position}
+use Rattle.pddl_lexer.specs.declared.position.At.{At}
 use Rattle.pddl_lexer.specs.Scanner.{StandsAfter}
 use Rattle.pddl_lexer.specs.Members.{Members, lowered_members}
 use Rattle.pddl_lexer.specs.Nodes.{AreNodesOf}
@@ -44,30 +47,42 @@ line_low : (behind : List ℕ) → line behind ≤ suc (length behind)
 line_low [] = omega arith
 line_low (b ∷ behind) = elim (eqb b 10) as (λ t. cond t (line behind + 1) (line behind) ≤ suc (suc (length behind))) [ true ↦ omega (arith, line_low behind) | false ↦ omega (arith, line_low behind) ]
 
--- the line can grow
-pub line_fits : (text : List ℕ) (scanner : Scanner) (b : Builder) (after : List ℕ) → Passed text scanner b after → 1 ≤ length after → scanner.line + 1 < 2 ^ 64
-line_fits text scanner b after p le = omega (arith, p.stands.line_is, line_low p.behind, p.lengths, p.fits)
+since_low : (behind : List ℕ) → length (take_while (λ b. not (b == line_feed)) behind) ≤ length behind
+since_low [] = omega arith
+since_low (b ∷ behind) =
+    subst (λ (bytes : List ℕ). length bytes ≤ suc (length behind)) (sym (take_while-cons (λ b. not (b == line_feed)) b behind)) (by (not (b == line_feed)) (since_low behind))
+  where
+    by : (test : Bool) → length (take_while (λ b. not (b == line_feed)) behind) ≤ length behind → length (cond test (b ∷ take_while (λ b. not (b == line_feed)) behind) []) ≤ suc (length behind)
+    by true low = omega (arith, low)
+    by false low = omega arith
+
+-- the line and the column can grow: neither is over one more than the number of bytes before the place
+pub line_fits : (text : List ℕ) (scanner : Scanner) (b : Builder) (after : List ℕ) → Passed text scanner b after → 1 ≤ length after → scanner.at.line + 1 < 2 ^ 64
+line_fits text scanner b after p le = omega (arith, ap (λ (at : At). at.line) p.stands.at_is, line_low p.behind, p.lengths, p.fits)
+
+pub column_fits : (text : List ℕ) (scanner : Scanner) (b : Builder) (after : List ℕ) → Passed text scanner b after → 1 ≤ length after → scanner.at.column + 1 < 2 ^ 64
+column_fits text scanner b after p le = omega (arith, ap (λ (at : At). at.column) p.stands.at_is, since_low p.behind, p.lengths, p.fits)
 
 -- a fault that is found here is the first
 pub fault_here : (text : List ℕ) (scanner : Scanner) (b : Builder) (rest : List ℕ) (p : Passed text scanner b rest) (byte : ℕ) (after : List ℕ) (m : Mark) (kind : Kind) → rest ≡ byte ∷ after → m ≡ mark p.behind byte → Some kind ≡ kind_at m p.behind
-    → IsFirst (tree_faults text) (record { kind = kind; line = scanner.line })
+    → IsFirst (tree_faults text) (record { kind = kind; at = scanner.at })
 unfolding faults_from
 fault_here text scanner b rest p byte after m kind rest_is m-is is =
     let others = faults_from (byte ∷ p.behind) after in (
       others,
       p.read.faults_are ∙ ap (faults_from p.behind) rest_is
-          ∙ ap (λ (o : Option Kind). faults_at o (line p.behind) ++ others) (ap (λ (k : Mark). kind_at k p.behind) (sym m-is) ∙ sym is)
-          ∙ ap (λ (l : Line). faults_at (Some kind) l ++ others) (sym p.stands.line_is),
+          ∙ ap (λ (o : Option Kind). faults_at o (position p.behind) ++ others) (ap (λ (k : Mark). kind_at k p.behind) (sym m-is) ∙ sym is)
+          ∙ ap (λ (l : At). faults_at (Some kind) l ++ others) (sym p.stands.at_is),
     )
 
 pub fault_end : (text : List ℕ) (scanner : Scanner) (b : Builder) (rest : List ℕ) (p : Passed text scanner b rest) (kind : Kind) → rest ≡ [] → Some kind ≡ kind_at_end p.behind
-    → IsFirst (tree_faults text) (record { kind = kind; line = scanner.line })
+    → IsFirst (tree_faults text) (record { kind = kind; at = scanner.at })
 unfolding faults_from
 fault_end text scanner b rest p kind rest_is is = (
   [],
   p.read.faults_are ∙ ap (faults_from p.behind) rest_is
-      ∙ ap (λ (o : Option Kind). faults_at o (line p.behind)) (sym is)
-      ∙ ap (λ (l : Line). faults_at (Some kind) l) (sym p.stands.line_is),
+      ∙ ap (λ (o : Option Kind). faults_at o (position p.behind)) (sym is)
+      ∙ ap (λ (l : At). faults_at (Some kind) l) (sym p.stands.at_is),
 )
 
 -- faults have one first
@@ -78,17 +93,17 @@ pub some_first : (faults : List Fault) (f : Fault) → IsFirst faults f → faul
 some_first faults f a none = let same : f ∷ a.0 ≡ [] = sym a.1 ∙ none in cc
 
 pub passed_more : (text : List ℕ) (scanner : Scanner) (b : Builder) (rest : List ℕ) (p : Passed text scanner b rest) (byte : ℕ) (after : List ℕ) (m : Mark) (scanner' : Scanner) (b' : Builder) → rest ≡ byte ∷ after → m ≡ mark p.behind byte → None ≡ kind_at m p.behind
-    → StandsAfter scanner' (byte ∷ p.behind) → ((partial : Partial) → Represents b partial → Represents b' (with_mark m scanner.line (leading_word rest) partial)) → Passed text scanner' b' after
+    → StandsAfter scanner' (byte ∷ p.behind) → ((partial : Partial) → Represents b partial → Represents b' (with_mark m scanner.at (leading_word rest) partial)) → Passed text scanner' b' after
 passed_more text scanner b rest p byte after m scanner' b' rest_is m-is fine stands represents =
     let read : IsRead text p.behind (byte ∷ after) p.partial = subst (λ (t : List ℕ). IsRead text p.behind t p.partial) rest_is p.read in
-    let kept : Represents b' (with_mark m scanner.line (leading_word rest) p.partial) = represents p.partial p.represents in
-    let kept' : Represents b' (with_mark m scanner.line (leading_word (byte ∷ after)) p.partial) = subst (λ (t : List ℕ). Represents b' (with_mark m scanner.line (leading_word t) p.partial)) rest_is kept in
-    let kept'' : Represents b' (with_mark m (line p.behind) (leading_word (byte ∷ after)) p.partial) = subst (λ (l : Line). Represents b' (with_mark m l (leading_word (byte ∷ after)) p.partial)) p.stands.line_is kept' in
+    let kept : Represents b' (with_mark m scanner.at (leading_word rest) p.partial) = represents p.partial p.represents in
+    let kept' : Represents b' (with_mark m scanner.at (leading_word (byte ∷ after)) p.partial) = subst (λ (t : List ℕ). Represents b' (with_mark m scanner.at (leading_word t) p.partial)) rest_is kept in
+    let kept'' : Represents b' (with_mark m (position p.behind) (leading_word (byte ∷ after)) p.partial) = subst (λ (l : At). Represents b' (with_mark m l (leading_word (byte ∷ after)) p.partial)) p.stands.at_is kept' in
     record {
       behind = byte ∷ p.behind;
-      partial = with_mark (mark p.behind byte) (line p.behind) (leading_word (byte ∷ after)) p.partial;
+      partial = with_mark (mark p.behind byte) (position p.behind) (leading_word (byte ∷ after)) p.partial;
       stands = stands;
-      represents = subst (λ (k : Mark). Represents b' (with_mark k (line p.behind) (leading_word (byte ∷ after)) p.partial)) m-is kept'';
+      represents = subst (λ (k : Mark). Represents b' (with_mark k (position p.behind) (leading_word (byte ∷ after)) p.partial)) m-is kept'';
       read = read_more text p.behind byte after p.partial read (ap (λ (k : Mark). kind_at k p.behind) (sym m-is) ∙ sym fine);
       lengths = omega (arith, p.lengths, ap length rest_is);
       fits = p.fits;

@@ -6,7 +6,8 @@ use Rattle.pddl_lexer.specs.declared.scanner.Mark.{Mark}
 use Rattle.pddl_lexer.specs.declared.scanner.Mark.TheVariants.{Nothing, Bad, Opening, Closing, Beginning}
 use Rattle.pddl_lexer.specs.declared.fault.Kind.{Kind}
 use Rattle.pddl_lexer.specs.declared.fault.Fault.{Fault}
-use Rattle.pddl_lexer.specs.Text.{Line, mark, line}
+use Rattle.pddl_lexer.specs.Text.{mark, position}
+use Rattle.pddl_lexer.specs.declared.position.At.{At}
 use Rattle.pddl_lexer.specs.Members.{Members, NoMore, WordThen, ListThen, IsOneList, lowered_members}
 use Rattle.pddl_lexer.specs.Nodes.{list_entry, entries}
 use Rattle.pddl_lexer.specs.Tokens.{Token, Open, Close, Word, leading_word, token_at, listed, spelled_from, spelled, lowered_token, written, IsTreeOf}
@@ -67,7 +68,7 @@ written-with_end (Within around at read) lt =
     written-with_member around (ListThen at read NoMore)
     ∙ sym (append_assoc (written_so_far around) (Open at ∷ written read) (Close ∷ []))
 
-written-with_mark : (m : Mark) (at : Line) (text : List ℕ) (partial : Partial) → (m ≡ Closing → 0 < depth partial) → written_so_far (with_mark m at (leading_word text) partial) ≡ written_so_far partial ++ listed (token_at m at text)
+written-with_mark : (m : Mark) (at : At) (text : List ℕ) (partial : Partial) → (m ≡ Closing → 0 < depth partial) → written_so_far (with_mark m at (leading_word text) partial) ≡ written_so_far partial ++ listed (token_at m at text)
 written-with_mark Nothing at text partial deep = sym (append-nil (written_so_far partial))
 written-with_mark Bad at text partial deep = sym (append-nil (written_so_far partial))
 written-with_mark Opening at text partial deep = refl
@@ -153,7 +154,7 @@ some-with_end (Within around at read) lt = (
   omega (arith, ap length (entries-with_member around (ListThen at read NoMore)), length-append (entries_so_far around) (entries (depth around) (ListThen at read NoMore))),
 )
 
-agrees_on : (m : Mark) (behind : List ℕ) (b : ℕ) (at : Line) (word : List ℕ) (partial : Partial) → m ≡ mark behind b → kind_at m behind ≡ None → Agrees partial behind → IsSingle partial
+agrees_on : (m : Mark) (behind : List ℕ) (b : ℕ) (at : At) (word : List ℕ) (partial : Partial) → m ≡ mark behind b → kind_at m behind ≡ None → Agrees partial behind → IsSingle partial
     → Agrees (with_mark m at word partial) (b ∷ behind) × IsSingle (with_mark m at word partial)
 agrees_on Nothing behind b at word partial is fine counts single = (
   record {
@@ -210,10 +211,10 @@ read_none text = record { agrees = agrees_first; single = tt; spelled_is = refl;
 
 -- one byte more is read, at which there is no fault
 pub read_more : (text behind : List ℕ) (b : ℕ) (after : List ℕ) (partial : Partial) → IsRead text behind (b ∷ after) partial → kind_at (mark behind b) behind ≡ None
-    → IsRead text (b ∷ behind) after (with_mark (mark behind b) (line behind) (leading_word (b ∷ after)) partial)
+    → IsRead text (b ∷ behind) after (with_mark (mark behind b) (position behind) (leading_word (b ∷ after)) partial)
 unfolding faults_from spelled_from
 read_more text behind b after partial r fine =
-    let at = line behind in
+    let at = position behind in
     let on = agrees_on (mark behind b) behind b at (leading_word (b ∷ after)) partial refl fine r.agrees r.single in
     let deep : mark behind b ≡ Closing → 0 < depth partial =
     λ is. omega (arith, fine_closing behind (ap (λ (m : Mark). kind_at m behind) (sym is) ∙ fine), r.agrees.depth_is) in
@@ -256,7 +257,7 @@ whole text behind (Within around at read) counts single fine spelled_is faultles
 pub read_whole : (text behind : List ℕ) (partial : Partial) → IsRead text behind [] partial → kind_at_end behind ≡ None → IsWhole text partial
 unfolding faults_from spelled_from
 read_whole text behind partial r fine =
-    whole text behind partial r.agrees r.single fine r.spelled_is (r.faults_are ∙ ap (λ (o : Option Kind). faults_at o (line behind)) fine)
+    whole text behind partial r.agrees r.single fine r.spelled_is (r.faults_are ∙ ap (λ (o : Option Kind). faults_at o (position behind)) fine)
 
 lowered_list : (tree : Members) → IsOneList tree → IsOneList (lowered_members tree)
 lowered_list NoMore one = one
@@ -267,7 +268,7 @@ lowered_list (ListThen at inner more) one = ap lowered_members one
 pub tree_of : (text : List ℕ) (tree : Members) → IsOneList tree → written tree ≡ spelled text → IsTreeOf text (lowered_members tree)
 tree_of text tree one spells = record { one_list = lowered_list tree one; spells = written-lowered tree ∙ ap (map lowered_token) spells }
 
-no_faults : (o : Option Kind) (at : Line) (more : List Fault) → faults_at o at ++ more ≡ [] → (o ≡ None) × (more ≡ [])
+no_faults : (o : Option Kind) (at : At) (more : List Fault) → faults_at o at ++ more ≡ [] → (o ≡ None) × (more ≡ [])
 no_faults None at more e = (refl, e)
 no_faults (Some kind) at more e = absurd cc
 
@@ -279,11 +280,11 @@ record IsReadAs (text : List ℕ) (tree : Members) : Type 0 where
 read_from : (text behind after : List ℕ) (partial : Partial) → IsRead text behind after partial → faults_from behind after ≡ [] → (found : Members) × IsReadAs text found
 unfolding faults_from
 read_from text behind [] partial r none =
-    let w = read_whole text behind partial r (no_faults (kind_at_end behind) (line behind) [] (append-nil _ ∙ none)).0 in
+    let w = read_whole text behind partial r (no_faults (kind_at_end behind) (position behind) [] (append-nil _ ∙ none)).0 in
     (w.tree, record { one_list = w.one_list; spells = w.spells })
 read_from text behind (b ∷ after) partial r none =
-    let n = no_faults (kind_at (mark behind b) behind) (line behind) (faults_from (b ∷ behind) after) none in
-    read_from text (b ∷ behind) after (with_mark (mark behind b) (line behind) (leading_word (b ∷ after)) partial) (read_more text behind b after partial r n.0) n.1
+    let n = no_faults (kind_at (mark behind b) behind) (position behind) (faults_from (b ∷ behind) after) none in
+    read_from text (b ∷ behind) after (with_mark (mark behind b) (position behind) (leading_word (b ∷ after)) partial) (read_more text behind b after partial r n.0) n.1
 
 faultless : (text : List ℕ) → tree_faults text ≡ [] → IsReadAs text (tree text)
 faultless text none =

@@ -1,6 +1,7 @@
 -- The tree of a text is the one that its tokens spell, and its words are words.
 use Rattle.std.proofs.Common.{◌≡◌, ℕ, List, [], ◌∷◌, ◌++◌, refl, sym, ap, ◌∙◌, append_assoc}
 use Rattle.std.proofs.lemmas.List.{append-nil}
+use Rattle.pddl_lexer.specs.declared.position.At.{At}
 use Rattle.pddl_lexer.specs.Members.{Members, NoMore, WordThen, ListThen}
 use Rattle.pddl_lexer.specs.Tokens.{Token, Close, spelled, written}
 use Rattle.pddl_lexer.specs.Builder.{joined}
@@ -11,18 +12,18 @@ abbrev before : Members → List Members → List Members
 before members [] = []
 before members (later ∷ around) = joined members later ∷ around
 
-before_word : (line : ℕ) (word : List ℕ) (members : Members) (found : List Members) → word_before line word (before members found) ≡ before (WordThen line word members) found
-before_word line word members [] = refl
-before_word line word members (later ∷ around) = refl
+before_word : (at : At) (word : List ℕ) (members : Members) (found : List Members) → word_before at word (before members found) ≡ before (WordThen at word members) found
+before_word at word members [] = refl
+before_word at word members (later ∷ around) = refl
 
-before_list : (line : ℕ) (inside members : Members) (found : List Members) → list_before line (joined inside NoMore ∷ before members found) ≡ before (ListThen line (joined inside NoMore) members) found
-before_list line inside members [] = refl
-before_list line inside members (later ∷ around) = refl
+before_list : (at : At) (inside members : Members) (found : List Members) → list_before at (joined inside NoMore ∷ before members found) ≡ before (ListThen at (joined inside NoMore) members) found
+before_list at inside members [] = refl
+before_list at inside members (later ∷ around) = refl
 
 joined_nothing : (members : Members) → joined members NoMore ≡ members
 joined_nothing NoMore = refl
-joined_nothing (WordThen line word rest) = ap (WordThen line word) (joined_nothing rest)
-joined_nothing (ListThen line inside rest) = ap (ListThen line inside) (joined_nothing rest)
+joined_nothing (WordThen at word rest) = ap (WordThen at word) (joined_nothing rest)
+joined_nothing (ListThen at inside rest) = ap (ListThen at inside) (joined_nothing rest)
 
 before_nothing : (found : List Members) → before NoMore found ≡ found
 before_nothing [] = refl
@@ -31,12 +32,12 @@ before_nothing (later ∷ around) = refl
 -- written members are found again
 nested_written : (members : Members) (more : List Token) → nested (written members ++ more) ≡ before members (nested more)
 nested_written NoMore more = sym (before_nothing (nested more))
-nested_written (WordThen line word rest) more = ap (word_before line word) (nested_written rest more) ∙ before_word line word rest (nested more)
-nested_written (ListThen line inside rest) more =
-    ap (λ ts. list_before line (nested ts)) (append_assoc (written inside) (Close ∷ written rest) more)
-    ∙ ap (list_before line) (nested_written inside (Close ∷ (written rest ++ more)) ∙ ap (λ found. joined inside NoMore ∷ found) (nested_written rest more))
-    ∙ before_list line inside rest (nested more)
-    ∙ ap (λ i. before (ListThen line i rest) (nested more)) (joined_nothing inside)
+nested_written (WordThen at word rest) more = ap (word_before at word) (nested_written rest more) ∙ before_word at word rest (nested more)
+nested_written (ListThen at inside rest) more =
+    ap (λ ts. list_before at (nested ts)) (append_assoc (written inside) (Close ∷ written rest) more)
+    ∙ ap (list_before at) (nested_written inside (Close ∷ (written rest ++ more)) ∙ ap (λ found. joined inside NoMore ∷ found) (nested_written rest more))
+    ∙ before_list at inside rest (nested more)
+    ∙ ap (λ i. before (ListThen at i rest) (nested more)) (joined_nothing inside)
 
 pub tree_of_spelled : (text : List ℕ) (members : Members) → written members ≡ spelled text → tree text ≡ members
 unfolding tree

@@ -1,27 +1,28 @@
 -- A text spells one tree at most.
 use Rattle.std.proofs.Common.{◌≡◌, ℕ, List, [], ◌∷◌, ◌++◌, refl, sym, ◌∙◌, append_assoc}
 use Rattle.std.proofs.lemmas.List.{append-nil}
+use Rattle.pddl_lexer.specs.declared.position.At.{At}
 use Rattle.pddl_lexer.specs.Members.{Members, NoMore, WordThen, ListThen}
 use Rattle.pddl_lexer.specs.Tokens.{Token, Open, Close, Word, written, IsTreeOf}
 
 -- nothing follows, or a list ends
 abbrev Stops : List Token → Type 0
 Stops [] = Unit {0}
-Stops (Open line ∷ ts) = ⊥
+Stops (Open at ∷ ts) = ⊥
 Stops (Close ∷ ts) = Unit {0}
-Stops (Word line word ∷ ts) = ⊥
+Stops (Word at word ∷ ts) = ⊥
 
-no_word : (s ts : List Token) (at : ℕ) (word : List ℕ) → Stops s → s ≡ Word at word ∷ ts → ⊥
+no_word : (s ts : List Token) (at : At) (word : List ℕ) → Stops s → s ≡ Word at word ∷ ts → ⊥
 no_word [] ts at word h e = cc
-no_word (Open line ∷ s) ts at word h e = h
+no_word (Open here ∷ s) ts at word h e = h
 no_word (Close ∷ s) ts at word h e = cc
-no_word (Word line w ∷ s) ts at word h e = h
+no_word (Word here w ∷ s) ts at word h e = h
 
-no_open : (s ts : List Token) (at : ℕ) → Stops s → s ≡ Open at ∷ ts → ⊥
+no_open : (s ts : List Token) (at : At) → Stops s → s ≡ Open at ∷ ts → ⊥
 no_open [] ts at h e = cc
-no_open (Open line ∷ s) ts at h e = h
+no_open (Open here ∷ s) ts at h e = h
 no_open (Close ∷ s) ts at h e = cc
-no_open (Word line w ∷ s) ts at h e = h
+no_open (Word here w ∷ s) ts at h e = h
 
 same : (a b : Members) (s t : List Token) → Stops s → Stops t → written a ++ s ≡ written b ++ t → (a ≡ b) × (s ≡ t)
 same NoMore NoMore s t p q e = (refl, e)

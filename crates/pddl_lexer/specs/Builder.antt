@@ -4,60 +4,60 @@ use Rattle.std.specs.Vec.{vec_len}
 use Rattle.pddl_lexer.specs.declared.scanner.Mark.{Mark}
 use Rattle.pddl_lexer.specs.declared.scanner.Mark.TheVariants.{Nothing, Bad, Opening, Closing, Beginning}
 use Rattle.pddl_lexer.specs.declared.builder.Builder.{Builder}
-use Rattle.pddl_lexer.specs.Text.{Line}
+use Rattle.pddl_lexer.specs.declared.position.At.{At}
 use Rattle.pddl_lexer.specs.Members.{Members, NoMore, WordThen, ListThen}
 use Rattle.pddl_lexer.specs.Nodes.{Entry, list_entry, entries, shown}
 use Rattle.pddl_lexer.specs.Tokens.{Token, Open, written}
 use Rattle.pddl_lexer.specs.Faults.{opened, closed, begun}
 
--- What stands outside all open lists; or an open list, with what is around it, its line and its members so far.
+-- What stands outside all open lists; or an open list, with what is around it, its position and its members so far.
 pub data Partial : Type 0 where
   Outside : (read : Members) → Partial
-  Within : (around : Partial) (line : Line) (read : Members) → Partial
+  Within : (around : Partial) (at : At) (read : Members) → Partial
 
 -- members after members
 abbrev pub joined : Members → Members → Members
 joined NoMore more = more
-joined (WordThen line word rest) more = WordThen line word (joined rest more)
-joined (ListThen line inside rest) more = ListThen line inside (joined rest more)
+joined (WordThen at word rest) more = WordThen at word (joined rest more)
+joined (ListThen at inside rest) more = ListThen at inside (joined rest more)
 
 -- how many lists are open
 abbrev pub depth : Partial → ℕ
 depth (Outside read) = 0
-depth (Within around line read) = suc (depth around)
+depth (Within around at read) = suc (depth around)
 
 -- a further member of the innermost open list
 abbrev pub with_member : Partial → Members → Partial
 with_member (Outside read) member = Outside (joined read member)
-with_member (Within around line read) member = Within around line (joined read member)
+with_member (Within around at read) member = Within around at (joined read member)
 
 -- the innermost open list is closed
 abbrev pub with_end : Partial → Partial
 with_end (Outside read) = Outside read
-with_end (Within around line read) = with_member around (ListThen line read NoMore)
+with_end (Within around at read) = with_member around (ListThen at read NoMore)
 
 -- what is read once what stands at a place is
-abbrev pub with_mark : Mark → (line : Line) (word : List ℕ) → Partial → Partial
-with_mark Nothing line word partial = partial
-with_mark Bad line word partial = partial
-with_mark Opening line word partial = Within partial line NoMore
-with_mark Closing line word partial = with_end partial
-with_mark Beginning line word partial = with_member partial (WordThen line word NoMore)
+abbrev pub with_mark : Mark → (at : At) (word : List ℕ) → Partial → Partial
+with_mark Nothing at word partial = partial
+with_mark Bad at word partial = partial
+with_mark Opening at word partial = Within partial at NoMore
+with_mark Closing at word partial = with_end partial
+with_mark Beginning at word partial = with_member partial (WordThen at word NoMore)
 
 -- the tokens read so far
 abbrev pub written_so_far : Partial → List Token
 written_so_far (Outside read) = written read
-written_so_far (Within around line read) = written_so_far around ++ (Open line ∷ written read)
+written_so_far (Within around at read) = written_so_far around ++ (Open at ∷ written read)
 
 -- the nodes so far: an open list has no count yet
 abbrev pub entries_so_far : Partial → List Entry
 entries_so_far (Outside read) = entries 0 read
-entries_so_far (Within around line read) = entries_so_far around ++ (list_entry line (depth around) 0 ∷ entries (suc (depth around)) read)
+entries_so_far (Within around at read) = entries_so_far around ++ (list_entry at (depth around) 0 ∷ entries (suc (depth around)) read)
 
 -- where the open lists stand among the nodes, the outermost first
 abbrev pub places_open : Partial → List ℕ
 places_open (Outside read) = []
-places_open (Within around line read) = places_open around ++ (length (entries_so_far around) ∷ [])
+places_open (Within around at read) = places_open around ++ (length (entries_so_far around) ∷ [])
 
 -- the builder keeps this list
 pub record Represents (builder : Builder) (partial : Partial) : Type 0 where

@@ -7,7 +7,8 @@ use Rattle.pddl_lexer.specs.declared.fault.Kind.TheVariants.{BadByte, StrayClose
 use Rattle.pddl_lexer.specs.declared.fault.Fault.{Fault}
 use Rattle.pddl_lexer.specs.declared.fault.TreeEnd.{TreeEnd}
 use Rattle.pddl_lexer.specs.declared.fault.TreeEnd.TheVariants as ends
-use Rattle.pddl_lexer.specs.Text.{Line, mark, line}
+use Rattle.pddl_lexer.specs.Text.{mark, position}
+use Rattle.pddl_lexer.specs.declared.position.At.{At}
 
 abbrev pub is_opening : Mark → Bool
 is_opening Nothing = false
@@ -71,16 +72,16 @@ kind_at Beginning behind = if not (begun behind) then Some NoList else if after_
 unfoldable pub kind_at_end : List ℕ → Option Kind
 kind_at_end behind = if not (at_top behind) then Some MissingClose else if not (begun behind) then Some NoList else None
 
-abbrev pub faults_at : Option Kind → Line → List Fault
-faults_at None line = []
-faults_at (Some kind) line = record { kind = kind; line = line } ∷ []
+abbrev pub faults_at : Option Kind → At → List Fault
+faults_at None at = []
+faults_at (Some kind) at = record { kind = kind; at = at } ∷ []
 
 -- the faults from a place on, by the bytes before it and the bytes after it
 unfoldable pub faults_from : List ℕ → List ℕ → List Fault
-faults_from behind [] = faults_at (kind_at_end behind) (line behind)
-faults_from behind (b ∷ after) = faults_at (kind_at (mark behind b) behind) (line behind) ++ faults_from (b ∷ behind) after
+faults_from behind [] = faults_at (kind_at_end behind) (position behind)
+faults_from behind (b ∷ after) = faults_at (kind_at (mark behind b) behind) (position behind) ++ faults_from (b ∷ behind) after
 
--- The tree faults of a text, in order, each with its line: the line of the place, or at the end the last line.
+-- The tree faults of a text, in order, each with its position: that of the place, or at the end the place after the last byte.
 abbrev pub tree_faults : List ℕ → List Fault
 tree_faults text = faults_from [] text
 

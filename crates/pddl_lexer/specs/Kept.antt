@@ -3,6 +3,7 @@ use Rattle.std.proofs.Common.{◌≡◌, ℕ, suc, ◌<◌, List, [], ◌∷◌,
 use Rattle.std.specs.Coded.{Coded, code_by, coded×, coded_ℕ, coded_list, coded_option}
 use Rattle.std.proofs.lemmas.List.{append-nil}
 use Rattle.std.proofs.lemmas.Bool.{lt-ltb, le-ltb, eq-eqb, ne_eqb}
+use Rattle.pddl_lexer.specs.declared.position.At.{At}
 use Rattle.pddl_lexer.specs.Members.{Members, NoMore, WordThen, ListThen, count}
 use Rattle.pddl_lexer.specs.Nodes.{Entry, word_entry, list_entry, entries, member, members}
 
@@ -53,10 +54,13 @@ reads (ListThen at inner more) depth es h =
 pub reads_all : (m : Members) → members (entries 0 m) 0 ≡ m
 reads_all m = ap (λ (es : List Entry). members es 0) (sym (append-nil (entries 0 m))) ∙ reads m 0 [] tt
 
+abbrev position_code : Coded At
+position_code = code_by (ℕ × ℕ) (coded× coded_ℕ coded_ℕ) (λ at. (at.line, at.column)) (λ p. record { line = p.0; column = p.1 }) (λ _. refl)
+
 abbrev entry_code : Coded Entry
 entry_code =
-    code_by (ℕ × (Option (List ℕ) × (ℕ × ℕ))) (coded× coded_ℕ (coded× (coded_option (coded_list coded_ℕ)) (coded× coded_ℕ coded_ℕ)))
-    (λ e. (e.line, (e.word, (e.depth, e.below)))) (λ p. record { line = p.0; word = p.1.0; depth = p.1.1.0; below = p.1.1.1 }) (λ _. refl)
+    code_by (At × (Option (List ℕ) × (ℕ × ℕ))) (coded× position_code (coded× (coded_option (coded_list coded_ℕ)) (coded× coded_ℕ coded_ℕ)))
+    (λ e. (e.at, (e.word, (e.depth, e.below)))) (λ p. record { at = p.0; word = p.1.0; depth = p.1.1.0; below = p.1.1.1 }) (λ _. refl)
 
 -- a tree is stored as its nodes
 abbrev pub members_code : Coded Members

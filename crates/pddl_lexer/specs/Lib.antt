@@ -1,4 +1,5 @@
 -- what a reader of the contracts believes
+pub mod Positions
 pub mod Text
 pub mod Tokens
 pub mod Members

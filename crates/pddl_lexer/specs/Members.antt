@@ -1,13 +1,15 @@
 -- A nested list of words: the members of a list, from some member on.
 use Rattle.std.specs.Prelude.{◌≡◌, ℕ, suc, ◌+◌, ◌<◌, Bool, true, false, List, [], ◌∷◌, ◌++◌, length, Option, Some, None, slice_index_or, if◌then◌else◌}
-use Rattle.pddl_lexer.specs.Text.{Line, lowered}
+use Rattle.pddl_lexer.specs.declared.position.At.{At}
+use Rattle.pddl_lexer.specs.Positions.{nowhere}
+use Rattle.pddl_lexer.specs.Text.{lowered}
 
--- No member; or a word with its line and its bytes, and the members after it; or a list with the line of
--- its ( and its own members, and the members after it.
+-- No member; or a word with the position of its first byte and its bytes, and the members after it; or a list with
+-- the position of its ( and its own members, and the members after it.
 pub data Members : Type 0 where
   NoMore : Members
-  WordThen : (line : Line) (word : List ℕ) (rest : Members) → Members
-  ListThen : (line : Line) (inside : Members) (rest : Members) → Members
+  WordThen : (at : At) (word : List ℕ) (rest : Members) → Members
+  ListThen : (at : At) (inside : Members) (rest : Members) → Members
 
 abbrev pub is_empty : Members → Bool
 is_empty NoMore = true
@@ -20,11 +22,11 @@ is_list NoMore = false
 is_list (WordThen at bytes more) = false
 is_list (ListThen at members more) = true
 
--- the line of the first member
-abbrev pub line : Members → Line
-line NoMore = 0
-line (WordThen at bytes more) = at
-line (ListThen at members more) = at
+-- the position of the first member
+abbrev pub position : Members → At
+position NoMore = nowhere
+position (WordThen at bytes more) = at
+position (ListThen at members more) = at
 
 -- the bytes of the first member; a list has none
 abbrev pub word : Members → List ℕ

@@ -3,35 +3,36 @@ use Rattle.std.specs.Prelude.{◌≡◌, ℕ, suc, List, [], ◌∷◌, ◌++◌
 use Rattle.pddl_lexer.specs.declared.tree.Content.{Content}
 use Rattle.pddl_lexer.specs.declared.tree.Content.TheVariants as contents
 use Rattle.pddl_lexer.specs.declared.tree.Node.{Node}
-use Rattle.pddl_lexer.specs.Text.{Line}
-use Rattle.pddl_lexer.specs.Members.{Members, NoMore, WordThen, ListThen, IsOneList, count, is_list, line, word, inside}
+use Rattle.pddl_lexer.specs.declared.position.At.{At}
+use Rattle.pddl_lexer.specs.Positions.{nowhere}
+use Rattle.pddl_lexer.specs.Members.{Members, NoMore, WordThen, ListThen, IsOneList, count, is_list, position, word, inside}
 
--- a node: its line, its bytes if it is a word and None if it is a list, its depth, and how many nodes stand in it
+-- a node: its position, its bytes if it is a word and None if it is a list, its depth, and how many nodes stand in it
 pub record Entry : Type 0 where
-  pub line : Line
+  pub at : At
   pub word : Option (List ℕ)
   pub depth : ℕ
   pub below : ℕ
 
-abbrev pub word_entry : (line : Line) (word : List ℕ) (depth : ℕ) → Entry
-word_entry line word depth = record { line = line; word = Some word; depth = depth; below = 0 }
+abbrev pub word_entry : (at : At) (word : List ℕ) (depth : ℕ) → Entry
+word_entry at word depth = record { at = at; word = Some word; depth = depth; below = 0 }
 
-abbrev pub list_entry : (line : Line) (depth below : ℕ) → Entry
-list_entry line depth below = record { line = line; word = None; depth = depth; below = below }
+abbrev pub list_entry : (at : At) (depth below : ℕ) → Entry
+list_entry at depth below = record { at = at; word = None; depth = depth; below = below }
 
 -- the nodes of members that stand at this depth
 abbrev pub entries : ℕ → Members → List Entry
 entries depth NoMore = []
-entries depth (WordThen line word rest) = word_entry line word depth ∷ entries depth rest
-entries depth (ListThen line inside rest) = list_entry line depth (count inside) ∷ (entries (suc depth) inside ++ entries depth rest)
+entries depth (WordThen at word rest) = word_entry at word depth ∷ entries depth rest
+entries depth (ListThen at inside rest) = list_entry at depth (count inside) ∷ (entries (suc depth) inside ++ entries depth rest)
 
 -- a member, with its own members if it is a list
 abbrev pub member : Entry → Members → Members → Members
-member e inside rest = option_member e.word e.line inside rest
+member e inside rest = option_member e.word e.at inside rest
   where
-    option_member : Option (List ℕ) → Line → Members → Members → Members
-    option_member None line inside rest = ListThen line inside rest
-    option_member (Some word) line inside rest = WordThen line word rest
+    option_member : Option (List ℕ) → At → Members → Members → Members
+    option_member None at inside rest = ListThen at inside rest
+    option_member (Some word) at inside rest = WordThen at word rest
 
 -- the members at this depth with which the nodes begin: deeper nodes are passed over, and a node that is less deep ends them
 abbrev pub members : List Entry → ℕ → Members
@@ -51,7 +52,7 @@ content_below (contents.List below) = below
 
 -- a node of the code, without where its word lies in memory
 abbrev pub entry : Node → Entry
-entry n = record { line = n.line; word = content_word n.content; depth = n.depth; below = content_below n.content }
+entry n = record { at = n.at; word = content_word n.content; depth = n.depth; below = content_below n.content }
 
 abbrev pub shown : List Node → List Entry
 shown ns = map entry ns
@@ -67,13 +68,13 @@ pub record AreNodesOf (tree : Members) (ns : List Node) : Type 0 where
 
 -- a node of the code shows the first of these members
 pub record Shows (e : Entry) (here : Members) : Type 0 where
-  pub line_is : e.line ≡ line here
+  pub at_is : e.at ≡ position here
   pub word_is : e.word ≡ (if is_list here then None else Some (word here))
   pub below_is : e.below ≡ count (inside here)
 
 -- how deep the node i stands in members at this depth
 abbrev pub depth_of : Members → ℕ → ℕ
-depth_of tree i = (slice_index_or (entries 0 tree) i (list_entry 0 0 0)).depth
+depth_of tree i = (slice_index_or (entries 0 tree) i (list_entry nowhere 0 0)).depth
 
 abbrev pub IsAtDepth : Members → ℕ → ℕ → Type 0
 IsAtDepth tree i depth = depth ≡ depth_of tree i

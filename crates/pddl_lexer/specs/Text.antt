@@ -1,14 +1,12 @@
 -- What stands at each byte of a text. As in PDDL, a ; begins a comment that ends with its line, and the case of
 -- letters doesn't matter. What stands at a byte is told by the bytes before it, which are listed with the nearest
 -- first: `behind`.
-use Rattle.std.specs.Prelude.{ℕ, ◌+◌, Bool, false, List, [], ◌∷◌, map, nat_le, ◌==◌, ◌&&◌, ◌||◌, not, if◌then◌else◌}
+use Rattle.std.specs.Prelude.{ℕ, ◌+◌, Bool, false, List, [], ◌∷◌, length, map, nat_le, ◌==◌, ◌&&◌, ◌||◌, not, if◌then◌else◌}
 use Rattle.std.specs.Char.{to_ascii_lowercase}
+use Rattle.std.specs.List.{take_while}
+use Rattle.pddl_lexer.specs.declared.position.At.{At}
 use Rattle.pddl_lexer.specs.declared.scanner.Mark.{Mark}
 use Rattle.pddl_lexer.specs.declared.scanner.Mark.TheVariants.{Nothing, Bad, Opening, Closing, Beginning}
-
--- a line of a text: 1 is the first
-abbrev pub Line : Type 0
-Line = ℕ
 
 abbrev pub line_feed : ℕ
 line_feed = 10
@@ -43,9 +41,17 @@ commented [] = false
 commented (b ∷ behind) = not (b == line_feed) && (commented behind || b == semicolon)
 
 -- the line of the byte that follows these: 1, and one more for each line feed
-abbrev pub line : List ℕ → Line
+abbrev pub line : List ℕ → ℕ
 line [] = 1
 line (b ∷ behind) = if b == line_feed then line behind + 1 else line behind
+
+-- the column of the byte that follows these: 1, and one more for each byte since the last line feed
+abbrev pub column : List ℕ → ℕ
+column behind = 1 + length (take_while (λ b. not (b == line_feed)) behind)
+
+-- the position of the byte that follows these, or of the end of the text
+abbrev pub position : List ℕ → At
+position behind = record { line = line behind; column = column behind }
 
 -- the last of these bytes is a byte of a word
 abbrev pub ends_in_word : List ℕ → Bool

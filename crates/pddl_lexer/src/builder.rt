@@ -8,6 +8,7 @@ ghost use Rattle.pddl_lexer.specs.Faults.{after_end, kind_at, kind_at_end};
 ghost use Rattle.pddl_lexer.specs.Builder.{Partial, Outside, Within, with_member, with_end, with_mark, Represents, IsBuilding, Counts};
 
 use crate::fault::Kind;
+use crate::position::At;
 use crate::scanner::{Mark, is_word_byte};
 use crate::tree::{Content, Node};
 use std::alloc::{AllocError, Global};
@@ -96,27 +97,27 @@ impl<'a> Builder<'a> {
         }
     }
 
-    fn add_word(&mut self, line: u64, word: &'a [u8]) -> Result<(), AllocError>
+    fn add_word(&mut self, at: At, word: &'a [u8]) -> Result<(), AllocError>
         ensures { OnOk result ((partial : Partial) → Represents self.old partial
-            → Represents self.new (with_member partial (WordThen line word.now NoMore))) }
+            → Represents self.new (with_member partial (WordThen at word.now NoMore))) }
     {
         let depth = self.open.len();
         self.nodes.push(Node {
-            line,
+            at,
             depth,
             content: Content::Word(word),
         })?;
         Ok(())
     }
 
-    fn begin_list(&mut self, line: u64) -> Result<(), AllocError>
+    fn begin_list(&mut self, at: At) -> Result<(), AllocError>
         ensures { OnOk result ((partial : Partial) → Represents self.old partial
-            → Represents self.new (Within partial line NoMore)) }
+            → Represents self.new (Within partial at NoMore)) }
     {
         let depth = self.open.len();
         self.open.push(self.nodes.len())?;
         self.nodes.push(Node {
-            line,
+            at,
             depth,
             content: Content::List { below: 0 },
         })?;
@@ -134,19 +135,19 @@ impl<'a> Builder<'a> {
     }
 
     /// Takes what stands at a place, with which the text begins.
-    pub(crate) fn add(&mut self, mark: Mark, line: u64, text: &'a [u8]) -> Result<(), AllocError>
+    pub(crate) fn add(&mut self, mark: Mark, at: At, text: &'a [u8]) -> Result<(), AllocError>
         requires { IsBuilding self.old }
         ensures { OnOk result ((partial : Partial) → Represents self.old partial
-            → Represents self.new (with_mark mark line (leading_word text.now) partial)) }
+            → Represents self.new (with_mark mark at (leading_word text.now) partial)) }
     {
         match mark {
             Mark::Nothing | Mark::Bad => Ok(()),
-            Mark::Opening => self.begin_list(line),
+            Mark::Opening => self.begin_list(at),
             Mark::Closing => {
                 self.end_list();
                 Ok(())
             }
-            Mark::Beginning => self.add_word(line, leading_word(text)),
+            Mark::Beginning => self.add_word(at, leading_word(text)),
         }
     }
 }

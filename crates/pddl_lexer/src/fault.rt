@@ -4,6 +4,7 @@ ghost use Rattle.std.specs.Prelude.{◌≡◌};
 ghost use Rattle.pddl_lexer.specs.Kinds.{number, text, place_text};
 ghost use Rattle.pddl_lexer.specs.declared.fault.TreeEnd.TheVariants.{NoMemory};
 
+use crate::position::At;
 use std::alloc::{AllocError, AllocFailed};
 
 /// What a fault is about. The kinds stand in the order of their numbers.
@@ -199,11 +200,11 @@ impl ShapePlace {
     }
 }
 
-/// A fault of a text, and the line where it stands, from 1.
+/// A fault of a text, and where it stands.
 #[derive(Clone, Copy, Debug, PartialEq, Eq)]
 pub struct Fault {
     pub kind: Kind,
-    pub line: u64,
+    pub at: At,
 }
 
 /// Why a text gave no tree: its first fault, or memory ran out.

@@ -4,12 +4,14 @@
 mod builder;
 mod fault;
 mod laws;
+mod position;
 mod reader;
 mod scanner;
 mod tree;
 
 pub use fault::{Fault, Kind, ShapePlace, TreeEnd};
 pub use laws::{has_tree, lowering, one_tree, some_member, worked_examples};
+pub use position::At;
 pub use reader::read_tree;
 pub use tree::Tree;
 

@@ -17,7 +17,8 @@ use std::alloc::Global;
 ///
 /// Outside comments the bytes 33 to 126, space, tab, carriage return and line feed are allowed. A `;` begins a comment
 /// that ends before the next line feed, and any byte may stand in it. A word is a longest run of bytes 33 to 126
-/// without `(`, `)` and `;`, and a `?` begins a new word. Lists may be nested 100 deep. Lines are counted from 1.
+/// without `(`, `)` and `;`, and a `?` begins a new word. Lists may be nested 100 deep. Lines are counted from 1,
+/// and so are the bytes of each line.
 pub fn read_tree<'a>(alloc: Global, bytes: &'a [u8]) -> Result<Tree<'a>, TreeEnd>
     // What is read is the tree of the text, once its words are lowered.
     ensures tree { IfOk result (λ tree. IsTreeOf bytes.now (lowered_members tree)) }
@@ -44,17 +45,17 @@ pub fn read_tree<'a>(alloc: Global, bytes: &'a [u8]) -> Result<Tree<'a>, TreeEnd
         if let Some(kind) = builder.kind_at(mark) {
             return Err(TreeEnd::Fault(Fault {
                 kind,
-                line: scanner.line,
+                at: scanner.at,
             }));
         }
-        builder.add(mark, scanner.line, text)?;
+        builder.add(mark, scanner.at, text)?;
         scanner = scanner.after(*byte);
         text = after;
     }
     match builder.kind_at_end() {
         Some(kind) => Err(TreeEnd::Fault(Fault {
             kind,
-            line: scanner.line,
+            at: scanner.at,
         })),
         None => Ok(Tree::of_nodes(builder.nodes)),
     }

@@ -4,6 +4,8 @@ ghost use Rattle.std.specs.Prelude.{◌≡◌, ◌∷◌, ◌+◌, ◌<◌, ◌^
 ghost use Rattle.pddl_lexer.specs.Text.{is_word_byte, is_blank, mark};
 ghost use Rattle.pddl_lexer.specs.Scanner.{StandsAfter};
 
+use crate::position::At;
+
 /// What stands at a byte.
 #[derive(Clone, Copy, PartialEq, Eq)]
 pub(crate) enum Mark {
@@ -22,8 +24,8 @@ pub(crate) enum Mark {
 /// A place in a text, and what the bytes before it say about it.
 #[derive(Clone, Copy)]
 pub(crate) struct Scanner {
-    /// The line of the place, from 1.
-    pub(crate) line: u64,
+    /// Where the place is.
+    pub(crate) at: At,
     /// A `;` stands before the place in its line.
     pub(crate) in_comment: bool,
     /// The byte before the place is one of a word.
@@ -48,7 +50,7 @@ impl Scanner {
         ensures { StandsAfter result List.[] }
     {
         Scanner {
-            line: 1,
+            at: At { line: 1, column: 1 },
             in_comment: false,
             in_word: false,
         }
@@ -80,18 +82,25 @@ impl Scanner {
 
     /// The place after the byte.
     pub(crate) fn after(&self, byte: u8) -> Scanner
-        requires { self.now.line + 1 < 2 ^ 64 }
+        requires line { self.now.at.line + 1 < 2 ^ 64 }
+        requires column { self.now.at.column + 1 < 2 ^ 64 }
         ensures { (behind : List ℕ) → StandsAfter self.now behind → StandsAfter result (byte ∷ behind) }
     {
         if byte == b'\n' {
             Scanner {
-                line: self.line + 1,
+                at: At {
+                    line: self.at.line + 1,
+                    column: 1,
+                },
                 in_comment: false,
                 in_word: false,
             }
         } else {
             Scanner {
-                line: self.line,
+                at: At {
+                    line: self.at.line,
+                    column: self.at.column + 1,
+                },
                 in_comment: self.in_comment || byte == b';',
                 in_word: is_word_byte(byte),
             }

@@ -8,40 +8,42 @@ fn fault_of(rt: HostRuntime, text: &[u8]) -> Option<Fault> {
     }
 }
 
-static FIRST_FAULTS: [(&[u8], Kind, u64); 22] = [
-    (b"(a\n\x7f)", Kind::BadByte, 2),
-    (b"(\t\r\n\x01)", Kind::BadByte, 2),
-    (b"(a\nb\xc3\xa9)", Kind::BadByte, 2),
-    (b"\x01)", Kind::BadByte, 1),
-    (b"(a) ; (\n\n \xc3", Kind::BadByte, 3),
-    (b")", Kind::StrayClose, 1),
-    (b"(a))", Kind::StrayClose, 1),
-    (b"(a)\n\n )(", Kind::StrayClose, 3),
-    (b"(a ;)\n))", Kind::StrayClose, 2),
-    (b"(a\n(b)\n", Kind::MissingClose, 3),
+static FIRST_FAULTS: [(&[u8], Kind, u64, u64); 22] = [
+    (b"(a\n\x7f)", Kind::BadByte, 2, 1),
+    (b"(\t\r\n\x01)", Kind::BadByte, 2, 1),
+    (b"(a\nb\xc3\xa9)", Kind::BadByte, 2, 2),
+    (b"\x01)", Kind::BadByte, 1, 1),
+    (b"(a) ; (\n\n \xc3", Kind::BadByte, 3, 2),
+    (b")", Kind::StrayClose, 1, 1),
+    (b"(a))", Kind::StrayClose, 1, 4),
+    (b"(a)\n\n )(", Kind::StrayClose, 3, 2),
+    (b"(a ;)\n))", Kind::StrayClose, 2, 2),
+    (b"(a\n(b)\n", Kind::MissingClose, 3, 1),
     (
         b"(define (problem p)\n(:domain s)\n(:init (of",
         Kind::MissingClose,
         3,
+        11,
     ),
-    (b"(a ;)", Kind::MissingClose, 1),
-    (b"(a\nb)\n\nx", Kind::TextAfterEnd, 4),
-    (b"(a) ; b\n(", Kind::TextAfterEnd, 2),
-    (b"()()", Kind::TextAfterEnd, 1),
-    (b"()?", Kind::TextAfterEnd, 1),
-    (b"", Kind::NoList, 1),
-    (b"\n", Kind::NoList, 2),
-    (b"; (a)\n", Kind::NoList, 2),
-    (b"x", Kind::NoList, 1),
-    (b"\n x\n(a)", Kind::NoList, 2),
-    (b"; a\n;\xff\n- (a)", Kind::NoList, 3),
+    (b"(a ;)", Kind::MissingClose, 1, 6),
+    (b"(a\nb)\n\nx", Kind::TextAfterEnd, 4, 1),
+    (b"(a) ; b\n(", Kind::TextAfterEnd, 2, 1),
+    (b"()()", Kind::TextAfterEnd, 1, 3),
+    (b"()?", Kind::TextAfterEnd, 1, 3),
+    (b"", Kind::NoList, 1, 1),
+    (b"\n", Kind::NoList, 2, 1),
+    (b"; (a)\n", Kind::NoList, 2, 1),
+    (b"x", Kind::NoList, 1, 1),
+    (b"\n x\n(a)", Kind::NoList, 2, 2),
+    (b"; a\n;\xff\n- (a)", Kind::NoList, 3, 1),
 ];
 
 #[test]
-fn first_faults_with_their_lines(rt: HostRuntime) {
+fn first_faults_with_their_positions(rt: HostRuntime) {
     for row in &FIRST_FAULTS {
-        let (text, kind, line) = *row;
-        assert_eq!(rt; fault_of(rt, text), Some(Fault { kind, line }), "{text:?}");
+        let (text, kind, line, column) = *row;
+        let at = At { line, column };
+        assert_eq!(rt; fault_of(rt, text), Some(Fault { kind, at }), "{text:?}");
     }
 }
 
@@ -56,21 +58,24 @@ fn a_hundred_lists_may_be_open(rt: HostRuntime) {
     too_deep[50] = b'\n';
     let want = Some(Fault {
         kind: Kind::TooDeep,
-        line: 2,
+        at: At {
+            line: 2,
+            column: 51,
+        },
     });
     assert_eq!(rt; fault_of(rt, &too_deep), want);
 }
 
-// Each node: whether it is a list, its line, its bytes, its first member, the next member.
-static NODES: [(bool, u64, &str, Option<u64>, Option<u64>); 8] = [
-    (true, 2, "", Some(1), None),
-    (false, 2, "define", None, Some(2)),
-    (true, 3, "", Some(3), Some(6)),
-    (false, 3, "Domain", None, Some(4)),
-    (false, 3, "a", None, Some(5)),
-    (false, 3, "?b", None, None),
-    (true, 3, "", None, Some(7)),
-    (false, 3, "SWITCH-2", None, None),
+// Each node: whether it is a list, its line and column, its bytes, its first member, the next member.
+static NODES: [(bool, u64, u64, &str, Option<u64>, Option<u64>); 8] = [
+    (true, 2, 1, "", Some(1), None),
+    (false, 2, 2, "define", None, Some(2)),
+    (true, 3, 1, "", Some(3), Some(6)),
+    (false, 3, 2, "Domain", None, Some(4)),
+    (false, 3, 9, "a", None, Some(5)),
+    (false, 3, 10, "?b", None, None),
+    (true, 3, 14, "", None, Some(7)),
+    (false, 3, 17, "SWITCH-2", None, None),
 ];
 
 #[test]
@@ -81,14 +86,14 @@ fn nodes_of_a_tree(rt: HostRuntime) -> Result<(), Fail> {
         .ok_or("no tree")?;
     assert_eq!(rt; tree.len(), 8);
     for i in 0..8 {
-        let (list, line, word, first, next) = NODES[i];
-        let at = i as u64;
-        assert!(rt; at < tree.len());
-        assert_eq!(rt; tree.is_list(at), list, "{i}");
-        assert_eq!(rt; tree.line(at), line, "{i}");
-        assert_eq!(rt; tree.word(at), word.as_bytes(), "{i}");
-        assert_eq!(rt; tree.first(at), first, "{i}");
-        assert_eq!(rt; tree.next(at), next, "{i}");
+        let (list, line, column, word, first, next) = NODES[i];
+        let node = i as u64;
+        assert!(rt; node < tree.len());
+        assert_eq!(rt; tree.is_list(node), list, "{i}");
+        assert_eq!(rt; tree.at(node), At { line, column }, "{i}");
+        assert_eq!(rt; tree.word(node), word.as_bytes(), "{i}");
+        assert_eq!(rt; tree.first(node), first, "{i}");
+        assert_eq!(rt; tree.next(node), next, "{i}");
     }
     Ok(())
 }

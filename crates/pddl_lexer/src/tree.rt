@@ -1,9 +1,10 @@
 //! A nested list of words, kept as its nodes in pre-order.
 
 ghost use Rattle.std.specs.Prelude.{◌≡◌, ◌<◌, ◌≤◌, ◌+◌, ◌^◌, ◌↔◌, List, None, IsNone, length};
-ghost use Rattle.pddl_lexer.specs.Members.{Members, NoMore, IsOneList, nodes, from, is_list, line, word, inside, rest, count, members_at, IsPlace, beginning};
+ghost use Rattle.pddl_lexer.specs.Members.{Members, NoMore, IsOneList, nodes, from, is_list, position, word, inside, rest, count, members_at, IsPlace, beginning};
 ghost use Rattle.pddl_lexer.specs.Nodes.{entry, content_word, content_below, Shows, IsAtDepth, AreNodesOf};
 
+use crate::position::At;
 use std::marker::Model;
 
 /// What a node is.
@@ -18,7 +19,7 @@ pub(crate) enum Content<'a> {
 /// A word or a list of the tree.
 #[derive(Clone, Copy)]
 pub(crate) struct Node<'a> {
-    pub(crate) line: u64,
+    pub(crate) at: At,
     /// How many lists it stands in.
     pub(crate) depth: usize,
     pub(crate) content: Content<'a>,
@@ -99,12 +100,12 @@ impl<'a> Tree<'a> {
         matches!(self.node(i).content, Content::List { .. })
     }
 
-    /// The line of a word, or of the `(` of a list, from 1.
-    pub fn line(&self, i: u64) -> u64
+    /// Where the first byte of a word stands, or the `(` of a list.
+    pub fn at(&self, i: u64) -> At
         requires { i < length (nodes self.now) }
-        ensures { result ≡ line (from self.now i) }
+        ensures { result ≡ position (from self.now i) }
     {
-        self.node(i).line
+        self.node(i).at
     }
 
     /// The bytes of a word, as written. A list has none.

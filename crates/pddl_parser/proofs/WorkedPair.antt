@@ -13,7 +13,7 @@ use Rattle.pddl_parser.specs.Objects.{Binding}
 use Rattle.pddl_parser.specs.Holds.{GroundAtom, State, ground, holds_step, holds}
 use Rattle.pddl_parser.specs.Step.{Step, name_of, increases_step, increases, total, action_cost, writes_step, writes}
 use Rattle.pddl_parser.specs.Plan.{pddl_task, HasPlan}
-use Rattle.pddl_parser.specs.WorkedPair.{alone, switch, lamp, lit_lamp}
+use Rattle.pddl_parser.specs.WorkedPair.{start, alone, switch, lamp, lit_lamp}
 use Rattle.pddl_parser.proofs.ConditionCases as c
 use Rattle.pddl_parser.proofs.EffectCases as e
 
@@ -30,7 +30,7 @@ abbrev adds : Effect
 adds = Add (alone (codes "lit"))
 
 abbrev costs : Effect
-costs = Increase (alone (codes "total-cost")) (Number 3) 1
+costs = Increase (alone (codes "total-cost")) (Number 3) start
 
 goal_is : (full : State) → holds lamp lit_lamp full lit_lamp.goal [] ≡ full lit
 goal_is full = ap (λ (f : Binding → Bool). f []) (c.fold-Atom (Binding → Bool) (holds_step lamp lit_lamp full) (alone (codes "lit")))
@@ -38,9 +38,9 @@ goal_is full = ap (λ (f : Binding → Bool). f []) (c.fold-Atom (Binding → Bo
 cost_some : task.cost_of one ≡ Some 3
 cost_some =
     ap (total [] [])
-    (e.fold-And (List Cost) increases_step (adds ∷ costs ∷ []) 1
+    (e.fold-And (List Cost) increases_step (adds ∷ costs ∷ []) start
     ∙ ap (λ (l : List Cost). l ++ (increases costs ++ [])) (e.fold-Add (List Cost) increases_step (alone (codes "lit")))
-    ∙ ap (λ (l : List Cost). l ++ []) (e.fold-Increase (List Cost) increases_step (alone (codes "total-cost")) (Number 3) 1))
+    ∙ ap (λ (l : List Cost). l ++ []) (e.fold-Increase (List Cost) increases_step (alone (codes "total-cost")) (Number 3) start))
 
 cost_is : planning.cost task one ≡ 3
 cost_is = ap (λ (o : Option ℕ). unwrap_or o 0) cost_some
@@ -49,7 +49,7 @@ cost_is = ap (λ (o : Option ℕ). unwrap_or o 0) cost_some
 lit_added : (full : State) → writes lamp lit_lamp full true switch.effect [] lit ≡ true
 lit_added full =
     let ws = writes_step lamp lit_lamp full true in
-    ap (λ (f : Binding → State). f [] lit) (e.fold-And (Binding → State) ws (adds ∷ costs ∷ []) 1)
+    ap (λ (f : Binding → State). f [] lit) (e.fold-And (Binding → State) ws (adds ∷ costs ∷ []) start)
     ∙ ap (λ (f : Binding → State). f [] lit || (writes lamp lit_lamp full true costs [] lit || false)) (e.fold-Add (Binding → State) ws (alone (codes "lit")))
 
 abbrev after : State
@@ -64,7 +64,7 @@ takes =
       of_task = (0, omega arith, refl);
       full = task.initial;
       is_full = basic_full task.initial;
-      applicable = ap (λ (f : Binding → Bool). f []) (c.fold-True (Binding → Bool) (holds_step lamp lit_lamp task.initial) 1);
+      applicable = ap (λ (f : Binding → Bool). f []) (c.fold-True (Binding → Bool) (holds_step lamp lit_lamp task.initial) start);
       costs = subst IsSome (sym cost_some) refl;
       follows = λ atom. refl;
     }

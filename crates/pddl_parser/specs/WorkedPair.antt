@@ -1,5 +1,6 @@
 -- A domain and a problem for worked examples: a lamp that one action switches on, which costs 3.
 use Rattle.std.specs.Prelude.{ℕ, true, List, [], ◌∷◌, codes}
+use Rattle.pddl_lexer.specs.declared.position.At.{At}
 use Rattle.pddl_parser.specs.declared.types.Action.{Action}
 use Rattle.pddl_parser.specs.declared.types.Atom as atoms
 use Rattle.pddl_parser.specs.declared.types.Condition.TheVariants.{True, Atom}
@@ -10,13 +11,17 @@ use Rattle.pddl_parser.specs.declared.types.Named.{Named}
 use Rattle.pddl_parser.specs.declared.types.Problem.{Problem}
 use Rattle.pddl_parser.specs.Words.{Name}
 
--- the name, on line 1
+-- the first position of a text
+abbrev pub start : At
+start = record { line = 1; column = 1 }
+
+-- the name, at the start
 abbrev pub named : Name → Named
-named name = record { name = name; line = 1 }
+named name = record { name = name; at = start }
 
 -- an atom without arguments
 abbrev pub alone : Name → atoms.Atom
-alone name = record { predicate = named name; terms = []; line = 1 }
+alone name = record { predicate = named name; terms = []; at = start }
 
 -- `(:action switch :effect (and (lit) (increase (total-cost) 3)))`
 abbrev pub switch : Action
@@ -24,8 +29,8 @@ switch =
     record {
       name = named (codes "switch");
       parameters = [];
-      precondition = True 1;
-      effect = And (Add (alone (codes "lit")) ∷ Increase (alone (codes "total-cost")) (Number 3) 1 ∷ []) 1;
+      precondition = True start;
+      effect = And (Add (alone (codes "lit")) ∷ Increase (alone (codes "total-cost")) (Number 3) start ∷ []) start;
     }
 
 abbrev pub lamp : Domain

@@ -3,13 +3,16 @@ use Rattle.std.specs.Prelude.{◌≡◌, ℕ, List, [], ◌∷◌, Option, Some,
 use Rattle.std.specs.List.{enumerate_from, filter_map, sum_by}
 use Rattle.std.specs.Option.{option_map}
 use Rattle.names.specs.Names.{Name, is_same}
-use Rattle.pddl_lexer.specs.Text.{Line}
 use Rattle.sas_task.specs.declared.parts.Operator.{Operator}
 use Rattle.plan_backmap.specs.Lines.{is_comment, is_step, words, name}
 use Rattle.plan_backmap.specs.declared.plan.Step.{Step}
 use Rattle.plan_backmap.specs.declared.plan.Mapped.{Mapped}
 use Rattle.plan_backmap.specs.declared.plan.MapEnd.{MapEnd}
 use Rattle.plan_backmap.specs.declared.plan.MapEnd.TheVariants.{BadLine, UnknownStep, NoMemory}
+
+-- a line of a text: 1 is the first
+abbrev pub Line : Type 0
+Line = ℕ
 
 -- the cost of the first operator with the name
 abbrev pub cost_of : List Operator → Name → Option ℕ

@@ -3,17 +3,21 @@
 ghost use Rattle.pddl_parser.specs.Spelled.{IsWellSpelled, IsWellSpelledProblem};
 
 use crate::reading::{domain_of, problem_of};
-use pddl_lexer::{Fault, Kind};
+use pddl_lexer::{At, Fault, Kind};
 use pddl_parser::{Domain, Problem};
 use std::alloc::Global;
 use std::test::*;
 use type_checker::{CheckEnd, Side, check};
 
-/// A fault that is answered, or none where both files are accepted.
-type Answer = Option<(Side, Kind, u64)>;
+/// A fault that is answered, with its line and column, or none where both files are accepted.
+type Answer = Option<(Side, Kind, u64, u64)>;
 
-fn is_fault(side: Side, fault: Fault, (wanted_side, kind, line): (Side, Kind, u64)) -> bool {
-    side == wanted_side && fault.kind == kind && fault.line == line
+fn is_fault(
+    side: Side,
+    fault: Fault,
+    (wanted_side, kind, line, column): (Side, Kind, u64, u64),
+) -> bool {
+    side == wanted_side && fault.kind == kind && fault.at == At { line, column }
 }
 
 /// How the check ends that doesn't accept the pair.
@@ -69,17 +73,25 @@ const ASTRAY: &str = "(define (problem astray) (:domain stray)
 // An earlier kind comes first, whichever file has it, and of one kind the domain's faults come first.
 static FILES: &[(&str, &str, Answer)] = &[
     (SWITCH, LAMP, None),
-    (STRAY, ASTRAY, Some((Side::Domain, Kind::UnknownType, 2))),
-    (SWITCH, ASTRAY, Some((Side::Problem, Kind::UnknownType, 2))),
+    (
+        STRAY,
+        ASTRAY,
+        Some((Side::Domain, Kind::UnknownType, 2, 23)),
+    ),
+    (
+        SWITCH,
+        ASTRAY,
+        Some((Side::Problem, Kind::UnknownType, 2, 15)),
+    ),
     (
         "(define (domain d) (:predicates (p) (p)))",
         "(define (problem p) (:domain d) (:init)\n(:goal (exists (?x - t) ())))",
-        Some((Side::Problem, Kind::UnknownType, 2)),
+        Some((Side::Problem, Kind::UnknownType, 2, 22)),
     ),
     (
         "(define (domain d) (:types a - object\nb - c\nc - b))",
         LAMP,
-        Some((Side::Domain, Kind::TypeCycle, 2)),
+        Some((Side::Domain, Kind::TypeCycle, 2, 1)),
     ),
     (
         "(define (domain d) (:types object - a a - object) (:constants c - a))",
@@ -89,7 +101,7 @@ static FILES: &[(&str, &str, Answer)] = &[
     (
         "(define (domain d) (:constants a))",
         "(define (problem p) (:domain d)\n(:objects b\na) (:init) (:goal ()))",
-        Some((Side::Problem, Kind::DuplicateName, 3)),
+        Some((Side::Problem, Kind::DuplicateName, 3, 1)),
     ),
 ];
 
@@ -113,72 +125,96 @@ const DEVICE: &str = "(define (domain device)
 (:action go :parameters (?x) :precondition (at ?x) :effect (and (on) (not (off))))";
 
 /// A further section of the device, from line 7 on, and its fault.
-static SECTIONS: &[(&str, Kind, u64)] = &[
-    ("(:action b :parameters (?y - e))", Kind::UnknownType, 7),
-    ("(:action go)", Kind::DuplicateName, 7),
-    ("(:action b :parameters (?x\n?x))", Kind::DuplicateName, 8),
-    ("(:derived (dim) (on))", Kind::UnknownPredicate, 7),
+static SECTIONS: &[(&str, Kind, u64, u64)] = &[
+    ("(:action b :parameters (?y - e))", Kind::UnknownType, 7, 30),
+    ("(:action go)", Kind::DuplicateName, 7, 10),
+    (
+        "(:action b :parameters (?x\n?x))",
+        Kind::DuplicateName,
+        8,
+        1,
+    ),
+    ("(:derived (dim) (on))", Kind::UnknownPredicate, 7, 12),
     (
         "(:action b :effect (increase (cost) 1))",
         Kind::UnknownFunction,
         7,
+        31,
     ),
-    ("(:action b :effect (at))", Kind::WrongArity, 7),
+    ("(:action b :effect (at))", Kind::WrongArity, 7, 21),
     (
         "(:action b :effect (increase (total-cost x) 1))",
         Kind::WrongArity,
         7,
+        31,
     ),
-    ("(:action b :precondition\n (at x))", Kind::UnknownObject, 8),
+    (
+        "(:action b :precondition\n (at x))",
+        Kind::UnknownObject,
+        8,
+        6,
+    ),
     (
         "(:action b :precondition\n (at ?y))",
         Kind::UnboundVariable,
         8,
+        6,
     ),
     (
         "(:action b :precondition (exists (?y) (at ?y)) :effect\n (at ?y))",
         Kind::UnboundVariable,
         8,
+        6,
     ),
-    ("(:action b :effect (lit))", Kind::DerivedWritten, 7),
-    ("(:action b :effect (not (lit)))", Kind::DerivedWritten, 7),
-    ("(:derived (on)\n(not (on)))", Kind::DerivedWritten, 6),
+    ("(:action b :effect (lit))", Kind::DerivedWritten, 7, 21),
+    (
+        "(:action b :effect (not (lit)))",
+        Kind::DerivedWritten,
+        7,
+        26,
+    ),
+    ("(:derived (on)\n(not (on)))", Kind::DerivedWritten, 6, 66),
     (
         "(:derived (at ?x) (not (lit)))\n(:derived (lit) (exists (?x) (at ?x)))",
         Kind::RecursiveDerived,
         5,
+        1,
     ),
-    ("(:derived (at ?x) (at ?x))", Kind::RecursiveDerived, 7),
+    ("(:derived (at ?x) (at ?x))", Kind::RecursiveDerived, 7, 1),
     (
         "(:action b :effect (and (increase (total-cost) 1)\n (increase (total-cost) 1)))",
         Kind::CostForm,
         8,
+        2,
     ),
     (
         "(:action b :effect (increase (price) 1))",
         Kind::CostForm,
         7,
+        20,
     ),
     (
         "(:action b :effect (when (on)\n(increase (total-cost) 1)))",
         Kind::CostForm,
         8,
+        1,
     ),
     (
         "(:action b :effect (increase (total-cost) (total-cost)))",
         Kind::CostForm,
         7,
+        20,
     ),
 ];
 
 #[test]
 fn faults_of_a_domain(rt: HostRuntime) {
     for row in SECTIONS {
-        let (section, kind, line) = *row;
+        let (section, kind, line, column) = *row;
         let domain = format!(in rt.alloc(); "{DEVICE}\n{section})")
             .ok()
             .expect(&rt, "memory");
-        let expected = Some((Side::Domain, kind, line));
+        let expected = Some((Side::Domain, kind, line, column));
         assert!(rt;
             is_checked(rt.alloc(), &domain, LAMP, expected),
             "{section}"
@@ -187,33 +223,37 @@ fn faults_of_a_domain(rt: HostRuntime) {
 }
 
 /// The entries of `:init` of a problem of the device, from line 2 on, its goal, and its fault.
-static PROBLEMS: &[(&str, &str, Option<(Kind, u64)>)] = &[
+static PROBLEMS: &[(&str, &str, Option<(Kind, u64, u64)>)] = &[
     (
         "(off)",
         "(exists (?z - f) (on))",
-        Some((Kind::UnknownType, 3)),
+        Some((Kind::UnknownType, 3, 22)),
     ),
     ("(off)", "(forall (?z) (at ?z))", None),
-    ("(up)", "(down)", Some((Kind::UnknownPredicate, 2))),
-    ("", "(and (on)\n (down))", Some((Kind::UnknownPredicate, 4))),
-    ("(= (cost) 1)", "(on)", Some((Kind::UnknownFunction, 2))),
+    ("(up)", "(down)", Some((Kind::UnknownPredicate, 2, 9))),
+    (
+        "",
+        "(and (on)\n (down))",
+        Some((Kind::UnknownPredicate, 4, 3)),
+    ),
+    ("(= (cost) 1)", "(on)", Some((Kind::UnknownFunction, 2, 12))),
     ("(= (total-cost) 1)", "(on)", None),
-    ("(= (price x) 1)", "(on)", Some((Kind::WrongArity, 2))),
-    ("(on x)", "(on)", Some((Kind::WrongArity, 2))),
-    ("(at x)", "(= y y)", Some((Kind::UnknownObject, 2))),
-    ("", "(= y y)", Some((Kind::UnknownObject, 3))),
-    ("", "(at ?z)", Some((Kind::UnboundVariable, 3))),
-    ("(lit)", "(on)", Some((Kind::DerivedWritten, 2))),
-    ("(not (lit))", "(lit)", Some((Kind::DerivedWritten, 2))),
+    ("(= (price x) 1)", "(on)", Some((Kind::WrongArity, 2, 12))),
+    ("(on x)", "(on)", Some((Kind::WrongArity, 2, 9))),
+    ("(at x)", "(= y y)", Some((Kind::UnknownObject, 2, 12))),
+    ("", "(= y y)", Some((Kind::UnknownObject, 3, 11))),
+    ("", "(at ?z)", Some((Kind::UnboundVariable, 3, 12))),
+    ("(lit)", "(on)", Some((Kind::DerivedWritten, 2, 9))),
+    ("(not (lit))", "(lit)", Some((Kind::DerivedWritten, 2, 14))),
     (
         "(on)\n(not (on)) (not (off))",
         "(on)",
-        Some((Kind::InitConflict, 3)),
+        Some((Kind::InitConflict, 3, 1)),
     ),
     (
         "(= (price) 1)\n(= (price) 1)\n(= (price) 2)",
         "(on)",
-        Some((Kind::ValueConflict, 4)),
+        Some((Kind::ValueConflict, 4, 1)),
     ),
 ];
 
@@ -229,7 +269,7 @@ fn faults_of_a_problem(rt: HostRuntime) {
         ).ok()
             .expect(&rt, "memory");
         let expected = match fault {
-            Some((kind, line)) => Some((Side::Problem, kind, line)),
+            Some((kind, line, column)) => Some((Side::Problem, kind, line, column)),
             None => None,
         };
         assert!(rt;
@@ -242,14 +282,14 @@ fn faults_of_a_problem(rt: HostRuntime) {
 /// It falls into 8 parts, so that four of them joined have 4,096, which is as many as a condition may have.
 const EIGHT: &str = "(or (on) (on) (on) (on) (on) (on) (on) (on))";
 
-/// What stands in a section of the device before four times eight parts, and after them; and the line of the condition
-/// that has too many.
-static PARTS: &[(&str, &str, Option<u64>)] = &[
+/// What stands in a section of the device before four times eight parts, and after them; and the line and the
+/// column of the condition that has too many.
+static PARTS: &[(&str, &str, Option<(u64, u64)>)] = &[
     ("(:action b :precondition (and", "))", None),
     (
         "(:action b :precondition\n(and (or (on) (on))",
         "))",
-        Some(8),
+        Some((8, 1)),
     ),
     (
         "(:action b :precondition (and (not ()) (or (on) (on))",
@@ -259,7 +299,7 @@ static PARTS: &[(&str, &str, Option<u64>)] = &[
     (
         "(:action b :precondition (and (on)\n(exists (?x) (and (or (on) (on))",
         "))))",
-        Some(7),
+        Some((7, 26)),
     ),
     // A quantifier that is replaced is one part, and what replaces it is counted by itself.
     (
@@ -270,25 +310,25 @@ static PARTS: &[(&str, &str, Option<u64>)] = &[
     (
         "(:action b :precondition (not\n(exists (?x) (and (or (on) (on))",
         "))))",
-        Some(8),
+        Some((8, 1)),
     ),
     (
         "(:action b :precondition\n(forall (?x) (not (and (or (on) (on))",
         "))))",
-        Some(8),
+        Some((8, 1)),
     ),
     // The conditions of a `when` and of those around it are joined, and those of two beside each other aren't.
     (
         "(:action b :effect (when (and",
         ")\n(when (or (on) (on)) (on))))",
-        Some(8),
+        Some((8, 7)),
     ),
     (
         "(:action b :effect (and (when (or (on) (on)) (on)) (when (and",
         ") (on))))",
         None,
     ),
-    ("(:derived (lit)\n(and (or (on) (on))", "))", Some(8)),
+    ("(:derived (lit)\n(and (or (on) (on))", "))", Some((8, 1))),
     ("(:derived (lit) (and", "))", None),
 ];
 
@@ -301,7 +341,7 @@ fn more_than_4096_parts_are_too_many(rt: HostRuntime) {
         ).ok()
             .expect(&rt, "memory");
         let expected = match fault {
-            Some(line) => Some((Side::Domain, Kind::TooManyParts, line)),
+            Some((line, column)) => Some((Side::Domain, Kind::TooManyParts, line, column)),
             None => None,
         };
         assert!(rt;
@@ -317,6 +357,6 @@ fn a_goal_of_too_many_parts(rt: HostRuntime) {
         "(define (problem p) (:domain d) (:init)\n(:goal (and (or (on) (on)) {EIGHT}{EIGHT}{EIGHT}{EIGHT})))"
     ).ok()
         .expect(&rt, "memory");
-    let expected = Some((Side::Problem, Kind::TooManyParts, 2));
+    let expected = Some((Side::Problem, Kind::TooManyParts, 2, 8));
     assert!(rt; is_checked(rt.alloc(), SWITCH, &goal, expected));
 }

@@ -1,6 +1,7 @@
 //! What the two calls read.
 
 use crate::reading::{domain_of, problem_of};
+use pddl_lexer::At;
 use pddl_parser::{Action, Condition, Derived, Domain, Effect, Head, Init, Named, Problem, Typed};
 use std::test::*;
 
@@ -23,27 +24,27 @@ const TYPED: &str = "(define (domain t)
 (:action go :effect (forall (?z) (when () (increase (total-cost) 12)))
  :parameters (?x)))";
 
-fn is_at(name: &Named, word: &str, line: u64) -> bool {
-    name.name.as_slice() == word.as_bytes() && name.line == line
+fn is_at(name: &Named, word: &str, line: u64, column: u64) -> bool {
+    name.name.as_slice() == word.as_bytes() && name.at == At { line, column }
 }
 
-fn is_atom(condition: &Condition, predicate: &str, line: u64) -> bool {
-    matches!(condition, Condition::Atom(atom) if is_at(&atom.predicate, predicate, line))
+fn is_atom(condition: &Condition, predicate: &str, line: u64, column: u64) -> bool {
+    matches!(condition, Condition::Atom(atom) if is_at(&atom.predicate, predicate, line, column))
 }
 
 fn is_flip(actions: &[Action]) -> bool {
     match actions {
         [action] => {
-            is_at(&action.name, "flip", 3)
-                && is_atom(&action.precondition, "off", 4)
-                && matches!(&action.effect, Effect::And(members, 5) if members.as_slice().len() == 2)
+            is_at(&action.name, "flip", 3, 10)
+                && is_atom(&action.precondition, "off", 4, 17)
+                && matches!(&action.effect, Effect::And(members, At { line: 5, column: 10 }) if members.as_slice().len() == 2)
         }
         _ => false,
     }
 }
 
 fn is_off(init: &[Init]) -> bool {
-    matches!(init, [Init::Holds(atom)] if is_at(&atom.predicate, "off", 2))
+    matches!(init, [Init::Holds(atom)] if is_at(&atom.predicate, "off", 2, 9))
 }
 
 fn is_switch(domain: &Domain) -> bool {
@@ -51,7 +52,7 @@ fn is_switch(domain: &Domain) -> bool {
 }
 
 fn is_lamp(problem: &Problem) -> bool {
-    !problem.metric && is_off(problem.init.as_slice()) && is_atom(&problem.goal, "on", 3)
+    !problem.metric && is_off(problem.init.as_slice()) && is_atom(&problem.goal, "on", 3, 9)
 }
 
 #[test]
@@ -64,7 +65,7 @@ fn the_switch_files_are_read(rt: HostRuntime) {
 fn are_typed(constants: &[Typed]) -> bool {
     match constants {
         [_, typed, untyped] => {
-            matches!(typed.types.as_slice(), [only] if is_at(only, "thing", 2))
+            matches!(typed.types.as_slice(), [only] if is_at(only, "thing", 2, 19))
                 && untyped.types.as_slice().is_empty()
         }
         _ => false,
@@ -77,15 +78,24 @@ fn are_functions(functions: &[Head]) -> bool {
 }
 
 fn is_exists(axioms: &[Derived]) -> bool {
-    matches!(axioms, [axiom] if matches!(axiom.body, Condition::Exists(_, _, 6)))
+    matches!(axioms, [axiom] if matches!(axiom.body, Condition::Exists(_, _, At { line: 6, column: 18 })))
 }
 
 /// Whether the one action is for all objects, and has no precondition.
 fn is_forall(actions: &[Action]) -> bool {
     match actions {
         [go] => {
-            matches!(go.effect, Effect::Forall(_, _, 7))
-                && matches!(go.precondition, Condition::True(7))
+            matches!(
+                go.effect,
+                Effect::Forall(
+                    _,
+                    _,
+                    At {
+                        line: 7,
+                        column: 21
+                    }
+                )
+            ) && matches!(go.precondition, Condition::True(At { line: 7, column: 1 }))
         }
         _ => false,
     }

@@ -14,9 +14,9 @@ use Rattle.type_checker.proofs.NoFaults.{row_empty, none_pass, all_pieces}
 module _ (domain : Domain) (problem : Problem) where
   basic : (list : List Mention) → written_derived domain list ≡ [] → list_all (is_basic domain) list ≡ true
   basic list none =
-      all_pieces (λ name. not (is_derived domain name.name)) written_predicates list (none_pass (λ name. is_derived domain name.name) (λ name. name.line) (flat_map written_predicates list) none)
+      all_pieces (λ name. not (is_derived domain name.name)) written_predicates list (none_pass (λ name. is_derived domain name.name) (λ name. name.at) (flat_map written_predicates list) none)
 
   pub written_basic : check_faults domain problem ≡ [] → list_all (is_basic domain) (mentions domain problem) ≡ true
   written_basic none =
-      let lines = row_empty domain problem none _ (inr (inr (inr (inr (inr (inr (inr (inr (inl refl))))))))) in
-      all_both (is_basic domain) (in_domain domain) (in_problem problem) (basic (in_domain domain) lines.0) (basic (in_problem problem) lines.1)
+      let positions = row_empty domain problem none _ (inr (inr (inr (inr (inr (inr (inr (inr (inl refl))))))))) in
+      all_both (is_basic domain) (in_domain domain) (in_problem problem) (basic (in_domain domain) positions.0) (basic (in_problem problem) positions.1)

@@ -17,24 +17,24 @@ use Rattle.pddl_parser.specs.Step.{value_in}
 use Rattle.lists.proofs.Items.{each_passes}
 use Rattle.type_checker.specs.Faultless.{denies_none, is_value, gives_the_value}
 use Rattle.type_checker.specs.Faults.{check_faults}
-use Rattle.type_checker.specs.Initial.{denied_line, is_another, revalued_line, revalued_after}
+use Rattle.type_checker.specs.Initial.{denied_position, is_another, revalued_position, revalued_after}
 use Rattle.type_checker.proofs.NoFaults.{left_empty, right_empty, piece_empty, row_empty}
 
-denies : (init : List Init) (entry : Init) → denied_line init entry ≡ [] → denies_none init entry ≡ true
+denies : (init : List Init) (entry : Init) → denied_position init entry ≡ [] → denies_none init entry ≡ true
 denies init (Holds atom) none = refl
-denies init (HoldsNot atom line) none = by (list_any (is_stated (ground [] atom)) init) none
+denies init (HoldsNot atom at) none = by (list_any (is_stated (ground [] atom)) init) none
   where
-    by : (stated : Bool) → (if stated then line ∷ [] else []) ≡ [] → not stated ≡ true
+    by : (stated : Bool) → (if stated then at ∷ [] else []) ≡ [] → not stated ≡ true
     by true none = absurd cc
     by false none = refl
-denies init (Value term value line) none = refl
+denies init (Value term value at) none = refl
 
 -- the first value of a term in two lists that are joined
 value_in_both : (before later : List Init) (term : GroundAtom) → value_in (before ++ later) term ≡ option_or (value_in before term) (value_in later term)
 value_in_both [] later term = refl
 value_in_both (Holds atom ∷ before) later term = value_in_both before later term
-value_in_both (HoldsNot atom line ∷ before) later term = value_in_both before later term
-value_in_both (Value known value line ∷ before) later term = by (is_same_atom (ground [] known) term) (value_in_both before later term)
+value_in_both (HoldsNot atom at ∷ before) later term = value_in_both before later term
+value_in_both (Value known value at ∷ before) later term = by (is_same_atom (ground [] known) term) (value_in_both before later term)
   where
     by : (same : Bool) → value_in (before ++ later) term ≡ option_or (value_in before term) (value_in later term) →
         (if same then Some value else value_in (before ++ later) term) ≡ option_or (if same then Some value else value_in before term) (value_in later term)
@@ -45,17 +45,17 @@ same_itself : (atom : GroundAtom) → is_same_atom atom atom ≡ true
 same_itself atom =
     and_from (is_same atom.predicate atom.predicate) (pointwise is_same atom.objects atom.objects) (nat_list_eq_equiv.refl atom.predicate) ((lists_equiv nat_list_eq_equiv).refl atom.objects)
 
-gives : (before : List Init) (entry : Init) (more : List Init) → revalued_line before entry ≡ [] → gives_the_value (before ++ entry ∷ more) entry ≡ true
+gives : (before : List Init) (entry : Init) (more : List Init) → revalued_position before entry ≡ [] → gives_the_value (before ++ entry ∷ more) entry ≡ true
 gives before (Holds atom) more none = refl
-gives before (HoldsNot atom line) more none = refl
-gives before (Value term value line) more none =
-    ap (λ (known : Option ℕ). is_value known value) (value_in_both before (Value term value line ∷ more) (ground [] term)) ∙ by (value_in before (ground [] term)) none
+gives before (HoldsNot atom at) more none = refl
+gives before (Value term value at) more none =
+    ap (λ (known : Option ℕ). is_value known value) (value_in_both before (Value term value at ∷ more) (ground [] term)) ∙ by (value_in before (ground [] term)) none
   where
-    agrees : (same : Bool) → (if not same then line ∷ [] else []) ≡ [] → same ≡ true
+    agrees : (same : Bool) → (if not same then at ∷ [] else []) ≡ [] → same ≡ true
     agrees true none = refl
     agrees false none = absurd cc
 
-    by : (known : Option ℕ) → (if is_another known value then line ∷ [] else []) ≡ [] →
+    by : (known : Option ℕ) → (if is_another known value then at ∷ [] else []) ≡ [] →
         is_value (option_or known (if is_same_atom (ground [] term) (ground [] term) then Some value else value_in more (ground [] term))) value ≡ true
     by None none = ap (λ b. is_value (if b then Some value else value_in more (ground [] term)) value) (same_itself (ground [] term)) ∙ nat_eq_equiv.refl value
     by (Some known) none = agrees (nat_eq known value) none
@@ -64,18 +64,18 @@ all_give : (before entries : List Init) → revalued_after before entries ≡ []
 all_give before [] none = refl
 all_give before (entry ∷ more) none =
     let later = revalued_after (before ++ entry ∷ []) more in
-    let rest = all_give (before ++ entry ∷ []) more (right_empty (revalued_line before entry) later none) in
+    let rest = all_give (before ++ entry ∷ []) more (right_empty (revalued_position before entry) later none) in
     and_from (gives_the_value (before ++ entry ∷ more) entry) (list_all (gives_the_value (before ++ entry ∷ more)) more)
-    (gives before entry more (left_empty (revalued_line before entry) later none))
+    (gives before entry more (left_empty (revalued_position before entry) later none))
     (subst (λ (init : List Init). list_all (gives_the_value init) more ≡ true) (append_assoc before (entry ∷ []) more) rest)
 
 module _ (domain : Domain) (problem : Problem) (none : check_faults domain problem ≡ []) where
   pub no_conflict : list_all (denies_none problem.init) problem.init ≡ true
   no_conflict =
-      let lines = row_empty domain problem none _ (inr (inr (inr (inr (inr (inr (inr (inr (inr (inr (inl refl))))))))))) in
-      each_passes (denies_none problem.init) problem.init (λ entry among. denies problem.init entry (piece_empty (denied_line problem.init) problem.init lines.1 entry among))
+      let positions = row_empty domain problem none _ (inr (inr (inr (inr (inr (inr (inr (inr (inr (inr (inl refl))))))))))) in
+      each_passes (denies_none problem.init) problem.init (λ entry among. denies problem.init entry (piece_empty (denied_position problem.init) problem.init positions.1 entry among))
 
   pub one_value : list_all (gives_the_value problem.init) problem.init ≡ true
   one_value =
-      let lines = row_empty domain problem none _ (inr (inr (inr (inr (inr (inr (inr (inr (inr (inr (inr (inl refl)))))))))))) in
-      all_give [] problem.init lines.1
+      let positions = row_empty domain problem none _ (inr (inr (inr (inr (inr (inr (inr (inr (inr (inr (inr (inl refl)))))))))))) in
+      all_give [] problem.init positions.1

@@ -1,9 +1,10 @@
 -- In a pair without check faults what is mentioned is declared, with as many arguments, and names objects.
-use Rattle.std.proofs.Common.{◌≡◌, ℕ, Bool, true, false, not, ◌&&◌, ◌||◌, List, [], ◌∷◌, ◌++◌, map, length, nat_eq, inl, inr, ◌⊎◌, refl, ap, ◌∙◌}
+use Rattle.std.proofs.Common.{◌≡◌, Bool, true, false, not, ◌&&◌, ◌||◌, List, [], ◌∷◌, ◌++◌, map, length, nat_eq, inl, inr, ◌⊎◌, refl, ap, ◌∙◌}
 use Rattle.std.specs.Prelude.{if◌then◌else◌}
 use Rattle.std.specs.List.{list_all, list_any, filter, flat_map}
 use Rattle.std.proofs.lemmas.Bool.{and_parts, and_from, or_cases, or_left, or_right}
 use Rattle.std.proofs.lemmas.Cmp.{nat_list_eq_equiv}
+use Rattle.pddl_lexer.specs.declared.position.At.{At}
 use Rattle.pddl_parser.specs.declared.types.Domain.{Domain}
 use Rattle.pddl_parser.specs.declared.types.Head.{Head}
 use Rattle.pddl_parser.specs.declared.types.Problem.{Problem}
@@ -15,21 +16,21 @@ use Rattle.type_checker.specs.Faultless.{mentions, has_predicate, has_function, 
 use Rattle.type_checker.specs.Faults.{check_faults}
 use Rattle.type_checker.specs.Increases.{total_cost}
 use Rattle.type_checker.specs.Mentions.{Mention, Use, predicate_uses, function_uses, arguments, in_domain, in_problem}
-use Rattle.type_checker.specs.Names.{has_arity, is_declared, is_function, is_well_used, use_lines, total_cost_heads, wrong_uses, unknown_object, unknown_objects}
+use Rattle.type_checker.specs.Names.{has_arity, is_declared, is_function, is_well_used, use_positions, total_cost_heads, wrong_uses, unknown_object, unknown_objects}
 use Rattle.lists.proofs.Items.{all_both}
 use Rattle.type_checker.proofs.NoFaults.{left_empty, right_empty, row_empty, all_pass, all_pieces}
 
 -- ---- predicates and functions
 
-uses_pass : (test : Use → Bool) (given : Mention → List Use) (list : List Mention) → use_lines (filter (λ usage. not (test usage)) (flat_map given list)) ≡ [] → list_all (λ mention. list_all test (given mention)) list ≡ true
-uses_pass test given list none = all_pieces test given list (all_pass test (λ usage. usage.name.line) (flat_map given list) none)
+uses_pass : (test : Use → Bool) (given : Mention → List Use) (list : List Mention) → use_positions (filter (λ usage. not (test usage)) (flat_map given list)) ≡ [] → list_all (λ mention. list_all test (given mention)) list ≡ true
+uses_pass test given list none = all_pieces test given list (all_pass test (λ usage. usage.name.at) (flat_map given list) none)
 
 module _ (domain : Domain) where
-  abbrev wrong_predicates : List Mention → List ℕ
-  wrong_predicates list = use_lines (filter (λ usage. not (has_arity domain.predicates usage)) (flat_map predicate_uses list))
+  abbrev wrong_predicates : List Mention → List At
+  wrong_predicates list = use_positions (filter (λ usage. not (has_arity domain.predicates usage)) (flat_map predicate_uses list))
 
-  abbrev wrong_functions : List Mention → List ℕ
-  wrong_functions list = use_lines (filter (λ usage. not (is_well_used domain usage)) (flat_map function_uses list))
+  abbrev wrong_functions : List Mention → List At
+  wrong_functions list = use_positions (filter (λ usage. not (is_well_used domain usage)) (flat_map function_uses list))
 
   predicates_pass : (list : List Mention) → wrong_uses domain list ≡ [] → list_all (has_predicate domain) list ≡ true
   predicates_pass list none = uses_pass (has_arity domain.predicates) predicate_uses list (left_empty (wrong_predicates list) (wrong_functions list) none)
@@ -45,7 +46,7 @@ module _ (domain : Domain) (problem : Problem) where
   terms_pass (Variable variable ∷ terms) none = terms_pass terms none
   terms_pass (Object object ∷ terms) none = by (is_known domain problem (Object object)) refl none (terms_pass terms)
     where
-      by : (known : Bool) → is_known domain problem (Object object) ≡ known → (if known then [] else object.line ∷ []) ++ flat_map (unknown_object domain problem) terms ≡ [] →
+      by : (known : Bool) → is_known domain problem (Object object) ≡ known → (if known then [] else object.at ∷ []) ++ flat_map (unknown_object domain problem) terms ≡ [] →
           (flat_map (unknown_object domain problem) terms ≡ [] → list_all (is_known domain problem) terms ≡ true) → (is_known domain problem (Object object) && list_all (is_known domain problem) terms) ≡ true
       by true here none rest = and_from (is_known domain problem (Object object)) (list_all (is_known domain problem) terms) here (rest none)
       by false here none rest = absurd cc
@@ -58,8 +59,8 @@ module _ (domain : Domain) (problem : Problem) where
   module _ (none : check_faults domain problem ≡ []) where
     arities : (wrong_uses domain (in_domain domain) ≡ []) × (wrong_uses domain (in_problem problem) ≡ [])
     arities =
-        let lines = row_empty domain problem none _ (inr (inr (inr (inr (inr (inl refl)))))) in
-        (right_empty (total_cost_heads domain) (wrong_uses domain (in_domain domain)) lines.0, lines.1)
+        let positions = row_empty domain problem none _ (inr (inr (inr (inr (inr (inl refl)))))) in
+        (right_empty (total_cost_heads domain) (wrong_uses domain (in_domain domain)) positions.0, positions.1)
 
     pub predicates_declared : list_all (has_predicate domain) (mentions domain problem) ≡ true
     predicates_declared = all_both (has_predicate domain) (in_domain domain) (in_problem problem) (predicates_pass domain (in_domain domain) arities.0) (predicates_pass domain (in_problem problem) arities.1)
@@ -69,8 +70,8 @@ module _ (domain : Domain) (problem : Problem) where
 
     pub objects_known : list_all (has_objects domain problem) (mentions domain problem) ≡ true
     objects_known =
-        let lines = row_empty domain problem none _ (inr (inr (inr (inr (inr (inr (inl refl))))))) in
-        all_both (has_objects domain problem) (in_domain domain) (in_problem problem) (objects_pass (in_domain domain) lines.0) (objects_pass (in_problem problem) lines.1)
+        let positions = row_empty domain problem none _ (inr (inr (inr (inr (inr (inr (inl refl))))))) in
+        all_both (has_objects domain problem) (in_domain domain) (in_problem problem) (objects_pass (in_domain domain) positions.0) (objects_pass (in_problem problem) positions.1)
 
 -- ---- the same in other words
 

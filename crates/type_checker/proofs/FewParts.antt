@@ -14,9 +14,9 @@ use Rattle.type_checker.proofs.NoFaults.{row_empty, all_pass}
 module _ (domain : Domain) (problem : Problem) (none : check_faults domain problem ≡ []) where
   pub few_parts : list_all has_few_parts (domain_cuts domain ++ problem_cuts problem) ≡ true
   few_parts =
-      let lines = row_empty domain problem none _ (inr (inr (inr (inr (inr (inr (inr (inr (inr (inr (inr (inr (inr (inl refl)))))))))))))) in
+      let positions = row_empty domain problem none _ (inr (inr (inr (inr (inr (inr (inr (inr (inr (inr (inr (inr (inr (inl refl)))))))))))))) in
       all_both has_few_parts (domain_cuts domain) (problem_cuts problem)
-      (all_pass has_few_parts (λ cut. cut.line) (domain_cuts domain) lines.0) (all_pass has_few_parts (λ cut. cut.line) (problem_cuts problem) lines.1)
+      (all_pass has_few_parts (λ cut. cut.at) (domain_cuts domain) positions.0) (all_pass has_few_parts (λ cut. cut.at) (problem_cuts problem) positions.1)
 
   in_some : (part : List Cut) → ((cut : Cut) → Among cut part → Among cut (domain_cuts domain)) → list_all has_few_parts part ≡ true
   in_some part within =

@@ -1,9 +1,10 @@
 -- In a pair without check faults no name is declared twice.
-use Rattle.std.proofs.Common.{◌≡◌, Bool, true, false, ◌||◌, List, [], ◌∷◌, ◌++◌, map, inl, inr, refl, sym, ap, ◌∙◌, ℕ, subst}
+use Rattle.std.proofs.Common.{◌≡◌, Bool, true, false, ◌||◌, List, [], ◌∷◌, ◌++◌, map, inl, inr, refl, sym, ap, ◌∙◌, subst}
 use Rattle.std.specs.Prelude.{if◌then◌else◌}
 use Rattle.std.specs.List.{AllByRecursion, IsDistinct, list_any}
 use Rattle.std.proofs.lemmas.Cmp.{nat_list_eq_equiv}
 use Rattle.std.proofs.lemmas.List.{map-append}
+use Rattle.pddl_lexer.specs.declared.position.At.{At}
 use Rattle.pddl_parser.specs.declared.types.Action.{Action}
 use Rattle.pddl_parser.specs.declared.types.Domain.{Domain}
 use Rattle.pddl_parser.specs.declared.types.Head.{Head}
@@ -28,7 +29,7 @@ pub first_new : (before : List Name) (named : Named) (more : List Named) → rep
     (list_any (is_same named.name) before ≡ false) × (repeats_after (named.name ∷ before) more ≡ [])
 first_new before named more none = by (list_any (is_same named.name) before) refl none
   where
-    by : (known : Bool) → list_any (is_same named.name) before ≡ known → (if known then named.line ∷ [] else []) ++ repeats_after (named.name ∷ before) more ≡ [] →
+    by : (known : Bool) → list_any (is_same named.name) before ≡ known → (if known then named.at ∷ [] else []) ++ repeats_after (named.name ∷ before) more ≡ [] →
         (list_any (is_same named.name) before ≡ false) × (repeats_after (named.name ∷ before) more ≡ [])
     by true known none = absurd cc
     by false new none = (new, none)
@@ -72,30 +73,30 @@ distinct_both (x ∷ xs) ys left right apart = (differ_both x xs ys left.0 (apar
 -- ---- the two files
 
 module _ (domain : Domain) (problem : Problem) (none : check_faults domain problem ≡ []) where
-  lines : (domain_repeats domain ≡ []) × (problem_repeats domain problem ≡ [])
-  lines = row_empty domain problem none _ (inr (inr (inl refl)))
+  positions : (domain_repeats domain ≡ []) × (problem_repeats domain problem ≡ [])
+  positions = row_empty domain problem none _ (inr (inr (inl refl)))
 
   abbrev action_names : List Named
   action_names = map (λ action. action.name) domain.actions
 
   -- behind the predicates, the functions and the actions
-  abbrev behind_actions : List ℕ
+  abbrev behind_actions : List At
   behind_actions = repeats (names_of domain.constants) ++ repeated_variables (in_domain domain)
 
-  abbrev behind_functions : List ℕ
+  abbrev behind_functions : List At
   behind_functions = repeats action_names ++ behind_actions
 
-  abbrev behind_predicates : List ℕ
+  abbrev behind_predicates : List At
   behind_predicates = repeats (head_names domain.functions) ++ behind_functions
 
   pub no_repeated_predicate : repeats (head_names domain.predicates) ≡ []
-  no_repeated_predicate = left_empty (repeats (head_names domain.predicates)) behind_predicates lines.0
+  no_repeated_predicate = left_empty (repeats (head_names domain.predicates)) behind_predicates positions.0
 
   pub no_repeated_function : repeats (head_names domain.functions) ≡ []
-  no_repeated_function = left_empty (repeats (head_names domain.functions)) behind_functions (right_empty (repeats (head_names domain.predicates)) behind_predicates lines.0)
+  no_repeated_function = left_empty (repeats (head_names domain.functions)) behind_functions (right_empty (repeats (head_names domain.predicates)) behind_predicates positions.0)
 
   in_actions : behind_functions ≡ []
-  in_actions = right_empty (repeats (head_names domain.functions)) behind_functions (right_empty (repeats (head_names domain.predicates)) behind_predicates lines.0)
+  in_actions = right_empty (repeats (head_names domain.functions)) behind_functions (right_empty (repeats (head_names domain.predicates)) behind_predicates positions.0)
 
   pub no_repeated_action : repeats action_names ≡ []
   no_repeated_action = left_empty (repeats action_names) behind_actions in_actions
@@ -104,7 +105,7 @@ module _ (domain : Domain) (problem : Problem) (none : check_faults domain probl
   no_repeated_constant = left_empty (repeats (names_of domain.constants)) (repeated_variables (in_domain domain)) (right_empty (repeats action_names) behind_actions in_actions)
 
   no_repeated_object : repeats_after (map (λ constant. constant.name.name) domain.constants) (names_of problem.objects) ≡ []
-  no_repeated_object = left_empty (repeats_after (map (λ constant. constant.name.name) domain.constants) (names_of problem.objects)) (repeated_variables (in_problem problem)) lines.1
+  no_repeated_object = left_empty (repeats_after (map (λ constant. constant.name.name) domain.constants) (names_of problem.objects)) (repeated_variables (in_problem problem)) positions.1
 
   names_of_all : {X : Type 0} (name_of : X → Named) (xs : List X) → names_in (map name_of xs) ≡ map (λ x. (name_of x).name) xs
   names_of_all name_of [] = refl

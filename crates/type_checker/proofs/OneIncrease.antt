@@ -1,9 +1,10 @@
 -- In a pair without check faults an action has at most one increase. It is outermost, and a term that it names is a declared function, other than the total cost, of objects and bound variables.
-use Rattle.std.proofs.Common.{◌≡◌, ℕ, ◌+◌, Bool, true, false, not, ◌&&◌, List, [], ◌∷◌, ◌++◌, map, length, nat_eq, inl, inr, ◌⊎◌, refl, sym, ap, ◌∙◌, subst, arith}
+use Rattle.std.proofs.Common.{◌≡◌, ◌+◌, Bool, true, false, not, ◌&&◌, List, [], ◌∷◌, ◌++◌, map, length, nat_eq, inl, inr, ◌⊎◌, refl, sym, ap, ◌∙◌, subst}
 use Rattle.std.specs.Prelude.{nat_le, if◌then◌else◌}
 use Rattle.std.specs.List.{list_all, flat_map}
 use Rattle.std.proofs.lemmas.Bool.{and_parts, and_from, or_cases, not-true, false≢true}
 use Rattle.std.proofs.lemmas.List.{length-append}
+use Rattle.pddl_lexer.specs.declared.position.At.{At}
 use Rattle.pddl_parser.specs.declared.types.Action.{Action}
 use Rattle.pddl_parser.specs.declared.types.Atom.{Atom}
 use Rattle.pddl_parser.specs.declared.types.Cost.{Cost}
@@ -35,12 +36,12 @@ one_cost : (list : List Increase) → ill_formed list ≡ [] → is_one_cost lis
 one_cost [] none = refl
 one_cost (increase ∷ []) none = by increase.is_formed none
   where
-    by : (formed : Bool) → ((if formed then [] else increase.line ∷ []) ++ []) ≡ [] → formed ≡ true
+    by : (formed : Bool) → ((if formed then [] else increase.at ∷ []) ++ []) ≡ [] → formed ≡ true
     by true none = refl
     by false none = absurd cc
-one_cost (increase ∷ other ∷ more) none = absurd (some (if increase.is_formed then [] else increase.line ∷ []) none)
+one_cost (increase ∷ other ∷ more) none = absurd (some (if increase.is_formed then [] else increase.at ∷ []) none)
   where
-    some : (xs : List ℕ) → xs ++ (other.line ∷ map (λ (other : Increase). other.line) more) ≡ [] → ⊥
+    some : (xs : List At) → xs ++ (other.at ∷ map (λ (other : Increase). other.at) more) ≡ [] → ⊥
     some [] none = cc
     some (x ∷ xs) none = cc
 
@@ -69,7 +70,7 @@ module _ (domain : Domain) (problem : Problem) where
   abbrev AreFormed : List Increase → Type 0
   AreFormed list = list_all (λ increase. increase.is_formed) list ≡ true
 
-  abbrev CostsSound : List Cost → (Depth → List Increase) → (Scope → List ℕ) → List Mention → Type 0
+  abbrev CostsSound : List Cost → (Depth → List Increase) → (Scope → List At) → List Mention → Type 0
   CostsSound costs list unbound mentions =
       ((depth : Depth) → length (list depth) ≡ length costs)
       × (AreFormed (list Inner) → costs ≡ [])
@@ -111,11 +112,11 @@ module _ (domain : Domain) (problem : Problem) where
       (members_sound members each.1 depth (all_right (λ (increase : Increase). increase.is_formed) (increases member depth) (at_depth depth members) formed) scope
       (right_empty (scopes.in_effect member scope) others unbound) (all_right is_sound (in_effect member) mentions mentioned))
 
-  increase_sound : (term : Atom) (cost : Cost) (line : ℕ) →
-      CostsSound (step.increases_step (Effect-F.Increase term cost line)) (increases_step (Effect-F.Increase term cost line)) (scopes.effect_step (Effect-F.Increase term cost line)) (effect_step (Effect-F.Increase term cost line))
-  increase_sound term cost line = ((λ depth. refl), (λ formed. absurd (false≢true formed)), λ depth formed scope unbound mentioned. (by cost depth formed scope unbound mentioned, tt))
+  increase_sound : (term : Atom) (cost : Cost) (at : At) →
+      CostsSound (step.increases_step (Effect-F.Increase term cost at)) (increases_step (Effect-F.Increase term cost at)) (scopes.effect_step (Effect-F.Increase term cost at)) (effect_step (Effect-F.Increase term cost at))
+  increase_sound term cost at = ((λ depth. refl), (λ formed. absurd (false≢true formed)), λ depth formed scope unbound mentioned. (by cost depth formed scope unbound mentioned, tt))
     where
-      other_cost : (cost : Cost) (depth : Depth) → AreFormed (increases_step (Effect-F.Increase term cost line) depth) → is_total_cost_term cost ≡ false
+      other_cost : (cost : Cost) (depth : Depth) → AreFormed (increases_step (Effect-F.Increase term cost at) depth) → is_total_cost_term cost ≡ false
       other_cost cost depth formed =
           let one = (and_parts (may_stand depth && is_proper term cost) true formed).0 in
           let proper = (and_parts (may_stand depth) (is_proper term cost) one).1 in
@@ -136,8 +137,8 @@ module _ (domain : Domain) (problem : Problem) where
           by_case (inr total) =
               absurd (false≢true (sym other ∙ (and_parts (is_same function.predicate.name total_cost) (not (is_declared domain.functions total_cost)) (and_parts first_two (nat_eq (length function.terms) 0) total).0).0))
 
-      by : (cost : Cost) (depth : Depth) → AreFormed (increases_step (Effect-F.Increase term cost line) depth) → (scope : Scope) → scopes.effect_step (Effect-F.Increase term cost line) scope ≡ [] →
-          list_all is_sound (effect_step (Effect-F.Increase term cost line)) ≡ true → CostSound scope cost
+      by : (cost : Cost) (depth : Depth) → AreFormed (increases_step (Effect-F.Increase term cost at) depth) → (scope : Scope) → scopes.effect_step (Effect-F.Increase term cost at) scope ≡ [] →
+          list_all is_sound (effect_step (Effect-F.Increase term cost at)) ≡ true → CostSound scope cost
       by (Number number) depth formed scope unbound mentioned = tt
       by (Term function) depth formed scope unbound mentioned =
           let second = (and_parts (is_sound (Function function)) true (and_parts (is_sound (Function term)) (is_sound (Function function) && true) mentioned).1).0 in
@@ -150,15 +151,15 @@ module _ (domain : Domain) (problem : Problem) where
           )
 
   sound : (effect : Effect) → Sound effect
-  sound = by_folds (List Cost) (Depth → List Increase) (Scope → List ℕ) (List Mention) step.increases_step increases_step scopes.effect_step effect_step CostsSound record {
-    at_nothing = λ line. ((λ depth. refl), (λ formed. refl), λ depth formed scope unbound mentioned. tt);
+  sound = by_folds (List Cost) (Depth → List Increase) (Scope → List At) (List Mention) step.increases_step increases_step scopes.effect_step effect_step CostsSound record {
+    at_nothing = λ at. ((λ depth. refl), (λ formed. refl), λ depth formed scope unbound mentioned. tt);
     at_add = λ atom. ((λ depth. refl), (λ formed. refl), λ depth formed scope unbound mentioned. tt);
     at_delete = λ atom. ((λ depth. refl), (λ formed. refl), λ depth formed scope unbound mentioned. tt);
-    at_and = λ members line held.
+    at_and = λ members at held.
         ((λ depth. members_count members held (joined_depth depth)), none_inner members held, λ depth formed scope unbound mentioned. members_sound members held (joined_depth depth) formed scope unbound mentioned);
-    at_when = λ condition inside line held.
+    at_when = λ condition inside at held.
         ((λ depth. held.0 Inner), (λ formed. held.1 formed), λ depth formed scope unbound mentioned. subst (Each (CostSound scope)) (sym (held.1 formed)) tt);
-    at_forall = λ variables inside line held.
+    at_forall = λ variables inside at held.
         ((λ depth. held.0 Inner), (λ formed. held.1 formed), λ depth formed scope unbound mentioned. subst (Each (CostSound scope)) (sym (held.1 formed)) tt);
     at_increase = increase_sound;
   }
@@ -168,8 +169,8 @@ module _ (domain : Domain) (problem : Problem) where
   module _ (none : check_faults domain problem ≡ []) where
     pub one_increase : (action : Action) → Among action domain.actions → is_one_cost (increases action.effect Outermost) ≡ true
     one_increase action among =
-        let lines = row_empty domain problem none _ (inr (inr (inr (inr (inr (inr (inr (inr (inr (inr (inr (inr (inl refl))))))))))))) in
-        one_cost (increases action.effect Outermost) (piece_empty (λ action. ill_formed (increases action.effect Outermost)) domain.actions lines.0 action among)
+        let positions = row_empty domain problem none _ (inr (inr (inr (inr (inr (inr (inr (inr (inr (inr (inr (inr (inl refl))))))))))))) in
+        one_cost (increases action.effect Outermost) (piece_empty (λ action. ill_formed (increases action.effect Outermost)) domain.actions positions.0 action among)
 
     pub at_most_one : (action : Action) → Among action domain.actions → nat_le (length (step.increases action.effect)) 1 ≡ true
     at_most_one action among = ap (λ n. nat_le n 1) (sym ((sound action.effect).0 Outermost)) ∙ one_at_most (increases action.effect Outermost) (one_increase action among)

@@ -56,8 +56,8 @@ is_one_cost (increase ∷ other ∷ more) = false
 -- the entry denies no atom that an entry states
 abbrev pub denies_none : List Init → Init → Bool
 denies_none init (Holds atom) = true
-denies_none init (HoldsNot atom line) = not (list_any (is_stated (ground [] atom)) init)
-denies_none init (Value term value line) = true
+denies_none init (HoldsNot atom at) = not (list_any (is_stated (ground [] atom)) init)
+denies_none init (Value term value at) = true
 
 abbrev pub is_value : Option ℕ → ℕ → Bool
 is_value None value = false
@@ -66,8 +66,8 @@ is_value (Some known) value = known == value
 -- the value that the entry gives is the value of its term
 abbrev pub gives_the_value : List Init → Init → Bool
 gives_the_value init (Holds atom) = true
-gives_the_value init (HoldsNot atom line) = true
-gives_the_value init (Value term value line) = is_value (value_in init (ground [] term)) value
+gives_the_value init (HoldsNot atom at) = true
+gives_the_value init (Value term value at) = is_value (value_in init (ground [] term)) value
 
 -- ---- sizes
 

@@ -2,7 +2,7 @@ use Rattle.std.proofs.Common.{Err, refl, ap}
 use Rattle.pddl_lexer.proofs.Spelled.{tree_of_spelled}
 use Rattle.pddl_lexer.specs.declared.fault.Fault.{Fault}
 use Rattle.pddl_lexer.specs.declared.fault.TreeEnd.TheVariants as ends
-use Rattle.pddl_lexer.proofs.ReaderTurns.{Whole, IsAnswer, counts, line_fits, fault_here, fault_end, first_same, some_first, passed_more, passed_all, passed_answer, first_and_others, first_and_after, nothing}
+use Rattle.pddl_lexer.proofs.ReaderTurns.{Whole, IsAnswer, counts, line_fits, column_fits, fault_here, fault_end, first_same, some_first, passed_more, passed_all, passed_answer, first_and_others, first_and_after, nothing}
 use Rattle.pddl_lexer.proofs.reader.read_tree.Goals as goal
 use Rattle.pddl_lexer.proofs.reader.read_tree.Goals.{In-None, After-drop-builder-2, After-drop-builder-in-Some, After-drop-builder-in-Some-kind_at_end}
 
@@ -23,8 +23,11 @@ returns-in-Some-clause-fault c = λ fault first. ap (λ (f : Fault). Err (ends.F
 
 -- ---- a turn
 
-pub after-scanner-requires : goal.after-scanner-requires
-after-scanner-requires c = line_fits _ _ _ _ c.loop-text.invariant c.in-len1-up.len_at_least
+pub after-scanner-requires-clause-line : goal.after-scanner-requires-clause-line
+after-scanner-requires-clause-line c = line_fits _ _ _ _ c.loop-text.invariant c.in-len1-up.len_at_least
+
+pub after-scanner-requires-clause-column : goal.after-scanner-requires-clause-column
+after-scanner-requires-clause-column c = column_fits _ _ _ _ c.loop-text.invariant c.in-len1-up.len_at_least
 
 pub loop-text-preserved : goal.loop-text-preserved
 loop-text-preserved c =

@@ -3,7 +3,7 @@ use Rattle.std.specs.Prelude.{if◌then◌else◌}
 use Rattle.std.specs.List.{list_any}
 use Rattle.pddl_parser.specs.declared.types.Named.{Named}
 use Rattle.pddl_parser.specs.Words.{is_same}
-use Rattle.type_checker.specs.Lines.{earliest}
+use Rattle.type_checker.specs.Positions.{earliest}
 use Rattle.type_checker.specs.Names.{repeats_after}
 use Rattle.type_checker.proofs.RepeatedNames.{repeat_turn}
 use Rattle.type_checker.proofs.repeats.first_repeat.Goals as goal
@@ -18,5 +18,5 @@ loop-item-preserved g c = λ named calls.
     repeat_turn named c.args.items.now c.loop-item.item-index c.item-item.result before c.repeat.new.names c.loop-item.first c.in_ok-repeat.field-0 c.earlier-first.result
     (earliest (repeats_after c.args.names (map named c.args.items.now))) c.loop-item-test.true c.item-item.is
     (λ other. c.in_ok-repeat.ensures.added other ∙ ap (λ (n : Named). is_same other n.name || list_any (is_same other) before) same)
-    (c.in_ok-repeat.ensures.line ∙ ap (λ (n : Named). earliest (if list_any (is_same n.name) before then n.line ∷ [] else [])) same)
+    (c.in_ok-repeat.ensures.at ∙ ap (λ (n : Named). earliest (if list_any (is_same n.name) before then n.at ∷ [] else [])) same)
     c.earlier-first.ensures (c.loop-item.invariant named calls)

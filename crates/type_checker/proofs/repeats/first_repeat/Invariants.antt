@@ -1,7 +1,7 @@
 use Rattle.std.proofs.Common.{◌≡◌, Bor, map, drop}
 use Rattle.std.specs.Fn.{FnReturnsAt}
 use Rattle.pddl_parser.specs.declared.types.Named.{Named}
-use Rattle.type_checker.specs.Lines.{earlier, earliest}
+use Rattle.type_checker.specs.Positions.{earlier, earliest}
 use Rattle.type_checker.specs.Names.{repeats_after}
 use Rattle.type_checker.proofs.repeats.first_repeat.Given as goal
 

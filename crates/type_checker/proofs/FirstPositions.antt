@@ -1,0 +1,20 @@
+-- One round of a loop that looks for the first position.
+use Rattle.std.proofs.Common.{◌≡◌, ℕ, ◌+◌, ◌<◌, List, take, length, get_or, Option, sym, ap, ◌∙◌}
+use Rattle.std.specs.List.{flat_map}
+use Rattle.pddl_lexer.specs.declared.position.At.{At}
+use Rattle.type_checker.specs.Positions.{earlier, earliest}
+use Rattle.type_checker.proofs.Earliest.{earliest_more}
+
+module _ {X : Type 0} (positions_of : X → List At) (items : List X) (i : ℕ) (item : X) (within : i < length items) (is : item ≡ get_or items i item) where
+  pub first_after : (before now here : Option At) → before ≡ earliest (flat_map positions_of (take i items)) → here ≡ earliest (positions_of item) → now ≡ earlier before here →
+      now ≡ earliest (flat_map positions_of (take (i + 1) items))
+  first_after before now here held in_item made =
+      made
+      ∙ ap (λ first. earlier first here) held
+      ∙ ap (earlier (earliest (flat_map positions_of (take i items)))) (in_item ∙ ap (λ (x : X). earliest (positions_of x)) is)
+      ∙ sym (earliest_more positions_of items i item within)
+
+-- the first position of what is equal to what was looked through
+pub first_of_same : {A B : Type 0} (positions : A → B → List At) (a other : A) (b another : B) (at : Option At) → at ≡ earliest (positions a b) → a ≡ other → b ≡ another → at ≡ earliest (positions other another)
+first_of_same positions a other b another at found same same' =
+    found ∙ ap (λ x. earliest (positions x b)) same ∙ ap (λ y. earliest (positions other y)) same'
