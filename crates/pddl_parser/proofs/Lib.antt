@@ -10,6 +10,7 @@ mod Rows
 mod OwnFaults
 mod Digits
 mod Groups
+mod Eithers
 mod Readings
 mod Nested
 mod NestedEffects

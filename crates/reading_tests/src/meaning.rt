@@ -436,6 +436,10 @@ static CONDITIONS: &[(&str, bool)] = &[
     ("(exists (?x - vehicle) (= ?x ship))", true),
     ("(exists (?x) (= ?x ship))", true),
     ("(exists (?x - odd) (= ?x ship))", false),
+    ("(exists (?x - (either spare boat)) (= ?x ship))", true),
+    ("(exists (?x - (either spare odd)) (p))", false),
+    ("(forall (?x - (either spare odd)) (q))", true),
+    ("(exists (?x - (either spare object)) (= ?x ship))", true),
     ("(forall (?x ?y) (= ?x ?y))", true),
     ("(exists (?x) (forall (?x - spare) (q)))", true),
 ];

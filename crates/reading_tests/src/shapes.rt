@@ -85,6 +85,17 @@ static SECTIONS: &[Row] = &[
     ("(:types a - =)", Kind::BadName, 2, 13),
     ("(:types a -\n(either b c))", Kind::UnsupportedSection, 3, 1),
     ("(:types a -\n(b))", TYPE_NAME, 3, 1),
+    ("(:types a - (either) b -)", Kind::UnsupportedSection, 2, 13),
+    (
+        "(:constants a - (either b c))",
+        Kind::UnsupportedSection,
+        2,
+        17,
+    ),
+    ("(:predicates (p ?x - (either)))", TYPE_NAME, 2, 22),
+    ("(:predicates (p ?x - (foo) y))", VARIABLES, 2, 28),
+    ("(:functions (f ?x - (foo)))", TYPE_NAME, 2, 21),
+    ("(:derived (r ?x - (either)) (p ?x))", TYPE_NAME, 2, 19),
     ("(:types\na\n-)", SECTION, 2, 1),
     ("(:types\na\n@ -)", Kind::BadName, 4, 1),
     ("(:constants c\n- t ,)", Kind::BadName, 3, 5),
@@ -116,12 +127,6 @@ static SECTIONS: &[Row] = &[
     ("(:action a :parameters (?x\nz))", VARIABLES, 3, 1),
     ("(:action a :parameters\n(?x\n-))", VARIABLES, 3, 1),
     ("(:action a :parameters\n?x)", VARIABLES, 3, 1),
-    (
-        "(:action a :parameters (?x -\n(either a b)))",
-        Kind::UnsupportedSection,
-        3,
-        1,
-    ),
     ("(:action a :precondition\n:effect (p))", CONDITION, 3, 1),
     (
         "(:action a :effect ()\n:effect)",
@@ -146,11 +151,37 @@ fn sections_of_a_domain(rt: HostRuntime) {
     assert_eq!(rt; other.ok(), Some(None));
 }
 
+// Behind variables a list is looked at once the list around it has no fault of its own.
+static VARIABLE_TYPES: &[Row] = &[
+    ("?x - (foo a)", TYPE_NAME, 2, 6),
+    ("?x - ()", TYPE_NAME, 2, 6),
+    ("?x - ((either a))", TYPE_NAME, 2, 6),
+    ("?x - (either)", TYPE_NAME, 2, 6),
+    ("?x - (either a ?b)", Kind::BadName, 2, 16),
+    ("?x - (either a -)", Kind::BadName, 2, 16),
+    ("?x - (either (a))", TYPE_NAME, 2, 14),
+    ("?x - (either a (either b))", TYPE_NAME, 2, 16),
+    ("- (either a (b))", TYPE_NAME, 2, 13),
+    ("?x - (either a) ?y - (bar)", TYPE_NAME, 2, 22),
+    ("?x - (foo) ?y - (either @)", TYPE_NAME, 2, 6),
+    ("?x - (foo) y", VARIABLES, 2, 12),
+    ("?x - (foo) (bar)", VARIABLES, 2, 12),
+];
+
+#[test]
+fn types_of_variables(rt: HostRuntime) {
+    let before = "(define (domain d) (:action a :parameters (\n";
+    let other = first_other(rt.alloc(), File::Domain, before, ")))", VARIABLE_TYPES);
+    assert_eq!(rt; other.ok(), Some(None));
+}
+
 static CONDITIONS: &[Row] = &[
     ("p", CONDITION, 2, 1),
     ("(not)", CONDITION, 2, 1),
     ("(not (p)\n(q))", CONDITION, 3, 1),
     ("(exists\n?x (p))", VARIABLES, 3, 1),
+    ("(exists (?x - (either p -)) (q))", Kind::BadName, 2, 25),
+    ("(forall (?x - (foo)) (-))", TYPE_NAME, 2, 15),
     ("(< a b)", Kind::UnsupportedSection, 2, 1),
     ("(preference p (q))", Kind::UnsupportedSection, 2, 1),
     ("(when (p) (q))", Kind::ReservedWord, 2, 2),
@@ -176,6 +207,7 @@ static EFFECTS: &[Row] = &[
     ("(p a\n?)", Kind::BadName, 3, 1),
     ("(not (p\n=))", Kind::BadName, 3, 1),
     ("(not\n(forall ?x))", Kind::ReservedWord, 3, 2),
+    ("(forall (?x - (foo)) (-))", TYPE_NAME, 2, 15),
     ("(not (assign (f) 1))", Kind::ReservedWord, 2, 7),
     ("(preference p (q))", Kind::ReservedWord, 2, 2),
     ("(= a b)", Kind::BadName, 2, 2),
