@@ -1,9 +1,10 @@
 -- Each line is its pieces, one after another.
-use Rattle.std.proofs.Common.{◌≡◌, ℕ, List, [], ◌∷◌, ◌++◌, refl, sym, ◌∙◌, append-nil, append_assoc}
+use Rattle.std.proofs.Common.{◌≡◌, ℕ, List, [], ◌∷◌, ◌++◌, refl, sym, ap, ◌∙◌, append-nil, append_assoc}
 use Rattle.std.specs.Prelude.{fold, codes, decimal}
+use Rattle.pddl_lexer.specs.declared.position.At.{At}
 use Rattle.translator.specs.declared.outcome.Summary.{Summary}
 use Rattle.translator.specs.declared.message.Phrase.TheVariants as phrases
-use Rattle.translator.specs.Messages.{usage_line, memory_line, named_line, unreadable_line, unwritable_line, fault_line, summary_lines}
+use Rattle.translator.specs.Messages.{usage_line, memory_line, named_line, unreadable_line, unwritable_line, fault_line, position_text, summary_lines}
 use Rattle.translator.specs.Pieces.{bytes_of, joined}
 
 run_on : (before : List ℕ) (parts : List (List ℕ)) → before ++ joined parts ≡ fold (λ line part. line ++ part) before parts
@@ -30,10 +31,21 @@ pub unwritable_is : (name : List ℕ) → named_line (bytes_of phrases.CannotWri
 unfolding bytes_of unwritable_line
 unwritable_is name = refl
 
-pub fault_pieces : (name : List ℕ) (line : ℕ) (words : List ℕ) →
-    joined (bytes_of phrases.Prefix ∷ name ∷ bytes_of phrases.BeforeLine ∷ decimal line ∷ bytes_of phrases.AfterLine ∷ words ∷ bytes_of phrases.LineFeed ∷ []) ≡ fault_line name line words
+pub line_pieces : (name : List ℕ) (line : ℕ) (words : List ℕ) →
+    joined (bytes_of phrases.Prefix ∷ name ∷ bytes_of phrases.Colon ∷ decimal line ∷ bytes_of phrases.BeforeWords ∷ words ∷ bytes_of phrases.LineFeed ∷ []) ≡ fault_line name (decimal line) words
 unfolding bytes_of fault_line
-fault_pieces name line words = run_on (codes "translate: ") (name ∷ codes ":" ∷ decimal line ∷ codes ": " ∷ words ∷ codes "\n" ∷ [])
+line_pieces name line words = run_on (codes "translate: ") (name ∷ codes ":" ∷ decimal line ∷ codes ": " ∷ words ∷ codes "\n" ∷ [])
+
+three_at_once : (before first second third : List ℕ) → before ++ first ++ second ++ third ≡ before ++ (first ++ second ++ third)
+three_at_once before first second third = ap (λ (line : List ℕ). line ++ third) (append_assoc before first second) ∙ append_assoc before (first ++ second) third
+
+pub position_pieces : (name : List ℕ) (at : At) (words : List ℕ) →
+    joined (bytes_of phrases.Prefix ∷ name ∷ bytes_of phrases.Colon ∷ decimal at.line ∷ bytes_of phrases.Colon ∷ decimal at.column ∷ bytes_of phrases.BeforeWords ∷ words ∷ bytes_of phrases.LineFeed ∷ [])
+    ≡ fault_line name (position_text at) words
+unfolding bytes_of fault_line
+position_pieces name at words =
+    run_on (codes "translate: ") (name ∷ codes ":" ∷ decimal at.line ∷ codes ":" ∷ decimal at.column ∷ codes ": " ∷ words ∷ codes "\n" ∷ [])
+    ∙ ap (λ (line : List ℕ). line ++ codes ": " ++ words ++ codes "\n") (three_at_once (codes "translate: " ++ name ++ codes ":") (decimal at.line) (codes ":") (decimal at.column))
 
 pub summary_pieces : (summary : Summary) →
     joined (bytes_of phrases.Candidates ∷ decimal summary.candidates ∷ bytes_of phrases.Invariants ∷ decimal summary.invariants

@@ -5,28 +5,28 @@ use Rattle.tl_device.specs.Contents.{Contents}
 use Rattle.translator.specs.declared.outcome.End.{End}
 use Rattle.translator.specs.declared.outcome.End.TheVariants as ends
 use Rattle.translator.specs.Ending.{Ending, Gives, ◌>>=◌}
-use Rattle.translator.specs.Texts.{Text, text, read_within}
+use Rattle.translator.specs.Texts.{Text, text, read}
 use Rattle.translator.specs.Store.{Store}
 use Rattle.translator.specs.Stages.{IsRead, StopsReading, StopsWhere}
 use Rattle.translator.proofs.Stages.{first_leads, goes_on, IsToldOf, refused_of}
 use Rattle.translator.proofs.Sources.{always, if_told, same_store, stops_later}
 
-module _ {A : Type 0} (name : List ℕ) (limit : ℕ) (whole : Contents → Ending A) (next : Text → Ending A) (begins : (held : Contents) → whole held ≡ (read_within limit held name >>= next)) where
+module _ {A : Type 0} (name : List ℕ) (whole : Contents → Ending A) (next : Text → Ending A) (begins : (held : Contents) → whole held ≡ (read held name >>= next)) where
   abbrev Comes : Contents → Ending A → Type 0
   Comes held e = whole held ≡ e
 
   -- the file is absent, or too long
-  pub stops_at_file : (before now : Store) (end : End) → StopsReading before now (name ∷ []) (name ∷ []) (λ held e. read_within limit held name ≡ e) end → StopsReading before now (name ∷ []) (name ∷ []) Comes end
+  pub stops_at_file : (before now : Store) (end : End) → StopsReading before now (name ∷ []) (name ∷ []) (λ held e. read held name ≡ e) end → StopsReading before now (name ∷ []) (name ∷ []) Comes end
   stops_at_file before now =
-      stops_later before before now (name ∷ []) (name ∷ []) (name ∷ []) (name ∷ []) (λ held e. read_within limit held name ≡ e) Comes (same_store before) refl (λ other in'. in') (λ other in'. in')
-      (always _ before.files (λ held. first_leads (whole held) (read_within limit held name) next (begins held)))
+      stops_later before before now (name ∷ []) (name ∷ []) (name ∷ []) (name ∷ []) (λ held e. read held name ≡ e) Comes (same_store before) refl (λ other in'. in') (λ other in'. in')
+      (always _ before.files (λ held. first_leads (whole held) (read held name) next (begins held)))
 
-  module _ (before now : Store) (bytes bytes' : List ℕ) (same : bytes' ≡ bytes) (is : IsRead before now (λ held. read_within limit held name ≡ Gives (text name bytes))) where
+  module _ (before now : Store) (bytes bytes' : List ℕ) (same : bytes' ≡ bytes) (is : IsRead before now (λ held. read held name ≡ Gives (text name bytes))) where
     comes_to_text : IsRead before now (λ held. whole held ≡ next (text name bytes'))
     comes_to_text = (
       is.0,
-      if_told (λ held. read_within limit held name ≡ Gives (text name bytes)) _ before.files
-          (λ held gives. goes_on (whole held) (read_within limit held name) next (begins held) (text name bytes') (gives ∙ ap (λ (b : List ℕ). Gives (text name b)) (sym same))) is.1,
+      if_told (λ held. read held name ≡ Gives (text name bytes)) _ before.files
+          (λ held gives. goes_on (whole held) (read held name) next (begins held) (text name bytes') (gives ∙ ap (λ (b : List ℕ). Gives (text name b)) (sym same))) is.1,
     )
 
     module _ (told : IsToldOf (name ∷ []) (next (text name bytes'))) where

@@ -1,9 +1,8 @@
 -- What the plan file comes to, by its text.
-use Rattle.std.proofs.Common.{◌≡◌, ℕ, List, [], ◌∷◌, Result, Ok, Err, refl, sym, ap, ap₂, ◌∙◌, subst}
-use Rattle.std.specs.Prelude.{Bool, Contains, IfOk, IfErr}
+use Rattle.std.proofs.Common.{◌≡◌, ℕ, List, [], ◌∷◌, refl, sym, ap, ap₂, ◌∙◌, subst}
+use Rattle.std.specs.Prelude.{Bool, Contains}
 use Rattle.std.specs.declared.option.Option.{Option}
 use Rattle.std.specs.declared.option.Option.TheVariants.{Some, None}
-use Rattle.lists.proofs.Members.{member_first}
 use Rattle.tl_device.specs.Contents.{Contents}
 use Rattle.plan_backmap.specs.Lines.{plan_lines}
 use Rattle.plan_backmap.specs.Plans.{faults, mapped, IsFirst, IfFault}
@@ -12,16 +11,14 @@ use Rattle.plan_backmap.specs.declared.plan.Mapped.{Mapped}
 use Rattle.plan_backmap.specs.declared.plan.MapEnd.{MapEnd}
 use Rattle.plan_backmap.specs.declared.plan.MapEnd.TheVariants as map_ends
 use Rattle.sas_task.specs.Task.{Task}
-use Rattle.translator.specs.declared.outcome.End.{End}
-use Rattle.translator.specs.declared.outcome.End.TheVariants as ends
 use Rattle.translator.specs.declared.outcome.Message.TheVariants as messages
-use Rattle.translator.specs.Ending.{Ending, Gives, Refused, ◌>>=◌}
-use Rattle.translator.specs.Texts.{Text, text, read}
+use Rattle.translator.specs.Ending.{Gives, Refused, ◌>>=◌}
+use Rattle.translator.specs.Texts.{Text, read}
 use Rattle.translator.specs.Plan.{unless_faulty, mapped_lines, of_plan}
 use Rattle.translator.specs.Store.{Store}
-use Rattle.translator.specs.Stages.{IsRead, StopsReading, StopsWhere}
-use Rattle.translator.proofs.Stages.{first_leads, goes_on, IsToldOf, refused_of}
-use Rattle.translator.proofs.Sources.{always, if_told, same_store, stops_later}
+use Rattle.translator.specs.Stages.{IsRead}
+use Rattle.translator.proofs.Stages.{IsToldOf}
+use Rattle.translator.proofs.Sources.{always}
 
 -- ---- a text
 

@@ -16,7 +16,7 @@ use Rattle.sas_task.specs.Valid.{IsValid}
 use Rattle.translator.specs.declared.outcome.Message.TheVariants as messages
 use Rattle.translator.specs.Ending.{Ending, Gives, Refused, ◌>>=◌}
 use Rattle.translator.specs.RunTask.{Start, FromTask, nothing_found, PassesKeepReadTasks}
-use Rattle.translator.specs.Run.{text, read_within, task_limit, unless_broken, of_task_text, of_source}
+use Rattle.translator.specs.Run.{text, read, unless_broken, of_task_text, of_source}
 use Rattle.translator.specs.Store.{Store}
 use Rattle.translator.specs.Stages.{IsRead, IsMadeOf}
 use Rattle.translator.proofs.Stages.{IsToldOf}
@@ -57,7 +57,7 @@ task_told names name bytes = told_reading names name (reading_of bytes)
 
 -- ---- a file
 
-pub task_begins : (name : List ℕ) (held : Contents) → of_source held (WrittenTask name) ≡ (read_within task_limit held name >>= of_task_text)
+pub task_begins : (name : List ℕ) (held : Contents) → of_source held (WrittenTask name) ≡ (read held name >>= of_task_text)
 unfolding of_source
 task_begins name held = refl
 

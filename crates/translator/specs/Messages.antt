@@ -1,6 +1,7 @@
 -- What is printed at the end of a run.
 use Rattle.std.specs.Prelude.{ℕ, List, ◌++◌, codes, decimal}
 use Rattle.pddl_lexer.specs.Kinds.{text}
+use Rattle.pddl_lexer.specs.declared.position.At.{At}
 use Rattle.sas_reader.specs.Places.{text as place_text}
 use Rattle.translator.specs.declared.outcome.Summary.{Summary}
 use Rattle.translator.specs.declared.outcome.Message.{Message}
@@ -26,16 +27,20 @@ unreadable_line name = named_line (codes "translate: cannot read ") name
 unfoldable pub unwritable_line : List ℕ → List ℕ
 unwritable_line name = named_line (codes "translate: cannot write ") name
 
--- the line that says this of a line of the text of this name
-unfoldable pub fault_line : List ℕ → ℕ → List ℕ → List ℕ
-fault_line name line words = codes "translate: " ++ name ++ codes ":" ++ decimal line ++ codes ": " ++ words ++ codes "\n"
+-- the line that says this of a place in the text of this name
+unfoldable pub fault_line : List ℕ → List ℕ → List ℕ → List ℕ
+fault_line name place words = codes "translate: " ++ name ++ codes ":" ++ place ++ codes ": " ++ words ++ codes "\n"
 
--- the line of the text that a message is about
-abbrev pub line_at : Message → ℕ
-line_at (messages.Fault fault) = fault.line
-line_at (messages.BadPlanLine line) = line
-line_at (messages.UnknownStep line) = line
-line_at (messages.TaskLine fault) = fault.line
+-- a position, told by its line and its column
+abbrev pub position_text : At → List ℕ
+position_text at = decimal at.line ++ codes ":" ++ decimal at.column
+
+-- the place that a message is about: a position, or a whole line
+abbrev pub place_of : Message → List ℕ
+place_of (messages.Fault fault) = position_text fault.at
+place_of (messages.BadPlanLine line) = decimal line
+place_of (messages.UnknownStep line) = decimal line
+place_of (messages.TaskLine fault) = decimal fault.line
 
 -- what it says
 abbrev pub words_of : Message → List ℕ
@@ -46,7 +51,7 @@ words_of (messages.TaskLine fault) = place_text fault.place
 
 -- the line on a text that is refused
 abbrev pub refusal_line : List ℕ → Message → List ℕ
-refusal_line name message = fault_line name (line_at message) (words_of message)
+refusal_line name message = fault_line name (place_of message) (words_of message)
 
 -- the seven lines on the search for invariants and on the written task
 unfoldable pub summary_lines : Summary → List ℕ

@@ -6,6 +6,7 @@ use Rattle.std.specs.FinMap.{get}
 use Rattle.tl_device.specs.Contents.{Contents}
 use Rattle.pddl_lexer.specs.declared.fault.Fault.{Fault}
 use Rattle.pddl_lexer.specs.declared.fault.Kind.TheVariants.{TooLong}
+use Rattle.pddl_lexer.specs.declared.position.At.{At}
 use Rattle.translator.specs.Ending.{Ending, Absent, unless}
 
 -- a text, and the name under which its faults are told
@@ -16,26 +17,23 @@ pub record Text : Type 0 where
 abbrev pub text : List ℕ → List ℕ → Text
 text name bytes = record { name = name; bytes = bytes }
 
--- the most bytes of an input file
+-- where a text begins
+abbrev pub start : At
+start = record { line = 1; column = 1 }
+
+-- the most bytes of an input file, a plan file or a written task
 abbrev pub input_limit : ℕ
-input_limit = 16777216
+input_limit = 67108864
 
--- the most bytes of a written task
-abbrev pub task_limit : ℕ
-task_limit = 67108864
+-- a file with more bytes than it may have has this fault, where it begins
+abbrev pub length_faults : List ℕ → List Fault
+length_faults bytes = if nat_lt input_limit (length bytes) then record { kind = TooLong; at = start } ∷ [] else []
 
--- a file with more bytes than it may have has this fault
-abbrev pub length_faults : ℕ → List ℕ → List Fault
-length_faults limit bytes = if nat_lt limit (length bytes) then record { kind = TooLong; line = 1 } ∷ [] else []
+-- what is read where the file of this name holds this
+abbrev pub read_as : List ℕ → Option (List ℕ) → Ending Text
+read_as name None = Absent name
+read_as name (Some bytes) = unless name (length_faults bytes) (text name bytes)
 
--- what is read where the file of this name may have so many bytes and holds this
-abbrev pub read_as : ℕ → List ℕ → Option (List ℕ) → Ending Text
-read_as limit name None = Absent name
-read_as limit name (Some bytes) = unless name (length_faults limit bytes) (text name bytes)
-
-abbrev pub read_within : ℕ → Contents → List ℕ → Ending Text
-read_within limit files name = read_as limit name (get files name)
-
--- what is read of an input file
+-- what is read of the file of this name
 abbrev pub read : Contents → List ℕ → Ending Text
-read files name = read_within input_limit files name
+read files name = read_as name (get files name)

@@ -81,7 +81,7 @@ pub fn translate<F: Files, C: Console>(
 
     // What is printed: the text of the answer, or a front of the text of some answer where the console failed.
     ensures printed { Called (store F.Files files.old) (store F.Files files.new) (asked_by_words (map (λ pass. pass.kind) book.now.passes.items) words.items) (screen C.Console console.old) (screen C.Console console.new) result }
-    // The first fault is printed with its file and its line.
+    // The first fault is printed with its file and its place.
     ensures fault_printed { (name : List ℕ) (message : Message) → RunsTo (F.files files.old) (asked_by_words (map (λ pass. pass.kind) book.now.passes.items) words.items) (Refused name message)
         → result ≡ Status.InputFault → C.printed console.new ≡ append_known (C.printed console.old) (refusal_line name message) }
     // `cannot read` names the file that was asked for last, and where no read failed the file that is absent.

@@ -1,16 +1,17 @@
 //! What is printed at the end of a run, in pieces that take no memory.
 
-ghost use Rattle.std.specs.Prelude.{◌≡◌, OnOk, OnErr};
+ghost use Rattle.std.specs.Prelude.{◌≡◌, OnOk, OnErr, decimal};
 ghost use Rattle.std.specs.List.{flat_map};
 ghost use Rattle.std.specs.Io.KnownBytes.{append_known};
 ghost use Rattle.tl_device.specs.Causes.{HasCause};
 ghost use Rattle.tl_device.specs.Contents.{PrintedInPart};
-ghost use Rattle.translator.specs.Messages.{named_line, refusal_line, summary_lines, task_lines};
+ghost use Rattle.translator.specs.Messages.{fault_line, named_line, position_text, refusal_line, summary_lines, task_lines};
 ghost use Rattle.translator.specs.Outcome.{line_of};
 ghost use Rattle.translator.specs.Pieces.{bytes_of, piece_bytes};
 
 use crate::outcome::{End, Message, Report, Summary};
 use itoa::Buffer;
+use pddl_lexer::At;
 use tl_device::{Console, Failed, say_all};
 
 /// A fixed part of what is printed.
@@ -21,8 +22,8 @@ pub(crate) enum Phrase {
     CannotWrite,
     CannotRead,
     Prefix,
-    BeforeLine,
-    AfterLine,
+    Colon,
+    BeforeWords,
     Candidates,
     Invariants,
     Variables,
@@ -44,8 +45,8 @@ impl Phrase {
             Phrase::CannotWrite => b"translate: cannot write ",
             Phrase::CannotRead => b"translate: cannot read ",
             Phrase::Prefix => b"translate: ",
-            Phrase::BeforeLine => b":",
-            Phrase::AfterLine => b": ",
+            Phrase::Colon => b":",
+            Phrase::BeforeWords => b": ",
             Phrase::Candidates => b"Translator candidates: ",
             Phrase::Invariants => b"\nTranslator invariants: ",
             Phrase::Variables => b"\nTranslator variables: ",
@@ -146,22 +147,67 @@ fn say_named<C: Console>(console: &mut C, phrase: Phrase, name: &str) -> Result<
     say_pieces(console, &pieces)
 }
 
-/// Says this of a line of the text of this name.
-fn say_refusal<C: Console>(console: &mut C, name: &str, message: &Message) -> Result<(), Failed>
-    ensures ok { OnOk result (C.printed console.new ≡ append_known (C.printed console.old) (refusal_line name.now message.now)) }
-    ensures err { OnErr result (PrintedInPart (C.printed console.old) (C.printed console.new) (refusal_line name.now message.now)) }
+/// Says this of a position in the text of this name.
+fn say_of_position<'a, C: Console>(
+    console: &mut C,
+    name: &'a str,
+    at: At,
+    words: &'a str,
+) -> Result<(), Failed>
+    ensures ok { OnOk result (C.printed console.new ≡ append_known (C.printed console.old) (fault_line name.now (position_text at) words.now)) }
+    ensures err { OnErr result (PrintedInPart (C.printed console.old) (C.printed console.new) (fault_line name.now (position_text at) words.now)) }
     ensures cause { HasCause (C.faults console.old) (C.faults console.new) result }
 {
     let pieces = [
         Piece::Fixed(Phrase::Prefix),
         Piece::Name(name),
-        Piece::Fixed(Phrase::BeforeLine),
-        Piece::Number(message.line() as u128),
-        Piece::Fixed(Phrase::AfterLine),
-        Piece::Name(message.words()),
+        Piece::Fixed(Phrase::Colon),
+        Piece::Number(at.line as u128),
+        Piece::Fixed(Phrase::Colon),
+        Piece::Number(at.column as u128),
+        Piece::Fixed(Phrase::BeforeWords),
+        Piece::Name(words),
         Piece::Fixed(Phrase::LineFeed),
     ];
     say_pieces(console, &pieces)
+}
+
+/// Says this of a line of the text of this name.
+fn say_of_line<'a, C: Console>(
+    console: &mut C,
+    name: &'a str,
+    line: u64,
+    words: &'a str,
+) -> Result<(), Failed>
+    ensures ok { OnOk result (C.printed console.new ≡ append_known (C.printed console.old) (fault_line name.now (decimal line) words.now)) }
+    ensures err { OnErr result (PrintedInPart (C.printed console.old) (C.printed console.new) (fault_line name.now (decimal line) words.now)) }
+    ensures cause { HasCause (C.faults console.old) (C.faults console.new) result }
+{
+    let pieces = [
+        Piece::Fixed(Phrase::Prefix),
+        Piece::Name(name),
+        Piece::Fixed(Phrase::Colon),
+        Piece::Number(line as u128),
+        Piece::Fixed(Phrase::BeforeWords),
+        Piece::Name(words),
+        Piece::Fixed(Phrase::LineFeed),
+    ];
+    say_pieces(console, &pieces)
+}
+
+/// Says why the text of this name is refused.
+fn say_refusal<C: Console>(console: &mut C, name: &str, message: &Message) -> Result<(), Failed>
+    ensures ok { OnOk result (C.printed console.new ≡ append_known (C.printed console.old) (refusal_line name.now message.now)) }
+    ensures err { OnErr result (PrintedInPart (C.printed console.old) (C.printed console.new) (refusal_line name.now message.now)) }
+    ensures cause { HasCause (C.faults console.old) (C.faults console.new) result }
+{
+    let words = message.words();
+    match message {
+        Message::Fault(fault) => say_of_position(console, name, fault.at, words),
+        Message::BadPlanLine(line) => say_of_line(console, name, *line, words),
+        Message::UnknownStep(line) => say_of_line(console, name, *line, words),
+        Message::TaskLine(fault) => say_of_line(console, name, fault.line, words),
+    }
 }
 
 /// Says how the work ended.

@@ -2,7 +2,7 @@
 
 ghost use Rattle.std.specs.Prelude.{◌≡◌};
 ghost use Rattle.std.specs.Process.{exit_status};
-ghost use Rattle.translator.specs.Messages.{line_at, words_of};
+ghost use Rattle.translator.specs.Messages.{words_of};
 ghost use Rattle.translator.specs.Outcome.{code_of, status_of};
 ghost use Rattle.translator.specs.declared.outcome.End.TheVariants.{NoMemory};
 
@@ -86,7 +86,7 @@ pub(crate) struct Report {
     pub(crate) plan: Vec<u8>,
 }
 
-/// What is said of a text that is refused. Lines are counted from 1.
+/// What is said of a text that is refused, and of which place in it. Lines are counted from 1.
 #[derive(Clone, Copy, PartialEq, Eq)]
 pub enum Message {
     /// A fault of the domain or of the problem, or a file that is too long.
@@ -100,18 +100,6 @@ pub enum Message {
 }
 
 impl Message {
-    /// The line of the text that it is about.
-    pub(crate) fn line(&self) -> u64
-        ensures { result ≡ line_at self.now }
-    {
-        match self {
-            Message::Fault(fault) => fault.line,
-            Message::BadPlanLine(line) => *line,
-            Message::UnknownStep(line) => *line,
-            Message::TaskLine(fault) => fault.line,
-        }
-    }
-
     /// What it says.
     pub(crate) fn words(&self) -> &'static str
         ensures { result.now ≡ words_of self.now }

@@ -20,7 +20,7 @@ pub(crate) fn mapped_lines<'n>(
     plan: &Input<'n, '_>,
     task: &SasTask,
 ) -> Result<Vec<u8>, End<'n>>
-    requires { length plan.now.bytes.now ≤ 16777216 }
+    requires { length plan.now.bytes.now ≤ 67108864 }
     ensures ok { IfOk result (λ lines. plans.mapped_lines task.now (text_by plan.now) ≡ Gives lines.items) }
     ensures err { IfErr result (StopsWhere (plans.mapped_lines task.now (text_by plan.now))) }
 {
@@ -31,7 +31,7 @@ pub(crate) fn mapped_lines<'n>(
 
 /// The steps of the plan, and what they cost.
 fn mapped<'n>(alloc: Global, plan: &Input<'n, '_>, task: &SasTask) -> Result<Mapped, End<'n>>
-    requires { length plan.now.bytes.now ≤ 16777216 }
+    requires { length plan.now.bytes.now ≤ 67108864 }
     ensures mapped { IfOk result (λ it. it ≡ mapped_to task.now.operators (plan_lines plan.now.bytes.now)) }
     ensures faultless { OnOk result (faults task.now.operators (plan_lines plan.now.bytes.now) ≡ []) }
     ensures err { IfErr result (StopsWhere (plans.mapped_lines task.now (text_by plan.now))) }

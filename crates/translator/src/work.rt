@@ -1,6 +1,6 @@
 //! The work of a run on its files.
 
-ghost use Rattle.std.specs.Prelude.{◌≡◌, ◌<◌, ◌≤◌, ◌^◌, ◌⊎◌, [], ◌∷◌, Some, None, map, option_map, length, OnOk, OnErr, IfOk, IfErr};
+ghost use Rattle.std.specs.Prelude.{◌≡◌, ◌≤◌, ◌⊎◌, [], ◌∷◌, Some, None, map, option_map, length, OnOk, OnErr, IfOk, IfErr};
 ghost use Rattle.tl_device.specs.Causes.{HasCause};
 ghost use Rattle.tl_device.specs.Contents.{GrownInPart, emptied, grown};
 ghost use Rattle.command_line.specs.declared.accepted.Settings.{Settings as MadeBy};
@@ -8,7 +8,7 @@ ghost use Rattle.command_line.specs.Accepted.{Files as OfFiles, WrittenTask, sou
 ghost use Rattle.pass_book.specs.Passes.{IsChain, first_missing};
 ghost use Rattle.translator.specs.Asked.{asked_by_words};
 ghost use Rattle.translator.specs.Ending.{Gives};
-ghost use Rattle.translator.specs.Run.{text, read_within, of_source, inputs, titles, all_inputs, all_titles, names_read, ComesTo};
+ghost use Rattle.translator.specs.Run.{text, read, of_source, inputs, titles, all_inputs, all_titles, names_read, ComesTo};
 ghost use Rattle.translator.specs.Store.{store, IsUntouched, AsksForNoOther};
 ghost use Rattle.translator.specs.Call.{Ends};
 ghost use Rattle.translator.specs.Outcome.{status_of, line_of};
@@ -24,17 +24,14 @@ use crate::task_file::{nothing_found, written_task};
 use crate::translation::{Input, Made, made_task, summary, task_of};
 use command_line::{Accepted, Settings, Source};
 use pass_book::{ApplyEnd, Book, PassKind};
-use pddl_lexer::{Fault, Kind};
+use pddl_lexer::{At, Fault, Kind};
 use sas_task::SasTask;
 use sas_writer::text_of;
 use std::alloc::{AllocError, Global};
 use tl_device::{Failed, Files, ReadEnd, put_all, read_all};
 
-/// The most bytes of an input file.
-const INPUT_LIMIT: u64 = 16_777_216;
-
-/// The most bytes of a written task.
-const TASK_LIMIT: u64 = 67_108_864;
+/// The most bytes of an input file, a plan file or a written task.
+const INPUT_LIMIT: u64 = 67_108_864;
 
 /// The text of a task, and what is printed of it.
 #[derive(Drop)]
@@ -136,8 +133,8 @@ fn task_of_files<'a, F: Files>(
     ensures untouched { IsUntouched (store F.Files files.old) (store F.Files files.new) }
     ensures asks { AsksForNoOther (store F.Files files.old) (store F.Files files.new) (domain.now ∷ problem.now ∷ []) }
 {
-    let domain_bytes = read_input(alloc, files, domain, INPUT_LIMIT)?;
-    let problem_bytes = read_input(alloc, files, problem, INPUT_LIMIT)?;
+    let domain_bytes = read_input(alloc, files, domain)?;
+    let problem_bytes = read_input(alloc, files, problem)?;
     let domain = Input {
         name: domain,
         bytes: &domain_bytes,
@@ -157,7 +154,7 @@ fn task_of_file<'a, F: Files>(alloc: Global, name: &'a str, files: &mut F) -> Re
     ensures asks { AsksForNoOther (store F.Files files.old) (store F.Files files.new) (name.now ∷ []) }
 {
     passes_keep_read_tasks();
-    let bytes = read_input(alloc, files, name, TASK_LIMIT)?;
+    let bytes = read_input(alloc, files, name)?;
     let text = Input {
         name,
         bytes: &bytes,
@@ -197,7 +194,7 @@ fn lines_of_file<'a, F: Files>(
     ensures untouched { IsUntouched (store F.Files files.old) (store F.Files files.new) }
     ensures asks { AsksForNoOther (store F.Files files.old) (store F.Files files.new) (name.now ∷ []) }
 {
-    let bytes = read_input(alloc, files, name, INPUT_LIMIT)?;
+    let bytes = read_input(alloc, files, name)?;
     let plan = Input {
         name,
         bytes: &bytes,
@@ -205,28 +202,22 @@ fn lines_of_file<'a, F: Files>(
     mapped_lines(alloc, &plan, task)
 }
 
-/// The bytes of a file that may have so many.
-fn read_input<'a, F: Files>(
-    alloc: Global,
-    files: &mut F,
-    name: &'a str,
-    limit: u64,
-) -> Result<Vec<u8>, End<'a>>
-    requires { limit < 2 ^ 32 }
-    ensures ok { IfOk result (λ bytes. IsRead (store F.Files files.old) (store F.Files files.new) (λ held. read_within limit held name.now ≡ Gives (text name.now bytes.items))) }
-    ensures err { IfErr result (StopsReading (store F.Files files.old) (store F.Files files.new) (name.now ∷ []) (name.now ∷ []) (λ held e. read_within limit held name.now ≡ e)) }
+/// The bytes of a file that is read.
+fn read_input<'a, F: Files>(alloc: Global, files: &mut F, name: &'a str) -> Result<Vec<u8>, End<'a>>
+    ensures ok { IfOk result (λ bytes. IsRead (store F.Files files.old) (store F.Files files.new) (λ held. read held name.now ≡ Gives (text name.now bytes.items))) }
+    ensures err { IfErr result (StopsReading (store F.Files files.old) (store F.Files files.new) (name.now ∷ []) (name.now ∷ []) (λ held e. read held name.now ≡ e)) }
     ensures untouched { IsUntouched (store F.Files files.old) (store F.Files files.new) }
     ensures asks { AsksForNoOther (store F.Files files.old) (store F.Files files.new) (name.now ∷ []) }
-    ensures within { IfOk result (λ bytes. length bytes.items ≤ limit) }
+    ensures within { IfOk result (λ bytes. length bytes.items ≤ 67108864) }
 {
-    match read_all(alloc, files, name, limit) {
+    match read_all(alloc, files, name, INPUT_LIMIT) {
         Ok(bytes) => Ok(bytes),
         Err(ReadEnd::Failed) => Err(End::CannotRead(name)),
         Err(ReadEnd::TooLong) => Err(End::Refused(
             name,
             Message::Fault(Fault {
                 kind: Kind::TooLong,
-                line: 1,
+                at: At { line: 1, column: 1 },
             }),
         )),
         Err(ReadEnd::NoMemory) => Err(End::NoMemory),

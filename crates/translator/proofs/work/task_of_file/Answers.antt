@@ -1,7 +1,7 @@
 use Rattle.std.proofs.Common.{[], ◌∷◌, rules}
 use Rattle.lists.proofs.Members.{member_first}
 use Rattle.command_line.specs.Accepted.{WrittenTask}
-use Rattle.translator.specs.Run.{of_source, of_task_text, task_limit}
+use Rattle.translator.specs.Run.{of_source, of_task_text}
 use Rattle.translator.specs.RunTask.{FromTask}
 use Rattle.translator.specs.Store.{store}
 use Rattle.translator.proofs.OneFile.{stops_at_file, text_stops, text_given}
@@ -10,13 +10,13 @@ use Rattle.translator.proofs.work.task_of_file.Goals as goal
 
 pub returns-in_err-bytes-clause-err : goal.returns-in_err-bytes-clause-err
 returns-in_err-bytes-clause-err g c =
-    let stops = stops_at_file c.args.name.now task_limit (λ held. of_source held (WrittenTask c.args.name.now)) of_task_text (task_begins c.args.name.now)
+    let stops = stops_at_file c.args.name.now (λ held. of_source held (WrittenTask c.args.name.now)) of_task_text (task_begins c.args.name.now)
     (store g.F.Files c.args.files.now) (store g.F.Files c.read_input.new.files) _ c.in_err-bytes.ensures.err in
     search (rules, stops)
 
 pub returns-in_err-task-clause-err : goal.returns-in_err-task-clause-err
 returns-in_err-task-clause-err g c =
-    let stops = text_stops c.args.name.now task_limit (λ held. of_source held (WrittenTask c.args.name.now)) of_task_text (task_begins c.args.name.now)
+    let stops = text_stops c.args.name.now (λ held. of_source held (WrittenTask c.args.name.now)) of_task_text (task_begins c.args.name.now)
     (store g.F.Files c.args.files.now) (store g.F.Files c.read_input.new.files) _ _ c.deref.ensures.value c.in_ok-bytes.ensures.ok
     (task_told (c.args.name.now ∷ []) c.args.name.now c.deref.result.now (member_first c.args.name.now [])) _ c.in_err-task.ensures.err in
     search (rules, stops)
@@ -26,5 +26,5 @@ returns-clause-ok g c settings =
     let before = store g.F.Files c.args.files.now in
     let now = store g.F.Files c.read_input.new.files in
     task_made_so c.args.name.now before now settings c.nothing_found-found.result c.in_ok-task.task c.passes_keep_read_tasks.ensures c.in_ok-task.ensures.valid c.nothing_found-found.ensures
-    (text_given c.args.name.now task_limit (λ held. of_source held (WrittenTask c.args.name.now)) of_task_text (task_begins c.args.name.now) before now _ _ c.deref.ensures.value c.in_ok-bytes.ensures.ok
+    (text_given c.args.name.now (λ held. of_source held (WrittenTask c.args.name.now)) of_task_text (task_begins c.args.name.now) before now _ _ c.deref.ensures.value c.in_ok-bytes.ensures.ok
     (FromTask c.in_ok-task.task) c.in_ok-task.ensures.ok)
