@@ -7,7 +7,7 @@ use Rattle.pddl_lexer.specs.declared.position.At.{At}
 use Rattle.pddl_lexer.specs.declared.tree.Node.{Node}
 use Rattle.pddl_lexer.specs.declared.builder.Builder.{Builder}
 use Rattle.pddl_lexer.specs.Members.{Members, NoMore, WordThen, ListThen, count}
-use Rattle.pddl_lexer.specs.Nodes.{Entry, word_entry, list_entry, entries, entry, shown}
+use Rattle.pddl_lexer.specs.Nodes.{Entry, word_entry, list_entry, entries, content_depth, entry, shown}
 use Rattle.pddl_lexer.specs.Builder.{Partial, Outside, Within, joined, depth, with_member, with_end, entries_so_far, places_open, Represents}
 use Rattle.pddl_lexer.proofs.Places.{length-entries}
 
@@ -102,7 +102,7 @@ open_node : (around : Partial) (at : At) (read : Members) (d : Entry) → get_or
 open_node around at read d = get_or-append_seam (entries_so_far around) (list_entry at (depth around) 0) (entries (suc (depth around)) read) d
 
 represents_end_within : (b b' : Builder) (around : Partial) (at : At) (read : Members) (list below : ℕ) (n n' : Node) → Represents b (Within around at read) → list ≡ length (entries_so_far around) → b'.open.items ≡ places_open around
-    → n ≡ get_or b.nodes.items list n → b'.nodes.items ≡ set b.nodes.items list n' → entry n' ≡ list_entry n.at n.depth below → below ≡ length b.nodes.items - list - 1
+    → n ≡ get_or b.nodes.items list n → b'.nodes.items ≡ set b.nodes.items list n' → entry n' ≡ list_entry n.at (content_depth n.content) below → below ≡ length b.nodes.items - list - 1
     → Represents b' (with_member around (ListThen at read NoMore))
 represents_end_within b b' around at read list below n n' kept list_is others n-is nodes_are is below_is =
     let long = length-append (entries_so_far around) (list_entry at (depth around) 0 ∷ entries (suc (depth around)) read) in
@@ -126,7 +126,7 @@ represents_end_within b b' around at read list below n n' kept list_is others n-
     }
 
 pub represents_end : (b b' : Builder) (partial : Partial) (list len : ℕ) (n n' : Node) → Represents b partial → b.open.items ≡ b'.open.items ++ list ∷ []
-    → n ≡ get_or b.nodes.items list n → b'.nodes.items ≡ set b.nodes.items list n' → entry n' ≡ list_entry n.at n.depth (len - list - 1) → len ≡ length b.nodes.items
+    → n ≡ get_or b.nodes.items list n → b'.nodes.items ≡ set b.nodes.items list n' → entry n' ≡ list_entry n.at (content_depth n.content) (len - list - 1) → len ≡ length b.nodes.items
     → Represents b' (with_end partial)
 represents_end b b' partial list len n n' kept open_is n-is nodes_are is len_is =
     let i = innermost partial list b'.open.items (sym kept.open_are ∙ open_is) in

@@ -6,7 +6,7 @@ use Rattle.std.proofs.Math.Seq.{drop-append-add}
 use Rattle.pddl_lexer.specs.declared.position.At.{At}
 use Rattle.pddl_lexer.specs.Positions.{nowhere}
 use Rattle.pddl_lexer.specs.Members.{Members, NoMore, WordThen, ListThen, IsOneList, count, nodes, from, inside, rest, is_empty, members_at, IsPlace, beginning}
-use Rattle.pddl_lexer.specs.Nodes.{Entry, list_entry, entries, Shows, AreNodesOf, content_below, depth_of, entry, shown, kept}
+use Rattle.pddl_lexer.specs.Nodes.{Entry, list_entry, entries, Shows, AreNodesOf, content_depth, content_below, depth_of, entry, shown, kept}
 use Rattle.pddl_lexer.specs.declared.tree.Node.{Node}
 use Rattle.pddl_lexer.specs.Kept.{Ends}
 
@@ -235,7 +235,7 @@ same_length ns tree view_is inv =
 -- what a node of the code tells
 pub record Tells (tree : Members) (i : ℕ) (n : Node) : Type 0 where
   pub shows : Shows (entry n) (from tree i)
-  pub depth_is : n.depth ≡ depth_of tree i
+  pub depth_is : content_depth n.content ≡ depth_of tree i
   pub in_range : i + 1 + content_below n.content ≤ length (nodes tree)
 
 pub tells : (ns : List Node) (tree : Members) (i : ℕ) (n : Node) → kept ns ≡ tree → AreNodesOf (kept ns) ns → i < length (nodes tree) → n ≡ get_or ns i n → Tells tree i n

@@ -16,9 +16,9 @@ use Rattle.pddl_lexer.specs.Members.{Members, lowered_members}
 use Rattle.pddl_lexer.specs.Nodes.{AreNodesOf}
 use Rattle.pddl_lexer.specs.Tokens.{leading_word, spelled, written, IsTreeOf}
 use Rattle.pddl_lexer.specs.Faults.{kind_at, kind_at_end, faults_at, faults_from, tree_faults, IsFirst}
-use Rattle.pddl_lexer.specs.Builder.{Partial, with_mark, entries_so_far, Represents, Counts}
+use Rattle.pddl_lexer.specs.Builder.{Partial, depth, with_mark, entries_so_far, Represents, IsShallow, Counts}
 use Rattle.pddl_lexer.proofs.Building.{length-places, length-shown}
-use Rattle.pddl_lexer.proofs.Reading.{Agrees, IsRead, read_more, read_whole, tree_of}
+use Rattle.pddl_lexer.proofs.Reading.{Agrees, IsRead, shallow_on, read_more, read_whole, tree_of}
 
 -- what the loop keeps: behind are the bytes that were passed, the nearest first
 pub record Passed (text : List ℕ) (scanner : Scanner) (builder : Builder) (after : List ℕ) : Type 0 where
@@ -27,14 +27,18 @@ pub record Passed (text : List ℕ) (scanner : Scanner) (builder : Builder) (aft
   pub stands : StandsAfter scanner behind
   pub represents : Represents builder partial
   pub read : IsRead text behind after partial
+  pub shallow : depth partial ≤ 100
   pub lengths : length behind + length after ≡ length text
   pub fits : length text < 2 ^ 63
+
+open_are_counted : (b : Builder) (partial : Partial) → Represents b partial → vec_len b.open ≡ depth partial
+open_are_counted b partial kept = b.open.ok.0 ∙ ap length kept.open_are ∙ length-places partial
 
 counted : (b : Builder) (partial : Partial) (behind : List ℕ) → Represents b partial → Agrees partial behind → Counts b behind
 counted b partial behind kept agrees =
     let nodes_long : vec_len b.nodes ≡ length (entries_so_far partial) = b.nodes.ok.0 ∙ sym (length-shown b.nodes.items) ∙ ap length kept.nodes_are in
     record {
-      depth_is = omega (arith, agrees.depth_is, b.open.ok.0, ap length kept.open_are, length-places partial);
+      depth_is = omega (arith, agrees.depth_is, open_are_counted b partial kept);
       begun_is = agrees.begun_is ∙ sym (ap (ltb 0) nodes_long);
       opened_is = agrees.opened_is ∙ sym (ap (ltb 0) nodes_long);
     }
@@ -42,6 +46,10 @@ counted b partial behind kept agrees =
 -- the counts that the builder's tests speak of
 pub counts : (text : List ℕ) (scanner : Scanner) (b : Builder) (after : List ℕ) (p : Passed text scanner b after) → Counts b p.behind
 counts text scanner b after p = counted b p.partial p.behind p.represents p.read.agrees
+
+-- so few lists are open that their number fits a byte
+pub few_open : (text : List ℕ) (scanner : Scanner) (b : Builder) (after : List ℕ) → Passed text scanner b after → IsShallow b
+few_open text scanner b after p = omega (arith, p.shallow, open_are_counted b p.partial p.represents)
 
 line_low : (behind : List ℕ) → line behind ≤ suc (length behind)
 line_low [] = omega arith
@@ -98,13 +106,15 @@ passed_more text scanner b rest p byte after m scanner' b' rest_is m-is fine sta
     let read : IsRead text p.behind (byte ∷ after) p.partial = subst (λ (t : List ℕ). IsRead text p.behind t p.partial) rest_is p.read in
     let kept : Represents b' (with_mark m scanner.at (leading_word rest) p.partial) = represents p.partial p.represents in
     let kept' : Represents b' (with_mark m scanner.at (leading_word (byte ∷ after)) p.partial) = subst (λ (t : List ℕ). Represents b' (with_mark m scanner.at (leading_word t) p.partial)) rest_is kept in
+    let fine' : kind_at (mark p.behind byte) p.behind ≡ None = ap (λ (k : Mark). kind_at k p.behind) (sym m-is) ∙ sym fine in
     let kept'' : Represents b' (with_mark m (position p.behind) (leading_word (byte ∷ after)) p.partial) = subst (λ (l : At). Represents b' (with_mark m l (leading_word (byte ∷ after)) p.partial)) p.stands.at_is kept' in
     record {
       behind = byte ∷ p.behind;
       partial = with_mark (mark p.behind byte) (position p.behind) (leading_word (byte ∷ after)) p.partial;
       stands = stands;
       represents = subst (λ (k : Mark). Represents b' (with_mark k (position p.behind) (leading_word (byte ∷ after)) p.partial)) m-is kept'';
-      read = read_more text p.behind byte after p.partial read (ap (λ (k : Mark). kind_at k p.behind) (sym m-is) ∙ sym fine);
+      read = read_more text p.behind byte after p.partial read fine';
+      shallow = shallow_on (mark p.behind byte) p.behind (position p.behind) (leading_word (byte ∷ after)) p.partial fine' p.read.agrees p.shallow;
       lengths = omega (arith, p.lengths, ap length rest_is);
       fits = p.fits;
     }

@@ -1,5 +1,5 @@
 -- What has been read of a text, place by place.
-use Rattle.std.proofs.Common.{◌≡◌, ℕ, suc, ◌<◌, ◌+◌, Bool, true, false, cond, not, ◌&&◌, ◌||◌, ltb, List, [], ◌∷◌, ◌++◌, length, map, Option, Some, None, refl, sym, ap, subst, ◌∙◌, append_assoc, arith}
+use Rattle.std.proofs.Common.{◌≡◌, ℕ, suc, ◌<◌, ◌≤◌, ◌+◌, Bool, true, false, cond, not, ◌&&◌, ◌||◌, ltb, List, [], ◌∷◌, ◌++◌, length, map, Option, Some, None, refl, sym, ap, subst, ◌∙◌, append_assoc, arith}
 use Rattle.std.proofs.lemmas.List.{append-nil, length-append}
 use Rattle.std.proofs.lemmas.Bool.{lt-ltb, leb-false, leb-true}
 use Rattle.pddl_lexer.specs.declared.scanner.Mark.{Mark}
@@ -101,6 +101,11 @@ not_false : (b : Bool) → not b ≡ false → b ≡ true
 not_false true e = refl
 not_false false e = absurd cc
 
+-- a ( that is no fault has fewer than 100 open lists around it
+fine_depth : (behind : List ℕ) → kind_at Opening behind ≡ None → opened behind < closed behind + 100
+unfolding kind_at
+fine_depth behind e = leb-false _ _ (guard_none _ _ _ e).0
+
 fine_opening : (behind : List ℕ) → kind_at Opening behind ≡ None → after_end behind ≡ false
 unfolding kind_at
 fine_opening behind e = (guard_none _ _ _ (guard_none _ _ _ e).1).0
@@ -198,6 +203,16 @@ agrees_on Beginning behind b at word partial is fine counts single =
       },
       single_member partial (WordThen at word NoMore) deep single,
     )
+
+-- at most 100 lists are open, where no fault stands
+pub shallow_on : (m : Mark) (behind : List ℕ) (at : At) (word : List ℕ) (partial : Partial) → kind_at m behind ≡ None → Agrees partial behind → depth partial ≤ 100 → depth (with_mark m at word partial) ≤ 100
+shallow_on Nothing behind at word partial fine counts low = low
+shallow_on Bad behind at word partial fine counts low = low
+shallow_on Opening behind at word partial fine counts low = omega (arith, fine_depth behind fine, counts.depth_is)
+shallow_on Closing behind at word partial fine counts low =
+    let deep : 0 < depth partial = omega (arith, fine_closing behind fine, counts.depth_is) in
+    omega (arith, depth-with_end partial deep, low)
+shallow_on Beginning behind at word partial fine counts low = omega (arith, depth-with_member partial (WordThen at word NoMore), low)
 
 -- ---- a whole text
 

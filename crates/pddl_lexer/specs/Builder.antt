@@ -1,5 +1,5 @@
 -- A nested list that has been read in part, and how a builder keeps it.
-use Rattle.std.specs.Prelude.{◌≡◌, ℕ, suc, ◌+◌, List, [], ◌∷◌, ◌++◌, length, nat_lt}
+use Rattle.std.specs.Prelude.{◌≡◌, ℕ, suc, ◌≤◌, ◌+◌, List, [], ◌∷◌, ◌++◌, length, nat_lt}
 use Rattle.std.specs.Vec.{vec_len}
 use Rattle.pddl_lexer.specs.declared.scanner.Mark.{Mark}
 use Rattle.pddl_lexer.specs.declared.scanner.Mark.TheVariants.{Nothing, Bad, Opening, Closing, Beginning}
@@ -67,6 +67,10 @@ pub record Represents (builder : Builder) (partial : Partial) : Type 0 where
 -- the builder keeps some list
 abbrev pub IsBuilding : Builder → Type 0
 IsBuilding builder = (partial : Partial) × Represents builder partial
+
+-- at most 100 lists are open
+abbrev pub IsShallow : Builder → Type 0
+IsShallow builder = vec_len builder.open ≤ 100
 
 -- what a builder knows of the bytes that were read, where no fault stands in them
 pub record Counts (builder : Builder) (behind : List ℕ) : Type 0 where

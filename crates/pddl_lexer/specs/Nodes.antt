@@ -43,16 +43,20 @@ members (e ∷ es) depth =
     else NoMore
 
 abbrev pub content_word : Content → Option (List ℕ)
-content_word (contents.Word word) = Some word.now
-content_word (contents.List below) = None
+content_word (contents.Word depth word) = Some word.now
+content_word (contents.List depth below) = None
+
+abbrev pub content_depth : Content → ℕ
+content_depth (contents.Word depth word) = depth
+content_depth (contents.List depth below) = depth
 
 abbrev pub content_below : Content → ℕ
-content_below (contents.Word word) = 0
-content_below (contents.List below) = below
+content_below (contents.Word depth word) = 0
+content_below (contents.List depth below) = below
 
 -- a node of the code, without where its word lies in memory
 abbrev pub entry : Node → Entry
-entry n = record { at = n.at; word = content_word n.content; depth = n.depth; below = content_below n.content }
+entry n = record { at = n.at; word = content_word n.content; depth = content_depth n.content; below = content_below n.content }
 
 abbrev pub shown : List Node → List Entry
 shown ns = map entry ns

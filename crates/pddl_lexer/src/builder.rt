@@ -5,7 +5,7 @@ ghost use Rattle.std.specs.List.{prefix_len};
 ghost use Rattle.pddl_lexer.specs.Members.{WordThen, NoMore};
 ghost use Rattle.pddl_lexer.specs.Tokens.{goes_on, leading_word};
 ghost use Rattle.pddl_lexer.specs.Faults.{after_end, kind_at, kind_at_end};
-ghost use Rattle.pddl_lexer.specs.Builder.{Partial, Outside, Within, with_member, with_end, with_mark, Represents, IsBuilding, Counts};
+ghost use Rattle.pddl_lexer.specs.Builder.{Partial, Outside, Within, with_member, with_end, with_mark, Represents, IsBuilding, IsShallow, Counts};
 
 use crate::fault::Kind;
 use crate::position::At;
@@ -98,28 +98,28 @@ impl<'a> Builder<'a> {
     }
 
     fn add_word(&mut self, at: At, word: &'a [u8]) -> Result<(), AllocError>
+        requires { IsShallow self.old }
         ensures { OnOk result ((partial : Partial) → Represents self.old partial
             → Represents self.new (with_member partial (WordThen at word.now NoMore))) }
     {
-        let depth = self.open.len();
+        let depth = self.open.len() as u8;
         self.nodes.push(Node {
             at,
-            depth,
-            content: Content::Word(word),
+            content: Content::Word { depth, word },
         })?;
         Ok(())
     }
 
     fn begin_list(&mut self, at: At) -> Result<(), AllocError>
+        requires { IsShallow self.old }
         ensures { OnOk result ((partial : Partial) → Represents self.old partial
             → Represents self.new (Within partial at NoMore)) }
     {
-        let depth = self.open.len();
+        let depth = self.open.len() as u8;
         self.open.push(self.nodes.len())?;
         self.nodes.push(Node {
             at,
-            depth,
-            content: Content::List { below: 0 },
+            content: Content::List { depth, below: 0 },
         })?;
         Ok(())
     }
@@ -130,13 +130,16 @@ impl<'a> Builder<'a> {
     {
         if let Some(list) = self.open.pop() {
             let below = self.nodes.len() - list - 1;
-            self.nodes[list].content = Content::List { below };
+            let node = &mut self.nodes[list];
+            let depth = node.content.depth();
+            node.content = Content::List { depth, below };
         }
     }
 
     /// Takes what stands at a place, with which the text begins.
     pub(crate) fn add(&mut self, mark: Mark, at: At, text: &'a [u8]) -> Result<(), AllocError>
-        requires { IsBuilding self.old }
+        requires building { IsBuilding self.old }
+        requires shallow { IsShallow self.old }
         ensures { OnOk result ((partial : Partial) → Represents self.old partial
             → Represents self.new (with_mark mark at (leading_word text.now) partial)) }
     {

@@ -2,37 +2,48 @@
 
 ghost use Rattle.std.specs.Prelude.{◌≡◌, ◌<◌, ◌≤◌, ◌+◌, ◌^◌, ◌↔◌, List, None, IsNone, length};
 ghost use Rattle.pddl_lexer.specs.Members.{Members, NoMore, IsOneList, nodes, from, is_list, position, word, inside, rest, count, members_at, IsPlace, beginning};
-ghost use Rattle.pddl_lexer.specs.Nodes.{entry, content_word, content_below, Shows, IsAtDepth, AreNodesOf};
+ghost use Rattle.pddl_lexer.specs.Nodes.{entry, content_depth, content_below, Shows, IsAtDepth, AreNodesOf};
 
 use crate::position::At;
 use std::marker::Model;
 
-/// What a node is.
+/// What a node is, and how many lists it stands in: 100 at most.
+///
+/// The depth is a `u8` in both variants, and no field of `Node`, because of memory. Beside the tag it takes none, so
+/// that a node has 40 bytes. As a field of `Node` it takes 8.
 #[derive(Clone, Copy)]
 pub(crate) enum Content<'a> {
     /// A word, with its bytes as written.
-    Word(&'a [u8]),
+    Word { depth: u8, word: &'a [u8] },
     /// A list, with how many words and lists stand in it, at every depth.
-    List { below: usize },
+    List { depth: u8, below: usize },
 }
 
 /// A word or a list of the tree.
 #[derive(Clone, Copy)]
 pub(crate) struct Node<'a> {
     pub(crate) at: At,
-    /// How many lists it stands in.
-    pub(crate) depth: usize,
     pub(crate) content: Content<'a>,
 }
 
 impl<'a> Content<'a> {
+    /// How many lists the node stands in.
+    pub(crate) fn depth(&self) -> u8
+        ensures { result ≡ content_depth self.now }
+    {
+        match self {
+            Content::Word { depth, .. } => *depth,
+            Content::List { depth, .. } => *depth,
+        }
+    }
+
     /// How many words and lists stand in it, at every depth.
     fn below(&self) -> usize
         ensures { result ≡ content_below self.now }
     {
         match self {
-            Content::Word(_) => 0,
-            Content::List { below } => *below,
+            Content::Word { .. } => 0,
+            Content::List { below, .. } => *below,
         }
     }
 }
@@ -74,7 +85,7 @@ impl<'a> Tree<'a> {
         requires { i < length (nodes self.now) }
         ensures shows { Shows (entry result) (from self.now i) }
         ensures in_range { i + 1 + content_below result.content ≤ length (nodes self.now) }
-        ensures depth { IsAtDepth self.now i result.depth }
+        ensures depth { IsAtDepth self.now i (content_depth result.content) }
         ensures fits { length (nodes self.now) < 2 ^ 64 }
     {
         let _len = self.nodes.len();
@@ -114,7 +125,7 @@ impl<'a> Tree<'a> {
         ensures { result.now ≡ word (from self.now i) }
     {
         match self.node(i).content {
-            Content::Word(word) => word,
+            Content::Word { word, .. } => word,
             Content::List { .. } => &[],
         }
     }
@@ -147,7 +158,7 @@ impl<'a> Tree<'a> {
     {
         let node = self.node(i);
         let after = i + 1 + node.content.below() as u64;
-        if after < self.len() && self.node(after).depth == node.depth {
+        if after < self.len() && self.node(after).content.depth() == node.content.depth() {
             Some(after)
         } else {
             None

@@ -2,7 +2,7 @@ use Rattle.std.proofs.Common.{Err, refl, ap}
 use Rattle.pddl_lexer.proofs.Spelled.{tree_of_spelled}
 use Rattle.pddl_lexer.specs.declared.fault.Fault.{Fault}
 use Rattle.pddl_lexer.specs.declared.fault.TreeEnd.TheVariants as ends
-use Rattle.pddl_lexer.proofs.ReaderTurns.{Whole, IsAnswer, counts, line_fits, column_fits, fault_here, fault_end, first_same, some_first, passed_more, passed_all, passed_answer, first_and_others, first_and_after, nothing}
+use Rattle.pddl_lexer.proofs.ReaderTurns.{Whole, IsAnswer, counts, few_open, line_fits, column_fits, fault_here, fault_end, first_same, some_first, passed_more, passed_all, passed_answer, first_and_others, first_and_after, nothing}
 use Rattle.pddl_lexer.proofs.reader.read_tree.Goals as goal
 use Rattle.pddl_lexer.proofs.reader.read_tree.Goals.{In-None, After-drop-builder-2, After-drop-builder-in-Some, After-drop-builder-in-Some-kind_at_end}
 
@@ -22,6 +22,9 @@ pub returns-in-Some-clause-fault : goal.returns-in-Some-clause-fault
 returns-in-Some-clause-fault c = λ fault first. ap (λ (f : Fault). Err (ends.Fault f)) (first_same _ _ _ (returns-in-Some-clause-first c) first)
 
 -- ---- a turn
+
+pub add-requires-clause-shallow : goal.add-requires-clause-shallow
+add-requires-clause-shallow c = few_open _ _ _ _ c.loop-text.invariant
 
 pub after-scanner-requires-clause-line : goal.after-scanner-requires-clause-line
 after-scanner-requires-clause-line c = line_fits _ _ _ _ c.loop-text.invariant c.in-len1-up.len_at_least
