@@ -64,9 +64,9 @@ impl Outside {
     }
 
     /// Adds the files, and makes room for 4,000,000 bytes of output and 1,000 on the console.
-    pub fn prepare(&mut self, files: &[(&str, &[u8])]) -> Result<(), AllocError> {
-        for (name, bytes) in files {
-            self.add(name, bytes)?;
+    pub fn prepare(&mut self, files: &[(&str, &str)]) -> Result<(), AllocError> {
+        for (name, text) in files {
+            self.add(name, text.as_bytes())?;
         }
         self.room("output.sas", 4_000_000)?;
         self.console_room(1000)
@@ -151,9 +151,9 @@ impl Outside {
     }
 
     /// Whether what the ending says is printed and written, and the other files are as they were added.
-    pub fn stands(&self, files: &[(&str, &[u8])], ending: &Ending<'_>) -> bool {
-        for (name, bytes) in files {
-            if *name != ending.name && !self.holds(name, Some(bytes)) {
+    pub fn stands(&self, files: &[(&str, &str)], ending: &Ending<'_>) -> bool {
+        for (name, text) in files {
+            if *name != ending.name && !self.holds(name, Some(text.as_bytes())) {
                 return false;
             }
         }
@@ -164,7 +164,7 @@ impl Outside {
     pub fn ends(
         &mut self,
         alloc: Global,
-        files: &[(&str, &[u8])],
+        files: &[(&str, &str)],
         names: &[&str],
         ending: &Ending<'_>,
     ) -> Result<bool, AllocError> {
@@ -176,7 +176,7 @@ impl Outside {
     fn prepare_and_end(
         &mut self,
         alloc: Global,
-        files: &[(&str, &[u8])],
+        files: &[(&str, &str)],
         names: &[&str],
         ending: &Ending<'_>,
     ) -> Result<bool, AllocError> {
@@ -197,7 +197,7 @@ pub fn words(alloc: Global, names: &[&str]) -> Result<Vec<String>, AllocError> {
 /// Whether the call with these words, where these files and no others stand, ends so and leaves the other files.
 pub fn ends(
     alloc: Global,
-    files: &[(&str, &[u8])],
+    files: &[(&str, &str)],
     names: &[&str],
     ending: &Ending<'_>,
 ) -> Result<bool, AllocError> {

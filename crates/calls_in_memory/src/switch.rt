@@ -1,18 +1,18 @@
 //! A lamp that can be switched on, from its two files to what is written and printed.
 
-pub const DOMAIN: &[u8] = b"(define (domain switch) ; a lamp
+pub const DOMAIN: &str = "(define (domain switch) ; a lamp
  (:predicates (on) (off))
  (:action flip :parameters ()
   :precondition (off)
   :effect (and (on) (not (off)))))
 ";
 
-pub const PROBLEM: &[u8] = b"(define (problem one) (:domain switch)
+pub const PROBLEM: &str = "(define (problem one) (:domain switch)
  (:init (off))
  (:goal (on)))
 ";
 
-pub const TEXT: &[u8] = b"begin_version
+pub const TEXT: &str = "begin_version
 3
 end_version
 begin_metric
@@ -50,7 +50,7 @@ end_operator
 0
 ";
 
-pub const SUMMARY: &[u8] = b"Translator candidates: 3
+pub const SUMMARY: &str = "Translator candidates: 3
 Translator invariants: 2
 Translator variables: 1
 Translator facts: 2
@@ -60,7 +60,7 @@ Translator axioms: 0
 ";
 
 /// What is printed where the text is read back: no candidate is tried.
-pub const READ_BACK: &[u8] = b"Translator candidates: 0
+pub const READ_BACK: &str = "Translator candidates: 0
 Translator invariants: 0
 Translator variables: 1
 Translator facts: 2

@@ -13,10 +13,10 @@ mod made;
 mod prints;
 
 /// A plan of the switch task.
-const PLAN: &[u8] = b"(flip)\n";
+const PLAN: &str = "(flip)\n";
 
 /// What is printed where it is mapped back.
-const MAPPED: &[u8] = b"Translator candidates: 3
+const MAPPED: &str = "Translator candidates: 3
 Translator invariants: 2
 Translator variables: 1
 Translator facts: 2
@@ -28,10 +28,10 @@ Translator axioms: 0
 ";
 
 /// What stood in the place of the output.
-const OLDER: &[u8] = b"an older task";
+const OLDER: &str = "an older task";
 
 /// The switch domain, a problem, a plan, the switch task and an older output.
-fn files(problem: &[u8]) -> [(&str, &[u8]); 5] {
+fn files(problem: &str) -> [(&str, &str); 5] {
     [
         ("d.pddl", DOMAIN),
         ("p.pddl", problem),
@@ -42,7 +42,7 @@ fn files(problem: &[u8]) -> [(&str, &[u8]); 5] {
 }
 
 /// Adds these files, with room for what is written. A call takes sixteen bytes at most.
-fn prepare(outside: &mut Outside, problem: &[u8]) -> Result<(), AllocError> {
+fn prepare(outside: &mut Outside, problem: &str) -> Result<(), AllocError> {
     outside.most(16);
     outside.prepare(&files(problem))?;
     outside.room("new.sas", 1000)

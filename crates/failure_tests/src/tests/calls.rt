@@ -13,38 +13,38 @@ struct Run {
     names: &'static [&'static str],
     inputs: &'static [Input],
     output: &'static str,
-    unwritten: &'static [u8],
-    older: Option<&'static [u8]>,
-    text: &'static [u8],
-    printed: &'static [u8],
+    unwritten: &'static str,
+    older: Option<&'static str>,
+    text: &'static str,
+    printed: &'static str,
 }
 
 /// How many reads give a file, of which the last finds its end, and what is printed if it can't be read.
 struct Input {
     reads: u64,
-    unread: &'static [u8],
+    unread: &'static str,
 }
 
 // A call takes sixteen bytes at most. The domain has 146 bytes, the problem 69 and the plan 7. The text has 262, which
 // are seventeen writes, or reads.
 const OF_DOMAIN: Input = Input {
     reads: 11,
-    unread: b"translate: cannot read d.pddl\n",
+    unread: "translate: cannot read d.pddl\n",
 };
 
 const OF_PROBLEM: Input = Input {
     reads: 6,
-    unread: b"translate: cannot read p.pddl\n",
+    unread: "translate: cannot read p.pddl\n",
 };
 
 const OF_PLAN: Input = Input {
     reads: 2,
-    unread: b"translate: cannot read plan\n",
+    unread: "translate: cannot read plan\n",
 };
 
 const OF_TASK: Input = Input {
     reads: 18,
-    unread: b"translate: cannot read in.sas\n",
+    unread: "translate: cannot read in.sas\n",
 };
 
 static RUNS: [Run; 4] = [
@@ -52,7 +52,7 @@ static RUNS: [Run; 4] = [
         names: &["translate", "d.pddl", "p.pddl"],
         inputs: &[OF_DOMAIN, OF_PROBLEM],
         output: "output.sas",
-        unwritten: b"translate: cannot write output.sas\n",
+        unwritten: "translate: cannot write output.sas\n",
         older: Some(OLDER),
         text: TEXT,
         printed: SUMMARY,
@@ -61,7 +61,7 @@ static RUNS: [Run; 4] = [
         names: &["translate", "--sas-file", "new.sas", "d.pddl", "p.pddl"],
         inputs: &[OF_DOMAIN, OF_PROBLEM],
         output: "new.sas",
-        unwritten: b"translate: cannot write new.sas\n",
+        unwritten: "translate: cannot write new.sas\n",
         older: None,
         text: TEXT,
         printed: SUMMARY,
@@ -70,7 +70,7 @@ static RUNS: [Run; 4] = [
         names: &["translate", "--map-plan", "plan", "d.pddl", "p.pddl"],
         inputs: &[OF_DOMAIN, OF_PROBLEM, OF_PLAN],
         output: "output.sas",
-        unwritten: b"translate: cannot write output.sas\n",
+        unwritten: "translate: cannot write output.sas\n",
         older: Some(OLDER),
         text: TEXT,
         printed: MAPPED,
@@ -79,20 +79,28 @@ static RUNS: [Run; 4] = [
         names: &["translate", "--from-sas", "in.sas"],
         inputs: &[OF_TASK],
         output: "output.sas",
-        unwritten: b"translate: cannot write output.sas\n",
+        unwritten: "translate: cannot write output.sas\n",
         older: Some(OLDER),
         text: TEXT,
         printed: READ_BACK,
     },
 ];
 
+/// The bytes of a text that a file holds, if there is one.
+fn bytes(text: Option<&'static str>) -> Option<&'static [u8]> {
+    match text {
+        Some(text) => Some(text.as_bytes()),
+        None => None,
+    }
+}
+
 /// The ending of a run that can't read, which leaves what stood before.
 fn unread(run: &'static Run, input: &'static Input) -> Ending<'static> {
     Ending {
         status: Status::Device,
-        printed: input.unread,
+        printed: input.unread.as_bytes(),
         name: run.output,
-        output: run.older,
+        output: bytes(run.older),
     }
 }
 
@@ -100,7 +108,7 @@ fn unread(run: &'static Run, input: &'static Input) -> Ending<'static> {
 fn unwritten(run: &'static Run, output: Option<&'static [u8]>) -> Ending<'static> {
     Ending {
         status: Status::Device,
-        printed: run.unwritten,
+        printed: run.unwritten.as_bytes(),
         name: run.output,
         output,
     }
@@ -110,9 +118,9 @@ fn unwritten(run: &'static Run, output: Option<&'static [u8]>) -> Ending<'static
 fn done(run: &'static Run) -> Ending<'static> {
     Ending {
         status: Status::Done,
-        printed: run.printed,
+        printed: run.printed.as_bytes(),
         name: run.output,
-        output: Some(run.text),
+        output: Some(run.text.as_bytes()),
     }
 }
 
@@ -140,9 +148,10 @@ fn without_read(run: &'static Run, nth: u64) -> Ending<'static> {
 
 /// How a run ends whose nth `write` fails: those before it were taken.
 fn without_write(run: &'static Run, nth: u64) -> Ending<'static> {
+    let text = run.text.as_bytes();
     let taken = (nth as usize).saturating_sub(1).saturating_mul(16);
-    if taken < run.text.len() {
-        unwritten(run, Some(&run.text[..taken]))
+    if taken < text.len() {
+        unwritten(run, Some(&text[..taken]))
     } else {
         done(run)
     }
@@ -153,7 +162,7 @@ fn ending(run: &'static Run, what: FileCall, nth: u64) -> Ending<'static> {
     match what {
         FileCall::OpenFile => without_open(run, nth),
         FileCall::Read => without_read(run, nth),
-        FileCall::CreateFile if nth == 1 => unwritten(run, run.older),
+        FileCall::CreateFile if nth == 1 => unwritten(run, bytes(run.older)),
         FileCall::CreateFile => done(run),
         FileCall::Write => without_write(run, nth),
     }
@@ -190,11 +199,19 @@ fn kinds_told(alloc: Global, run: &'static Run) -> Result<usize, AllocError> {
     Ok(KINDS.len())
 }
 
+/// The first of the runs of which not each kind of call is told.
+fn first_other(alloc: Global) -> Result<Option<usize>, AllocError> {
+    for (number, run) in RUNS.iter().enumerate() {
+        if kinds_told(alloc, run)? != KINDS.len() {
+            return Ok(Some(number));
+        }
+    }
+    Ok(None)
+}
+
 #[test]
 fn each_call_on_files_fails_once_and_is_told(rt: HostRuntime) -> Result<(), AllocError> {
-    for run in &RUNS {
-        assert_eq!(rt; kinds_told(rt.alloc(), run)?, KINDS.len());
-    }
+    assert_eq!(rt; first_other(rt.alloc())?, None);
     Ok(())
 }
 

@@ -10,18 +10,28 @@ use translator::Status;
 /// How many bytes stand before the problem's last parenthesis.
 const LAST: usize = 67;
 
-/// What is printed of so long a front of the problem, whose line feeds are its bytes 39 and 54.
-fn printed(length: usize) -> &'static [u8] {
+/// The line and the column where so long a front of the problem ends, whose line feeds are its bytes 39 and 54.
+fn end(length: usize) -> (usize, usize) {
     match length {
-        0 => b"translate: p.pddl:1: no list\n",
-        1..=38 => b"translate: p.pddl:1: closing parenthesis missing\n",
-        39..=53 => b"translate: p.pddl:2: closing parenthesis missing\n",
-        _ => b"translate: p.pddl:3: closing parenthesis missing\n",
+        0..=38 => (1, length.saturating_add(1)),
+        39..=53 => (2, length.saturating_sub(38)),
+        _ => (3, length.saturating_sub(53)),
     }
 }
 
+/// What is printed of so long a front.
+fn printed(alloc: Global, length: usize) -> Result<String, AllocError> {
+    let (line, column) = end(length);
+    let fault = if length == 0 {
+        "no list"
+    } else {
+        "closing parenthesis missing"
+    };
+    format!(in alloc; "translate: p.pddl:{line}:{column}: {fault}\n")
+}
+
 /// Whether the problem is refused with this line, and all files stay.
-fn is_refused(alloc: Global, problem: &[u8], printed: &[u8]) -> Result<bool, AllocError> {
+fn is_refused(alloc: Global, problem: &str, printed: &[u8]) -> Result<bool, AllocError> {
     let mut outside = Outside::new(alloc);
     is_refused_in(alloc, &mut outside, problem, printed)
 }
@@ -29,26 +39,31 @@ fn is_refused(alloc: Global, problem: &[u8], printed: &[u8]) -> Result<bool, All
 fn is_refused_in(
     alloc: Global,
     outside: &mut Outside,
-    problem: &[u8],
+    problem: &str,
     printed: &[u8],
 ) -> Result<bool, AllocError> {
     prepare(outside, problem)?;
     let ending = Ending {
-        output: Some(OLDER),
+        output: Some(OLDER.as_bytes()),
         ..Ending::refused(Status::InputFault, printed)
     };
     let words = ["translate", "d.pddl", "p.pddl"];
     outside.ends(alloc, &files(problem), &words, &ending)
 }
 
+/// The first length whose front is told otherwise.
+fn first_other(alloc: Global) -> Result<Option<usize>, AllocError> {
+    for length in 0..=LAST {
+        let (problem, _) = PROBLEM.split_at_checked(length).unwrap_or((PROBLEM, ""));
+        if !is_refused(alloc, problem, printed(alloc, length)?.as_bytes())? {
+            return Ok(Some(length));
+        }
+    }
+    Ok(None)
+}
+
 #[test]
 fn a_problem_that_ends_early_is_refused_where_it_ends(rt: HostRuntime) -> Result<(), AllocError> {
-    for length in 0..=LAST {
-        let problem = &PROBLEM[..length.min(PROBLEM.len())];
-        assert!(rt;
-            is_refused(rt.alloc(), problem, printed(length))?,
-            "{length} bytes"
-        );
-    }
+    assert_eq!(rt; first_other(rt.alloc())?, None);
     Ok(())
 }

@@ -12,7 +12,7 @@ const WORDS: [&str; 3] = ["translate", "--make", "1"];
 
 /// What is printed of the task of one ball: where the ball is, where the robot is, and what each gripper has; two moves
 /// and, at each of two places, the ball picked up and dropped with each of two grippers.
-const ONE_BALL: &[u8] = b"Translator candidates: 12
+const ONE_BALL: &str = "Translator candidates: 12
 Translator invariants: 3
 Translator variables: 4
 Translator facts: 10
@@ -39,7 +39,7 @@ fn unwritten(output: &[u8]) -> Ending<'_> {
 }
 
 fn done(text: &[u8]) -> Ending<'_> {
-    Ending::done(text, ONE_BALL)
+    Ending::done(text, ONE_BALL.as_bytes())
 }
 
 /// Whether each write fails in turn and leaves those before it, until none does any more.
@@ -62,7 +62,13 @@ fn reads_nothing(alloc: Global, text: &[u8]) -> Result<bool, AllocError> {
     Ok(
         ends_so(alloc, &WORDS, FileCall::OpenFile, 1, &ending)?
             && ends_so(alloc, &WORDS, FileCall::Read, 1, &ending)?
-            && ends_so(alloc, &WORDS, FileCall::CreateFile, 1, &unwritten(OLDER))?
+            && ends_so(
+                alloc,
+                &WORDS,
+                FileCall::CreateFile,
+                1,
+                &unwritten(OLDER.as_bytes()),
+            )?
             && ends_so(alloc, &WORDS, FileCall::CreateFile, 2, &ending)?,
     )
 }

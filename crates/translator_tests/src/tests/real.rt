@@ -28,9 +28,9 @@ static PROBLEM_NAME: &str = "translate_real_problem";
 
 /// Leaves the two files of the switch task, and in the place of the output file a longer one.
 fn set_files(rt: &HostRuntime) -> io::Result<()> {
-    fs::write(rt, DOMAIN_NAME, DOMAIN)?;
-    fs::write(rt, PROBLEM_NAME, PROBLEM)?;
-    fs::write(rt, "output.sas", TEXT.repeat(rt.alloc(), 2)?.as_slice())
+    fs::write(rt, DOMAIN_NAME, DOMAIN.as_bytes())?;
+    fs::write(rt, PROBLEM_NAME, PROBLEM.as_bytes())?;
+    fs::write(rt, "output.sas", TEXT.repeat(rt.alloc(), 2)?.as_bytes())
 }
 
 fn remove_files(rt: &HostRuntime) -> io::Result<()> {
@@ -46,7 +46,7 @@ fn the_switch_task_is_written_to_the_real_output_file(rt: HostRuntime) -> Result
     let absent = ["translate", DOMAIN_NAME, "translate_no_file"];
     assert!(rt; answers(&rt, &absent, Status::Device)?);
     assert!(rt; answers(&rt, &["translate", DOMAIN_NAME, PROBLEM_NAME], Status::Done)?);
-    assert!(rt; holds(&rt, "output.sas", TEXT));
+    assert!(rt; holds(&rt, "output.sas", TEXT.as_bytes()));
     remove_files(&rt)?;
     Ok(())
 }

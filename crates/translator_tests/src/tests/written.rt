@@ -1,174 +1,6 @@
-//! What is written for pairs of files. Every text was worked by hand from the rules of the output.
+//! Grounding, conditions, goals, effects and axioms.
 
-use super::WORDS;
-use calls_in_memory::{Ending, ends};
-use std::alloc::{AllocError, Global};
-use std::process::Abort;
-use std::test::*;
-
-/// A pair of files and the task that is written for it. In its lines ` / ` stands for a line feed.
-pub(super) struct Row {
-    pub(super) domain: &'static str,
-    pub(super) problem: &'static str,
-    pub(super) metric: &'static str,
-    /// The layer of each variable, and its values.
-    pub(super) variables: &'static [(&'static str, &'static str)],
-    pub(super) groups: &'static [&'static str],
-    pub(super) state: &'static str,
-    pub(super) goal: &'static str,
-    pub(super) operators: &'static [&'static str],
-    pub(super) rules: &'static [&'static str],
-    /// How many candidates for invariants are tried, and how many of them are accepted.
-    pub(super) found: (u64, u64),
-}
-
-/// How many lines the text has.
-fn count(lines: &str) -> usize {
-    lines.split(" / ").count()
-}
-
-fn push_lines(text: &mut String, lines: &str) -> Result<(), AllocError> {
-    for line in lines.split(" / ") {
-        text.push_str(line)?;
-        text.push_str("\n")?;
-    }
-    Ok(())
-}
-
-fn push_count(alloc: Global, text: &mut String, count: usize) -> Result<(), AllocError> {
-    let line = format!(in alloc; "{count}\n")?;
-    text.push_str(&line)
-}
-
-fn push_variables(
-    alloc: Global,
-    text: &mut String,
-    variables: &[(&str, &str)],
-) -> Result<(), AllocError> {
-    push_count(alloc, text, variables.len())?;
-    for (number, (layer, values)) in variables.iter().enumerate() {
-        let range = count(values);
-        let block = format!(in alloc;
-            "begin_variable / var{number} / {layer} / {range} / {values} / end_variable"
-        )?;
-        push_lines(text, &block)?;
-    }
-    Ok(())
-}
-
-fn push_groups(alloc: Global, text: &mut String, groups: &[&str]) -> Result<(), AllocError> {
-    push_count(alloc, text, groups.len())?;
-    for facts in groups {
-        let size = count(facts);
-        let block = format!(in alloc; "begin_mutex_group / {size} / {facts} / end_mutex_group")?;
-        push_lines(text, &block)?;
-    }
-    Ok(())
-}
-
-/// The lines between the two that tell the sort.
-fn push_block(alloc: Global, text: &mut String, sort: &str, lines: &str) -> Result<(), AllocError> {
-    let block = format!(in alloc; "begin_{sort} / {lines} / end_{sort}")?;
-    push_lines(text, &block)
-}
-
-/// The blocks of operators or of rules.
-fn push_blocks(
-    alloc: Global,
-    text: &mut String,
-    sort: &str,
-    blocks: &[&str],
-) -> Result<(), AllocError> {
-    push_count(alloc, text, blocks.len())?;
-    for block in blocks {
-        push_block(alloc, text, sort, block)?;
-    }
-    Ok(())
-}
-
-impl Row {
-    /// The whole text of the task.
-    pub(super) fn text(&self, alloc: Global) -> Result<String, AllocError> {
-        let mut text = String::new(alloc);
-        self.push_text(alloc, &mut text)?;
-        Ok(text)
-    }
-
-    fn push_text(&self, alloc: Global, text: &mut String) -> Result<(), AllocError> {
-        push_block(alloc, text, "version", "3")?;
-        push_block(alloc, text, "metric", self.metric)?;
-        push_variables(alloc, text, self.variables)?;
-        push_groups(alloc, text, self.groups)?;
-        push_block(alloc, text, "state", self.state)?;
-        push_block(alloc, text, "goal", self.goal)?;
-        push_blocks(alloc, text, "operator", self.operators)?;
-        push_blocks(alloc, text, "rule", self.rules)
-    }
-
-    /// The lines that are printed: what was found, and the sizes of the task.
-    pub(super) fn summary(&self, alloc: Global) -> Result<String, AllocError> {
-        self.summary_with(alloc, self.found)
-    }
-
-    /// The same, where so many candidates were tried and accepted.
-    pub(super) fn summary_with(
-        &self,
-        alloc: Global,
-        found: (u64, u64),
-    ) -> Result<String, AllocError> {
-        let (candidates, invariants) = found;
-        let variables = self.variables.len();
-        let mut facts = 0u64;
-        for (_, values) in self.variables {
-            facts = facts.saturating_add(count(values) as u64);
-        }
-        let groups = self.groups.len();
-        let operators = self.operators.len();
-        let rules = self.rules.len();
-        format!(in alloc;
-            "Translator candidates: {candidates}\nTranslator invariants: {invariants}\nTranslator variables: {variables}\nTranslator facts: {facts}\nTranslator mutex groups: {groups}\nTranslator operators: {operators}\nTranslator axioms: {rules}\n"
-        )
-    }
-
-    /// Whether the call with these words writes its task for its files, and prints its sizes.
-    pub(super) fn is_written_by(&self, alloc: Global, words: &[&str]) -> Result<bool, AllocError> {
-        self.is_written_on(alloc, &self.files(), words, self.found)
-    }
-
-    /// The same where no file stands.
-    pub(super) fn is_made_by(&self, alloc: Global, words: &[&str]) -> Result<bool, AllocError> {
-        self.is_written_on(alloc, &[], words, self.found)
-    }
-
-    /// The same on these files, where so many candidates are tried and accepted.
-    pub(super) fn is_written_on(
-        &self,
-        alloc: Global,
-        files: &[(&str, &[u8])],
-        words: &[&str],
-        found: (u64, u64),
-    ) -> Result<bool, AllocError> {
-        let text = self.text(alloc)?;
-        let summary = self.summary_with(alloc, found)?;
-        let ending = Ending::done(text.as_bytes(), summary.as_bytes());
-        ends(alloc, files, words, &ending)
-    }
-
-    /// Its two files.
-    pub(super) fn files(&self) -> [(&str, &[u8]); 2] {
-        [
-            ("d.pddl", self.domain.as_bytes()),
-            ("p.pddl", self.problem.as_bytes()),
-        ]
-    }
-}
-
-pub(super) fn assert_rows(rt: &impl Abort, alloc: Global, rows: &[Row]) -> Result<(), AllocError> {
-    for (number, row) in rows.iter().enumerate() {
-        assert!(rt; row.is_written_by(alloc, &WORDS)?, "row {number}");
-    }
-    Ok(())
-}
+use super::rows::Row;
 
 pub(super) const SHOP: &str =
     "(define (domain shop) (:predicates (done ?x)) (:functions (total-cost) - number (price ?x) - number)
@@ -189,18 +21,14 @@ pub(super) const TOUCHED: Row = Row {
     domain: TOUCH,
     problem: TOUCH_PROBLEM,
     metric: "0",
-    variables: &[
-        ("-1", "Atom p() / NegatedAtom p()"),
-        ("-1", "Atom q() / NegatedAtom q()"),
-    ],
-    groups: &[],
+    variables: "-1 / Atom p() / NegatedAtom p()
+-1 / Atom q() / NegatedAtom q()",
+    groups: "",
     state: "0 / 0",
     goal: "1 / 1 1",
-    operators: &[
-        "drop-p / 0 / 1 / 0 0 0 1 / 1",
-        "touch / 0 / 2 / 1 0 0 1 -1 0 / 2 0 1 1 0 1 -1 1 / 1",
-    ],
-    rules: &[],
+    operators: "drop-p / 0 / 1 / 0 0 0 1 / 1
+touch / 0 / 2 / 1 0 0 1 -1 0 / 2 0 1 1 0 1 -1 1 / 1",
+    rules: "",
     found: (2, 1),
 };
 
@@ -213,12 +41,12 @@ pub(super) static GROUNDING: [Row; 9] = [
         domain: SHOP,
         problem: "(define (problem s) (:domain shop) (:objects a b) (:init (= (total-cost) 0) (= (price a) 7)) (:goal (done a)) (:metric minimize (total-cost)))",
         metric: "1",
-        variables: &[("-1", "Atom done(a) / NegatedAtom done(a)")],
-        groups: &[],
+        variables: "-1 / Atom done(a) / NegatedAtom done(a)",
+        groups: "",
         state: "1",
         goal: "1 / 0 0",
-        operators: &["go a / 0 / 1 / 0 0 -1 0 / 7"],
-        rules: &[],
+        operators: "go a / 0 / 1 / 0 0 -1 0 / 7",
+        rules: "",
         found: (2, 0),
     },
     // Without the metric costs don't count.
@@ -226,15 +54,14 @@ pub(super) static GROUNDING: [Row; 9] = [
         domain: SHOP,
         problem: UNPRICED,
         metric: "0",
-        variables: &[
-            ("-1", "Atom done(a) / NegatedAtom done(a)"),
-            ("-1", "Atom done(b) / NegatedAtom done(b)"),
-        ],
-        groups: &[],
+        variables: "-1 / Atom done(a) / NegatedAtom done(a)
+-1 / Atom done(b) / NegatedAtom done(b)",
+        groups: "",
         state: "1 / 1",
         goal: "1 / 0 0",
-        operators: &["go a / 0 / 1 / 0 0 -1 0 / 1", "go b / 0 / 1 / 0 1 -1 0 / 1"],
-        rules: &[],
+        operators: "go a / 0 / 1 / 0 0 -1 0 / 1
+go b / 0 / 1 / 0 1 -1 0 / 1",
+        rules: "",
         found: (2, 0),
     },
     // An argument need not fit the type that its predicate declares.
@@ -242,12 +69,12 @@ pub(super) static GROUNDING: [Row; 9] = [
         domain: FIT,
         problem: "(define (problem f) (:domain fit) (:objects a - t b - u) (:init (p b)) (:goal (done)))",
         metric: "0",
-        variables: &[("-1", "Atom done() / NegatedAtom done()")],
-        groups: &[],
+        variables: "-1 / Atom done() / NegatedAtom done()",
+        groups: "",
         state: "1",
         goal: "1 / 0 0",
-        operators: &["go b / 0 / 1 / 0 0 -1 0 / 1"],
-        rules: &[],
+        operators: "go b / 0 / 1 / 0 0 -1 0 / 1",
+        rules: "",
         found: (1, 0),
     },
     // A goal out of reach is given to the holder, which never has the value that it needs.
@@ -255,12 +82,12 @@ pub(super) static GROUNDING: [Row; 9] = [
         domain: FIT,
         problem: "(define (problem f) (:domain fit) (:objects a - t b - u) (:init (p a)) (:goal (done)))",
         metric: "0",
-        variables: &[("-1", "Atom goal@holder() / NegatedAtom goal@holder()")],
-        groups: &[],
+        variables: "-1 / Atom goal@holder() / NegatedAtom goal@holder()",
+        groups: "",
         state: "1",
         goal: "1 / 0 0",
-        operators: &[],
-        rules: &[],
+        operators: "",
+        rules: "",
         found: (1, 0),
     },
     // A static negative literal; an inequality of two parameters, and an equality with a constant: of the nine pairs
@@ -270,12 +97,12 @@ pub(super) static GROUNDING: [Row; 9] = [
  (:action unlock :parameters (?x ?y) :precondition (and (not (locked ?x)) (not (= ?x ?y)) (= ?y b)) :effect (open ?x)))",
         problem: "(define (problem d) (:domain doors) (:objects a c) (:init (locked c)) (:goal (open a)))",
         metric: "0",
-        variables: &[("-1", "Atom open(a) / NegatedAtom open(a)")],
-        groups: &[],
+        variables: "-1 / Atom open(a) / NegatedAtom open(a)",
+        groups: "",
         state: "1",
         goal: "1 / 0 0",
-        operators: &["unlock a b / 0 / 1 / 0 0 -1 0 / 1"],
-        rules: &[],
+        operators: "unlock a b / 0 / 1 / 0 0 -1 0 / 1",
+        rules: "",
         found: (2, 0),
     },
     // Nine parameters.
@@ -284,12 +111,12 @@ pub(super) static GROUNDING: [Row; 9] = [
  (:action act :parameters (?a ?b ?c ?d ?e ?f ?g ?h ?i) :effect (done)))",
         problem: "(define (problem n) (:domain nine) (:objects o) (:init) (:goal (done)))",
         metric: "0",
-        variables: &[("-1", "Atom done() / NegatedAtom done()")],
-        groups: &[],
+        variables: "-1 / Atom done() / NegatedAtom done()",
+        groups: "",
         state: "1",
         goal: "1 / 0 0",
-        operators: &["act o o o o o o o o o / 0 / 1 / 0 0 -1 0 / 1"],
-        rules: &[],
+        operators: "act o o o o o o o o o / 0 / 1 / 0 0 -1 0 / 1",
+        rules: "",
         found: (1, 0),
     },
     // A parameter of a type without objects gives no operator.
@@ -298,12 +125,12 @@ pub(super) static GROUNDING: [Row; 9] = [
  (:action first :parameters (?x - spare) :effect (q)) (:action second :effect (p)))",
         problem: "(define (problem n) (:domain none) (:init) (:goal (p)))",
         metric: "0",
-        variables: &[("-1", "Atom p() / NegatedAtom p()")],
-        groups: &[],
+        variables: "-1 / Atom p() / NegatedAtom p()",
+        groups: "",
         state: "1",
         goal: "1 / 0 0",
-        operators: &["second / 0 / 1 / 0 0 -1 0 / 1"],
-        rules: &[],
+        operators: "second / 0 / 1 / 0 0 -1 0 / 1",
+        rules: "",
         found: (2, 0),
     },
     // A disjunction gives two operators of one name.
@@ -311,19 +138,15 @@ pub(super) static GROUNDING: [Row; 9] = [
         domain: "(define (domain two) (:predicates (on) (off) (dim)) (:action flip :precondition (or (off) (dim)) :effect (on)) (:action fade :precondition (off) :effect (dim)))",
         problem: "(define (problem t) (:domain two) (:init (off)) (:goal (on)))",
         metric: "0",
-        variables: &[
-            ("-1", "Atom on() / NegatedAtom on()"),
-            ("-1", "Atom dim() / NegatedAtom dim()"),
-        ],
-        groups: &[],
+        variables: "-1 / Atom on() / NegatedAtom on()
+-1 / Atom dim() / NegatedAtom dim()",
+        groups: "",
         state: "1 / 1",
         goal: "1 / 0 0",
-        operators: &[
-            "fade / 0 / 1 / 0 1 -1 0 / 1",
-            "flip / 0 / 1 / 0 0 -1 0 / 1",
-            "flip / 1 / 1 0 / 1 / 0 0 -1 0 / 1",
-        ],
-        rules: &[],
+        operators: "fade / 0 / 1 / 0 1 -1 0 / 1
+flip / 0 / 1 / 0 0 -1 0 / 1
+flip / 1 / 1 0 / 1 / 0 0 -1 0 / 1",
+        rules: "",
         found: (2, 0),
     },
     // A fact that is reached only once an atom is deleted.
@@ -331,26 +154,17 @@ pub(super) static GROUNDING: [Row; 9] = [
         domain: "(define (domain late) (:predicates (p) (g)) (:action wipe :precondition (p) :effect (not (p))) (:action go :precondition (not (p)) :effect (g)))",
         problem: "(define (problem l) (:domain late) (:init (p)) (:goal (g)))",
         metric: "0",
-        variables: &[
-            ("-1", "Atom p() / NegatedAtom p()"),
-            ("-1", "Atom g() / NegatedAtom g()"),
-        ],
-        groups: &[],
+        variables: "-1 / Atom p() / NegatedAtom p()
+-1 / Atom g() / NegatedAtom g()",
+        groups: "",
         state: "0 / 1",
         goal: "1 / 1 0",
-        operators: &[
-            "go / 1 / 0 1 / 1 / 0 1 -1 0 / 1",
-            "wipe / 0 / 1 / 0 0 0 1 / 1",
-        ],
-        rules: &[],
+        operators: "go / 1 / 0 1 / 1 / 0 1 -1 0 / 1
+wipe / 0 / 1 / 0 0 0 1 / 1",
+        rules: "",
         found: (2, 1),
     },
 ];
-
-#[test]
-fn instances_are_those_whose_static_conditions_hold(rt: HostRuntime) -> Result<(), AllocError> {
-    assert_rows(&rt, rt.alloc(), &GROUNDING)
-}
 
 /// The switch domain with this precondition, and an empty type.
 const LAMP: &str = "(define (domain switch) (:types spare) (:predicates (on) (off))
@@ -361,18 +175,18 @@ const DARK: &str = "(define (domain switch) (:types spare) (:predicates (on) (of
 
 const ONE: &str = "(define (problem one) (:domain switch) (:init (off)) (:goal (on)))";
 
-static CONDITIONS: [Row; 10] = [
+pub(super) static CONDITIONS: [Row; 10] = [
     // All objects of a type without objects.
     Row {
         domain: LAMP,
         problem: ONE,
         metric: "0",
-        variables: &[("-1", "Atom on() / Atom off()")],
-        groups: &["0 0 / 0 1"],
+        variables: "-1 / Atom on() / Atom off()",
+        groups: "0 0 / 0 1",
         state: "1",
         goal: "1 / 0 0",
-        operators: &["flip / 0 / 1 / 0 0 1 0 / 1"],
-        rules: &[],
+        operators: "flip / 0 / 1 / 0 0 1 0 / 1",
+        rules: "",
         found: (3, 2),
     },
     // Some object of such a type: nothing can be done, and `off` is true for good.
@@ -380,12 +194,12 @@ static CONDITIONS: [Row; 10] = [
         domain: DARK,
         problem: ONE,
         metric: "0",
-        variables: &[("-1", "Atom goal@holder() / NegatedAtom goal@holder()")],
-        groups: &[],
+        variables: "-1 / Atom goal@holder() / NegatedAtom goal@holder()",
+        groups: "",
         state: "1",
         goal: "1 / 0 0",
-        operators: &[],
-        rules: &[],
+        operators: "",
+        rules: "",
         found: (3, 2),
     },
     // A goal out of reach.
@@ -393,12 +207,12 @@ static CONDITIONS: [Row; 10] = [
         domain: "(define (domain switch) ; a lamp\n (:predicates (on) (off))\n (:action flip :parameters ()\n  :precondition (off)\n  :effect (and (on) (not (off)))))",
         problem: "(define (problem one) (:domain switch) (:init) (:goal (on)))",
         metric: "0",
-        variables: &[("-1", "Atom goal@holder() / NegatedAtom goal@holder()")],
-        groups: &[],
+        variables: "-1 / Atom goal@holder() / NegatedAtom goal@holder()",
+        groups: "",
         state: "1",
         goal: "1 / 0 0",
-        operators: &[],
-        rules: &[],
+        operators: "",
+        rules: "",
         found: (3, 2),
     },
     // A goal without alternatives is false.
@@ -406,15 +220,13 @@ static CONDITIONS: [Row; 10] = [
         domain: LAMP,
         problem: "(define (problem one) (:domain switch) (:init (off)) (:goal (or)))",
         metric: "0",
-        variables: &[
-            ("-1", "Atom on() / Atom off()"),
-            ("-1", "Atom goal@holder() / NegatedAtom goal@holder()"),
-        ],
-        groups: &["0 0 / 0 1"],
+        variables: "-1 / Atom on() / Atom off()
+-1 / Atom goal@holder() / NegatedAtom goal@holder()",
+        groups: "0 0 / 0 1",
         state: "1 / 1",
         goal: "1 / 1 0",
-        operators: &["flip / 0 / 1 / 0 0 1 0 / 1"],
-        rules: &[],
+        operators: "flip / 0 / 1 / 0 0 1 0 / 1",
+        rules: "",
         found: (3, 2),
     },
     // A goal that holds at once, of an atom that no operator changes any more: its variable has one value, and goes.
@@ -422,12 +234,12 @@ static CONDITIONS: [Row; 10] = [
         domain: LAMP,
         problem: "(define (problem one) (:domain switch) (:init (on)) (:goal (on)))",
         metric: "0",
-        variables: &[("-1", "Atom goal@holder() / NegatedAtom goal@holder()")],
-        groups: &[],
+        variables: "-1 / Atom goal@holder() / NegatedAtom goal@holder()",
+        groups: "",
         state: "0",
         goal: "1 / 0 0",
-        operators: &[],
-        rules: &[],
+        operators: "",
+        rules: "",
         found: (3, 2),
     },
     // A goal that always holds asks for nothing.
@@ -435,15 +247,13 @@ static CONDITIONS: [Row; 10] = [
         domain: "(define (domain switch) (:predicates (on) (off) (lit)) (:action flip :precondition (off) :effect (and (on) (not (off)))))",
         problem: "(define (problem one) (:domain switch) (:init (lit) (off)) (:goal (lit)))",
         metric: "0",
-        variables: &[
-            ("-1", "Atom on() / Atom off()"),
-            ("-1", "Atom goal@holder() / NegatedAtom goal@holder()"),
-        ],
-        groups: &["0 0 / 0 1"],
+        variables: "-1 / Atom on() / Atom off()
+-1 / Atom goal@holder() / NegatedAtom goal@holder()",
+        groups: "0 0 / 0 1",
         state: "1 / 0",
         goal: "1 / 1 0",
-        operators: &["flip / 0 / 1 / 0 0 1 0 / 1"],
-        rules: &[],
+        operators: "flip / 0 / 1 / 0 0 1 0 / 1",
+        rules: "",
         found: (3, 2),
     },
     // A goal of a negative literal: `on`, or none of the two, which never comes.
@@ -451,15 +261,13 @@ static CONDITIONS: [Row; 10] = [
         domain: LAMP,
         problem: "(define (problem one) (:domain switch) (:init (off)) (:goal (not (off))))",
         metric: "0",
-        variables: &[
-            ("-1", "Atom on() / Atom off()"),
-            ("0", "Atom goal@split() / NegatedAtom goal@split()"),
-        ],
-        groups: &["0 0 / 0 1"],
+        variables: "-1 / Atom on() / Atom off()
+0 / Atom goal@split() / NegatedAtom goal@split()",
+        groups: "0 0 / 0 1",
         state: "1 / 1",
         goal: "1 / 1 0",
-        operators: &["flip / 0 / 1 / 0 0 1 0 / 1"],
-        rules: &["1 / 0 0 / 1 1 0"],
+        operators: "flip / 0 / 1 / 0 0 1 0 / 1",
+        rules: "1 / 0 0 / 1 1 0",
         found: (3, 2),
     },
     // A goal with two alternatives is a derived atom with two rules.
@@ -467,19 +275,16 @@ static CONDITIONS: [Row; 10] = [
         domain: "(define (domain choice) (:predicates (p) (q)) (:action left :effect (p)) (:action right :effect (q)))",
         problem: "(define (problem c) (:domain choice) (:init) (:goal (or (p) (not (q)))))",
         metric: "0",
-        variables: &[
-            ("-1", "Atom p() / NegatedAtom p()"),
-            ("-1", "Atom q() / NegatedAtom q()"),
-            ("0", "Atom new-axiom@0() / NegatedAtom new-axiom@0()"),
-        ],
-        groups: &[],
+        variables: "-1 / Atom p() / NegatedAtom p()
+-1 / Atom q() / NegatedAtom q()
+0 / Atom new-axiom@0() / NegatedAtom new-axiom@0()",
+        groups: "",
         state: "1 / 1 / 1",
         goal: "1 / 2 0",
-        operators: &[
-            "left / 0 / 1 / 0 0 -1 0 / 1",
-            "right / 0 / 1 / 0 1 -1 0 / 1",
-        ],
-        rules: &["1 / 0 0 / 2 1 0", "1 / 1 1 / 2 1 0"],
+        operators: "left / 0 / 1 / 0 0 -1 0 / 1
+right / 0 / 1 / 0 1 -1 0 / 1",
+        rules: "1 / 0 0 / 2 1 0
+1 / 1 1 / 2 1 0",
         found: (2, 0),
     },
     // So is one that asks for some object.
@@ -487,19 +292,16 @@ static CONDITIONS: [Row; 10] = [
         domain: "(define (domain some) (:predicates (p ?x)) (:action set :parameters (?x) :effect (p ?x)))",
         problem: "(define (problem e) (:domain some) (:objects a b) (:init) (:goal (exists (?x) (p ?x))))",
         metric: "0",
-        variables: &[
-            ("-1", "Atom p(a) / NegatedAtom p(a)"),
-            ("-1", "Atom p(b) / NegatedAtom p(b)"),
-            ("0", "Atom new-axiom@0() / NegatedAtom new-axiom@0()"),
-        ],
-        groups: &[],
+        variables: "-1 / Atom p(a) / NegatedAtom p(a)
+-1 / Atom p(b) / NegatedAtom p(b)
+0 / Atom new-axiom@0() / NegatedAtom new-axiom@0()",
+        groups: "",
         state: "1 / 1 / 1",
         goal: "1 / 2 0",
-        operators: &[
-            "set a / 0 / 1 / 0 0 -1 0 / 1",
-            "set b / 0 / 1 / 0 1 -1 0 / 1",
-        ],
-        rules: &["1 / 0 0 / 2 1 0", "1 / 1 0 / 2 1 0"],
+        operators: "set a / 0 / 1 / 0 0 -1 0 / 1
+set b / 0 / 1 / 0 1 -1 0 / 1",
+        rules: "1 / 0 0 / 2 1 0
+1 / 1 0 / 2 1 0",
         found: (2, 0),
     },
     // A `forall` over which four variables are free is a derived atom of four arguments.
@@ -509,30 +311,18 @@ static CONDITIONS: [Row; 10] = [
  (:action set :parameters (?x) :effect (p ?x ?x ?x ?x ?x)))",
         problem: "(define (problem f) (:domain four) (:objects o) (:init) (:goal (done)))",
         metric: "0",
-        variables: &[
-            ("-1", "Atom p(o, o, o, o, o) / NegatedAtom p(o, o, o, o, o)"),
-            ("-1", "Atom done() / NegatedAtom done()"),
-            (
-                "0",
-                "Atom new-axiom@0(o, o, o, o) / NegatedAtom new-axiom@0(o, o, o, o)",
-            ),
-        ],
-        groups: &[],
+        variables: "-1 / Atom p(o, o, o, o, o) / NegatedAtom p(o, o, o, o, o)
+-1 / Atom done() / NegatedAtom done()
+0 / Atom new-axiom@0(o, o, o, o) / NegatedAtom new-axiom@0(o, o, o, o)",
+        groups: "",
         state: "1 / 1 / 1",
         goal: "1 / 1 0",
-        operators: &[
-            "act o o o o / 1 / 2 1 / 1 / 0 1 -1 0 / 1",
-            "set o / 0 / 1 / 0 0 -1 0 / 1",
-        ],
-        rules: &["1 / 0 1 / 2 1 0"],
+        operators: "act o o o o / 1 / 2 1 / 1 / 0 1 -1 0 / 1
+set o / 0 / 1 / 0 0 -1 0 / 1",
+        rules: "1 / 0 1 / 2 1 0",
         found: (7, 0),
     },
 ];
-
-#[test]
-fn conditions_and_goals_of_all_forms_are_translated(rt: HostRuntime) -> Result<(), AllocError> {
-    assert_rows(&rt, rt.alloc(), &CONDITIONS)
-}
 
 pub(super) static EFFECTS: [Row; 8] = [
     // A delete effect without a condition needs none in the task, since nothing sets the other value.
@@ -540,12 +330,12 @@ pub(super) static EFFECTS: [Row; 8] = [
         domain: "(define (domain w) (:predicates (p)) (:action wipe :effect (not (p))))",
         problem: "(define (problem w) (:domain w) (:init (p)) (:goal (not (p))))",
         metric: "0",
-        variables: &[("-1", "Atom p() / NegatedAtom p()")],
-        groups: &[],
+        variables: "-1 / Atom p() / NegatedAtom p()",
+        groups: "",
         state: "0",
         goal: "1 / 0 1",
-        operators: &["wipe / 0 / 1 / 0 0 -1 1 / 1"],
-        rules: &[],
+        operators: "wipe / 0 / 1 / 0 0 -1 1 / 1",
+        rules: "",
         found: (1, 1),
     },
     // A delete effect yields to an add effect that fires.
@@ -555,19 +345,15 @@ pub(super) static EFFECTS: [Row; 8] = [
         domain: "(define (domain yield) (:predicates (p) (q) (r)) (:action act :effect (and (not (q)) (when (and (p) (not (r))) (q)))) (:action change :effect (and (not (p)) (r))))",
         problem: "(define (problem y) (:domain yield) (:init (p) (q)) (:goal (not (q))))",
         metric: "0",
-        variables: &[
-            ("-1", "Atom p() / NegatedAtom p()"),
-            ("-1", "Atom q() / NegatedAtom q()"),
-            ("-1", "Atom r() / NegatedAtom r()"),
-        ],
-        groups: &[],
+        variables: "-1 / Atom p() / NegatedAtom p()
+-1 / Atom q() / NegatedAtom q()
+-1 / Atom r() / NegatedAtom r()",
+        groups: "",
         state: "0 / 0 / 1",
         goal: "1 / 1 1",
-        operators: &[
-            "act / 0 / 3 / 2 0 0 2 1 1 -1 0 / 2 0 1 1 0 1 -1 1 / 2 1 0 2 0 1 -1 1 / 1",
-            "change / 0 / 2 / 0 0 -1 1 / 0 2 -1 0 / 1",
-        ],
-        rules: &[],
+        operators: "act / 0 / 3 / 2 0 0 2 1 1 -1 0 / 2 0 1 1 0 1 -1 1 / 2 1 0 2 0 1 -1 1 / 1
+change / 0 / 2 / 0 0 -1 1 / 0 2 -1 0 / 1",
+        rules: "",
         found: (3, 1),
     },
     // A delete under a condition.
@@ -575,18 +361,14 @@ pub(super) static EFFECTS: [Row; 8] = [
         domain: "(define (domain fade) (:predicates (p) (q)) (:action act :effect (when (q) (not (p)))) (:action set :effect (q)))",
         problem: "(define (problem f) (:domain fade) (:init (p)) (:goal (not (p))))",
         metric: "0",
-        variables: &[
-            ("-1", "Atom p() / NegatedAtom p()"),
-            ("-1", "Atom q() / NegatedAtom q()"),
-        ],
-        groups: &[],
+        variables: "-1 / Atom p() / NegatedAtom p()
+-1 / Atom q() / NegatedAtom q()",
+        groups: "",
         state: "0 / 1",
         goal: "1 / 0 1",
-        operators: &[
-            "act / 0 / 1 / 1 1 0 0 -1 1 / 1",
-            "set / 0 / 1 / 0 1 -1 0 / 1",
-        ],
-        rules: &[],
+        operators: "act / 0 / 1 / 1 1 0 0 -1 1 / 1
+set / 0 / 1 / 0 1 -1 0 / 1",
+        rules: "",
         found: (2, 1),
     },
     // The condition of an effect is looked at before the action, so what is deleted may be its condition.
@@ -594,18 +376,14 @@ pub(super) static EFFECTS: [Row; 8] = [
         domain: "(define (domain turn) (:predicates (p) (q)) (:action act :effect (and (not (p)) (when (p) (q)))) (:action more :effect (q)))",
         problem: "(define (problem t) (:domain turn) (:init (p)) (:goal (q)))",
         metric: "0",
-        variables: &[
-            ("-1", "Atom p() / NegatedAtom p()"),
-            ("-1", "Atom q() / NegatedAtom q()"),
-        ],
-        groups: &[],
+        variables: "-1 / Atom p() / NegatedAtom p()
+-1 / Atom q() / NegatedAtom q()",
+        groups: "",
         state: "0 / 1",
         goal: "1 / 1 0",
-        operators: &[
-            "act / 0 / 2 / 0 0 -1 1 / 1 0 0 1 -1 0 / 1",
-            "more / 0 / 1 / 0 1 -1 0 / 1",
-        ],
-        rules: &[],
+        operators: "act / 0 / 2 / 0 0 -1 1 / 1 0 0 1 -1 0 / 1
+more / 0 / 1 / 0 1 -1 0 / 1",
+        rules: "",
         found: (3, 1),
     },
     // What is deleted and added is true.
@@ -613,15 +391,13 @@ pub(super) static EFFECTS: [Row; 8] = [
         domain: "(define (domain both) (:predicates (p) (q)) (:action act :effect (and (not (p)) (p) (q))))",
         problem: "(define (problem b) (:domain both) (:init) (:goal (q)))",
         metric: "0",
-        variables: &[
-            ("-1", "Atom p() / NegatedAtom p()"),
-            ("-1", "Atom q() / NegatedAtom q()"),
-        ],
-        groups: &[],
+        variables: "-1 / Atom p() / NegatedAtom p()
+-1 / Atom q() / NegatedAtom q()",
+        groups: "",
         state: "1 / 1",
         goal: "1 / 1 0",
-        operators: &["act / 0 / 2 / 0 0 -1 0 / 0 1 -1 0 / 1"],
-        rules: &[],
+        operators: "act / 0 / 2 / 0 0 -1 0 / 0 1 -1 0 / 1",
+        rules: "",
         found: (2, 0),
     },
     // A derived atom in the goal, in an effect's condition, and negated in an axiom's body, in three layers.
@@ -630,18 +406,18 @@ pub(super) static EFFECTS: [Row; 8] = [
  (:action toggle :effect (and (p) (when (calm) (seen)))))",
         problem: "(define (problem w) (:domain watch) (:init) (:goal (and (seen) (lit))))",
         metric: "0",
-        variables: &[
-            ("-1", "Atom p() / NegatedAtom p()"),
-            ("0", "Atom lit() / NegatedAtom lit()"),
-            ("1", "Atom dark() / NegatedAtom dark()"),
-            ("2", "Atom calm() / NegatedAtom calm()"),
-            ("-1", "Atom seen() / NegatedAtom seen()"),
-        ],
-        groups: &[],
+        variables: "-1 / Atom p() / NegatedAtom p()
+0 / Atom lit() / NegatedAtom lit()
+1 / Atom dark() / NegatedAtom dark()
+2 / Atom calm() / NegatedAtom calm()
+-1 / Atom seen() / NegatedAtom seen()",
+        groups: "",
         state: "1 / 1 / 1 / 1 / 1",
         goal: "2 / 1 0 / 4 0",
-        operators: &["toggle / 0 / 2 / 0 0 -1 0 / 1 3 0 4 -1 0 / 1"],
-        rules: &["1 / 0 0 / 1 1 0", "1 / 1 1 / 2 1 0", "1 / 2 0 / 3 1 0"],
+        operators: "toggle / 0 / 2 / 0 0 -1 0 / 1 3 0 4 -1 0 / 1",
+        rules: "1 / 0 0 / 1 1 0
+1 / 1 1 / 2 1 0
+1 / 2 0 / 3 1 0",
         found: (2, 0),
     },
     // An axiom over all objects rests on a new atom, in a layer below its own.
@@ -649,34 +425,23 @@ pub(super) static EFFECTS: [Row; 8] = [
         domain: "(define (domain all) (:predicates (p ?x) (q) (r)) (:action set :parameters (?x) :effect (p ?x)) (:derived (q) (forall (?x) (p ?x))) (:derived (r) (q)))",
         problem: "(define (problem a) (:domain all) (:objects a b) (:init) (:goal (r)))",
         metric: "0",
-        variables: &[
-            ("-1", "Atom p(a) / NegatedAtom p(a)"),
-            ("-1", "Atom p(b) / NegatedAtom p(b)"),
-            ("1", "Atom q() / NegatedAtom q()"),
-            ("2", "Atom r() / NegatedAtom r()"),
-            ("0", "Atom new-axiom@0() / NegatedAtom new-axiom@0()"),
-        ],
-        groups: &[],
+        variables: "-1 / Atom p(a) / NegatedAtom p(a)
+-1 / Atom p(b) / NegatedAtom p(b)
+1 / Atom q() / NegatedAtom q()
+2 / Atom r() / NegatedAtom r()
+0 / Atom new-axiom@0() / NegatedAtom new-axiom@0()",
+        groups: "",
         state: "1 / 1 / 1 / 1 / 1",
         goal: "1 / 3 0",
-        operators: &[
-            "set a / 0 / 1 / 0 0 -1 0 / 1",
-            "set b / 0 / 1 / 0 1 -1 0 / 1",
-        ],
-        rules: &[
-            "1 / 4 1 / 2 1 0",
-            "1 / 2 0 / 3 1 0",
-            "1 / 0 1 / 4 1 0",
-            "1 / 1 1 / 4 1 0",
-        ],
+        operators: "set a / 0 / 1 / 0 0 -1 0 / 1
+set b / 0 / 1 / 0 1 -1 0 / 1",
+        rules: "1 / 4 1 / 2 1 0
+1 / 2 0 / 3 1 0
+1 / 0 1 / 4 1 0
+1 / 1 1 / 4 1 0",
         found: (2, 0),
     },
 ];
-
-#[test]
-fn conditional_effects_and_derived_atoms_are_translated(rt: HostRuntime) -> Result<(), AllocError> {
-    assert_rows(&rt, rt.alloc(), &EFFECTS)
-}
 
 /// The texts of `examples/everything`. How the task was worked stands there, in the domain.
 pub(super) static EVERYTHING: [Row; 1] = [Row {
@@ -706,28 +471,31 @@ pub(super) static EVERYTHING: [Row; 1] = [Row {
  (:metric minimize (total-cost)))
 ",
     metric: "1",
-    variables: &[
-        ("-1", "Atom at(red, home) / Atom at(red, shop)"),
-        ("0", "Atom safe(red) / NegatedAtom safe(red)"),
-        ("1", "Atom new-axiom@0() / NegatedAtom new-axiom@0()"),
-        ("1", "Atom new-axiom@1() / NegatedAtom new-axiom@1()"),
-    ],
-    groups: &["0 0 / 0 1"],
+    variables: "-1 / Atom at(red, home) / Atom at(red, shop)
+0 / Atom safe(red) / NegatedAtom safe(red)
+1 / Atom new-axiom@0() / NegatedAtom new-axiom@0()
+1 / Atom new-axiom@1() / NegatedAtom new-axiom@1()",
+    groups: "0 0 / 0 1",
     state: "1 / 1 / 1 / 1",
     goal: "1 / 3 0",
-    operators: &[
-        "go red shop home / 2 / 1 0 / 2 1 / 1 / 0 0 1 0 / 2",
-        "go red shop home / 1 / 2 1 / 1 / 0 0 1 0 / 2",
-    ],
-    rules: &[
-        "1 / 0 0 / 1 1 0",
-        "1 / 1 0 / 2 1 0",
-        "2 / 0 0 / 1 0 / 3 1 0",
-    ],
+    operators: "go red shop home / 2 / 1 0 / 2 1 / 1 / 0 0 1 0 / 2
+go red shop home / 1 / 2 1 / 1 / 0 0 1 0 / 2",
+    rules: "1 / 0 0 / 1 1 0
+1 / 1 0 / 2 1 0
+2 / 0 0 / 1 0 / 3 1 0",
     found: (4, 1),
 }];
 
-#[test]
-fn every_construct_at_once_is_translated(rt: HostRuntime) -> Result<(), AllocError> {
-    assert_rows(&rt, rt.alloc(), &EVERYTHING)
-}
+/// The switch task.
+pub(super) static LAMP_TASK: [Row; 1] = [Row {
+    domain: "(define (domain switch) (:predicates (on) (off)) (:action flip :precondition (off) :effect (and (on) (not (off)))))",
+    problem: ONE,
+    metric: "0",
+    variables: "-1 / Atom on() / Atom off()",
+    groups: "0 0 / 0 1",
+    state: "1",
+    goal: "1 / 0 0",
+    operators: "flip / 0 / 1 / 0 0 1 0 / 1",
+    rules: "",
+    found: (3, 2),
+}];
