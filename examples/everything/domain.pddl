@@ -22,6 +22,7 @@
 ;
 ; `go red shop home` where red isn't tired: it requires var0 = 1, var2 = 1 and var3 = 1, and sets var0 to 0. It would set
 ; var2 to 0 where var0 = 0, which its condition excludes, and end tiredness, which its condition excludes too. Cost 2.
+; (Red is a truck and a vehicle, and stands once among what is either.)
 ;
 ; `go red shop home` where red is safe: it requires var0 = 1, var1 = 0 and var3 = 1. It sets var0 to 0, and var2 to 1.
 ;
@@ -52,7 +53,7 @@
    (or (road ?a ?b) (exists (?p - place) (and (road ?a ?p) (road ?p ?b))))
    (forall (?u - truck) (not (safe ?u))) ())
   :effect (and (not (at ?t ?a)) (at ?t ?b) (when (tired) (not (tired)))
-   (forall (?u - truck) (when (at ?u home) (tired))) () (increase (total-cost) (length ?a ?b))))
+   (forall (?u - (either truck vehicle)) (when (at ?u home) (tired))) () (increase (total-cost) (length ?a ?b))))
  (:action rest :effect ())
  (:action wait :parameters () :precondition () :effect (and))
  (:action pay :effect (increase (total-cost) 3)))

@@ -457,7 +457,7 @@ pub(super) static EVERYTHING: [Row; 1] = [Row {
    (or (road ?a ?b) (exists (?p - place) (and (road ?a ?p) (road ?p ?b))))
    (forall (?u - truck) (not (safe ?u))) ())
   :effect (and (not (at ?t ?a)) (at ?t ?b) (when (tired) (not (tired)))
-   (forall (?u - truck) (when (at ?u home) (tired))) () (increase (total-cost) (length ?a ?b))))
+   (forall (?u - (either truck vehicle)) (when (at ?u home) (tired))) () (increase (total-cost) (length ?a ?b))))
  (:action rest :effect ())
  (:action wait :parameters () :precondition () :effect (and))
  (:action pay :effect (increase (total-cost) 3)))
