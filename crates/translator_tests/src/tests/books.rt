@@ -37,12 +37,19 @@ fn calls_the_pass(alloc: Global, outside: &mut Outside) -> Result<bool, AllocErr
     Ok(is_added && ends_with(alloc, outside, &book, &ending)?)
 }
 
-/// Whether a book without the pass is refused, and then one's own pass is called.
-fn are_looked_up(alloc: Global) -> Result<bool, AllocError> {
+fn lacks_the_pass(alloc: Global) -> Result<bool, AllocError> {
     let mut outside = Outside::new(alloc);
-    let is_refused = is_refused(alloc, &mut outside)?;
-    outside = Outside::new(alloc);
-    Ok(is_refused && calls_the_pass(alloc, &mut outside)?)
+    is_refused(alloc, &mut outside)
+}
+
+fn has_the_pass(alloc: Global) -> Result<bool, AllocError> {
+    let mut outside = Outside::new(alloc);
+    calls_the_pass(alloc, &mut outside)
+}
+
+/// Whether a book without the pass is refused, and one's own pass is called.
+fn are_looked_up(alloc: Global) -> Result<bool, AllocError> {
+    Ok(lacks_the_pass(alloc)? && has_the_pass(alloc)?)
 }
 
 #[test]

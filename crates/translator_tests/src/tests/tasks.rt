@@ -102,7 +102,7 @@ fn changed() -> [(&'static [&'static str], &'static [Row]); 10] {
 }
 
 /// Whether each of the rows is written with these options.
-fn are_written(alloc: Global, options: &[&str], rows: &[Row]) -> Result<bool, AllocError> {
+fn are_written(alloc: Global, options: &[&'static str], rows: &[Row]) -> Result<bool, AllocError> {
     let mut words = Vec::from_slice(alloc, &WORDS)?;
     words.extend_from_slice(options)?;
     for row in rows {
