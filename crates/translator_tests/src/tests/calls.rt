@@ -29,7 +29,7 @@ Translator axioms: 0
 ";
 
 /// The files that stand outside, the words, how the call ends and what it prints. Where it is done, the switch task is
-/// written.
+/// written. Tables of them are short, since the proof of one counts each row many times.
 type Call = (
     &'static [(&'static str, &'static str)],
     &'static [&'static str],
@@ -37,8 +37,8 @@ type Call = (
     &'static str,
 );
 
-static CALLS: [Call; 53] = [
-    // Options that change nothing.
+/// Options that change nothing.
+static WITHOUT_EFFECT: [Call; 4] = [
     (
         SWITCH,
         &["translate", "--", "d.pddl", "p.pddl"],
@@ -69,7 +69,10 @@ static CALLS: [Call; 53] = [
         Status::Done,
         SUMMARY,
     ),
-    // Words that are refused.
+];
+
+/// Words that are refused.
+static REFUSED: [Call; 9] = [
     (
         SWITCH,
         &["translate", "d.pddl", "p.pddl", "--full-encoding=x"],
@@ -130,6 +133,10 @@ static CALLS: [Call; 53] = [
         Status::Usage,
         USAGE,
     ),
+];
+
+/// More of them.
+static MORE_REFUSED: [Call; 8] = [
     (SWITCH, &["translate", "--help"], Status::Usage, USAGE),
     (SWITCH, &["translate", "--make", "0"], Status::Usage, USAGE),
     (
@@ -158,7 +165,10 @@ static CALLS: [Call; 53] = [
         Status::Usage,
         USAGE,
     ),
-    // Lists of passes that name one that there isn't.
+];
+
+/// Lists of passes that name one that there isn't.
+static NO_PASSES: [Call; 9] = [
     (
         SWITCH,
         &["translate", "d.pddl", "p.pddl", "--pass", "order,none"],
@@ -213,13 +223,18 @@ static CALLS: [Call; 53] = [
         Status::Usage,
         USAGE,
     ),
-    (
-        SWITCH,
-        &["translate", "d.pddl", "p.pddl", "--pass", "h3"],
-        Status::Usage,
-        USAGE,
-    ),
-    // Plans that are at fault.
+];
+
+/// More of them.
+static MORE_NO_PASSES: [Call; 1] = [(
+    SWITCH,
+    &["translate", "d.pddl", "p.pddl", "--pass", "h3"],
+    Status::Usage,
+    USAGE,
+)];
+
+/// Plans that are at fault.
+static FAULTY_PLANS: [Call; 9] = [
     (
         &[("d.pddl", DOMAIN), ("p.pddl", PROBLEM), ("plan", "flip")],
         MAP_PLAN,
@@ -298,6 +313,10 @@ static CALLS: [Call; 53] = [
         Status::InputFault,
         "translate: plan:2: unknown step\n",
     ),
+];
+
+/// More of them.
+static MORE_FAULTY_PLANS: [Call; 2] = [
     (
         &[
             ("d.pddl", DOMAIN),
@@ -318,7 +337,10 @@ static CALLS: [Call; 53] = [
         Status::InputFault,
         "translate: plan:1: unknown step\n",
     ),
-    // A fault of the pair comes before what the plan file is, and that before its absence.
+];
+
+/// A fault of the pair comes before what the plan file is, and that before its absence.
+static IN_ORDER: [Call; 4] = [
     (
         SWITCH,
         MAP_PLAN,
@@ -343,7 +365,10 @@ static CALLS: [Call; 53] = [
         Status::Device,
         "translate: cannot read plan\n",
     ),
-    // A written task comes before its plan.
+];
+
+/// A written task comes before its plan.
+static WRITTEN_TASKS: [Call; 7] = [
     (
         &[],
         READ_AND_MAP,
@@ -397,9 +422,9 @@ fn holds(alloc: Global, call: &Call) -> Result<bool, AllocError> {
     ends(alloc, files, words, &ending)
 }
 
-/// The number of the first call that ends otherwise.
-fn first_other(alloc: Global) -> Result<Option<usize>, AllocError> {
-    for (number, call) in CALLS.iter().enumerate() {
+/// The number of the first of the calls that ends otherwise.
+fn first_other(alloc: Global, calls: &[Call]) -> Result<Option<usize>, AllocError> {
+    for (number, call) in calls.iter().enumerate() {
         if !holds(alloc, call)? {
             return Ok(Some(number));
         }
@@ -407,9 +432,24 @@ fn first_other(alloc: Global) -> Result<Option<usize>, AllocError> {
     Ok(None)
 }
 
+/// Whether all calls end so.
+fn all_end_so(alloc: Global) -> Result<bool, AllocError> {
+    Ok(
+        first_other(alloc, &WITHOUT_EFFECT)?.is_none()
+            && first_other(alloc, &REFUSED)?.is_none()
+            && first_other(alloc, &MORE_REFUSED)?.is_none()
+            && first_other(alloc, &NO_PASSES)?.is_none()
+            && first_other(alloc, &MORE_NO_PASSES)?.is_none()
+            && first_other(alloc, &FAULTY_PLANS)?.is_none()
+            && first_other(alloc, &MORE_FAULTY_PLANS)?.is_none()
+            && first_other(alloc, &IN_ORDER)?.is_none()
+            && first_other(alloc, &WRITTEN_TASKS)?.is_none(),
+    )
+}
+
 #[test]
 fn each_call_ends_as_its_words_and_files_say(rt: HostRuntime) -> Result<(), AllocError> {
-    assert_eq!(rt; first_other(rt.alloc())?, None);
+    assert!(rt; all_end_so(rt.alloc())?);
     Ok(())
 }
 

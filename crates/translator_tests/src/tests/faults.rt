@@ -5,13 +5,20 @@ use calls_in_memory::switch::{DOMAIN, PROBLEM};
 use std::alloc::{AllocError, Global};
 use std::test::*;
 
-/// The text of a file of the sort that the row's change of it gives: another text, or the switch task's with the second
-/// part of the change in the place of the first.
-fn changed(alloc: Global, text: &str, sort: &str, row: &str) -> Result<String, AllocError> {
-    let mut change = "";
-    for part in row.split(" | ") {
-        change = part.strip_prefix(sort).unwrap_or(change);
+/// What the row changes in the file of this sort, or nothing.
+fn change_of<'a>(sort: &str, row: &'a str) -> &'a str {
+    let (_, changes) = row.split_once(" | ").unwrap_or((row, ""));
+    let (first, second) = changes.split_once(" | ").unwrap_or((changes, ""));
+    if let Some(change) = first.strip_prefix(sort) {
+        return change;
     }
+    second.strip_prefix(sort).unwrap_or("")
+}
+
+/// The text of the file of this sort: another one, or the switch task's with the second part of the change in the place of
+/// the first.
+fn changed(alloc: Global, text: &str, sort: &str, row: &str) -> Result<String, AllocError> {
+    let change = change_of(sort, row);
     if let Some(other) = change.strip_prefix("is ") {
         return String::from_str(alloc, other);
     }
