@@ -14,6 +14,3 @@ pub use laws::{has_tree, lowering, one_tree, some_member, worked_examples};
 pub use position::At;
 pub use reader::read_tree;
 pub use tree::Tree;
-
-#[cfg(test)]
-mod tests;

@@ -8,10 +8,6 @@ mod entries;
 mod mem_console;
 mod mem_files;
 mod real;
-#[cfg(test)]
-mod real_tests;
-#[cfg(test)]
-mod tests;
 mod whole;
 
 pub use calls::FileCall;

@@ -1,4 +1,4 @@
-use super::*;
+use pddl_lexer::{At, Fault, Kind, ShapePlace, TreeEnd, read_tree};
 use std::test::*;
 
 fn fault_of(rt: HostRuntime, text: &[u8]) -> Option<Fault> {

@@ -1,10 +1,10 @@
 ghost use Rattle.std.specs.Prelude.{◌<◌, ◌^◌, IsErr};
 
-use crate::{Files, ReadEnd, RealConsole, RealFiles, put_all, read_all, say_all};
 use std::alloc::{AllocError, Global};
 use std::cell::Cell;
 use std::fmt::Display;
 use std::{fs, io};
+use tl_device::{Files, ReadEnd, RealConsole, RealFiles, put_all, read_all, say_all};
 
 // The files of a test lie where it runs, and it removes them.
 static WRITTEN: &str = "tl_device_written";

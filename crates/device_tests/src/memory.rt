@@ -1,8 +1,10 @@
 ghost use Rattle.std.specs.Prelude.{◌<◌, ◌^◌, IsSome};
 ghost use Rattle.std.specs.Bool.{OnTrue};
 
-use crate::{Console, FileCall, Files, MemConsole, MemFiles, ReadEnd, put_all, read_all, say_all};
 use std::alloc::{AllocError, Global};
+use tl_device::{
+    Console, FileCall, Files, MemConsole, MemFiles, ReadEnd, put_all, read_all, say_all,
+};
 
 // The calls that say much have functions of their own that say little, so that no proof of a test carries it.
 

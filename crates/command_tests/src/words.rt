@@ -1,6 +1,6 @@
 //! The words of many command lines. Each line is cut at blanks, and `''` in it is the empty word.
 
-use crate::{Accepted, Settings, Source, read_words};
+use command_line::{Accepted, Settings, Source, read_words};
 use std::alloc::{AllocError, Global};
 
 /// Lines that are refused.

@@ -1,4 +1,4 @@
-use super::*;
+use group_cover::{Groups, cover};
 use lists::List;
 use std::alloc::{AllocError, Global};
 use std::test::*;
