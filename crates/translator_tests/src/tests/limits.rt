@@ -1,10 +1,10 @@
 //! How many bytes a file may have.
 
-use super::are_refused;
 use calls_in_memory::switch::{DOMAIN, PROBLEM, TEXT};
 use calls_in_memory::{Ending, ends};
 use std::alloc::{AllocError, Global};
 use std::test::*;
+use translator::Status;
 
 const LIMIT: usize = 67_108_864;
 
@@ -34,6 +34,18 @@ fn files<'a>(name: &str, text: &'a str) -> [(&'static str, &'a str); 3] {
 fn filled(alloc: Global, text: &str, length: usize) -> Result<String, AllocError> {
     let blanks = " ".repeat(alloc, length.saturating_sub(text.len()))?;
     format!(in alloc; "{text}{blanks}")
+}
+
+/// Whether the call with these words is refused with this line, and no file is created.
+fn are_refused(
+    alloc: Global,
+    files: &[(&str, &str)],
+    words: &[&str],
+    line: &str,
+) -> Result<bool, AllocError> {
+    let printed = format!(in alloc; "translate: {line}\n")?;
+    let ending = Ending::refused(Status::InputFault, printed.as_bytes());
+    ends(alloc, files, words, &ending)
 }
 
 /// Whether the file of this name is accepted with blanks up to the limit.

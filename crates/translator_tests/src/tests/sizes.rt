@@ -1,9 +1,26 @@
 //! Larger tasks, of which only the sizes are told.
 
-use super::{WORDS, outcome};
-use calls_in_memory::{Ending, ends};
+use super::WORDS;
+use calls_in_memory::{Ending, Outside, ends};
 use std::alloc::{AllocError, Global};
 use std::test::*;
+
+fn written_in(
+    alloc: Global,
+    outside: &mut Outside,
+    files: &[(&str, &str)],
+    words: &[&str],
+) -> Result<Vec<u8>, AllocError> {
+    outside.prepare(files)?;
+    outside.answer(alloc, words)?;
+    Vec::from_slice(alloc, outside.content("output.sas").unwrap_or(&[]))
+}
+
+/// What the call with these words writes.
+fn written(alloc: Global, files: &[(&str, &str)], words: &[&str]) -> Result<Vec<u8>, AllocError> {
+    let mut outside = Outside::new(alloc);
+    written_in(alloc, &mut outside, files, words)
+}
 
 /// Whether the call with these words is done and prints just this, and writes the same text again.
 fn tells(
@@ -12,7 +29,7 @@ fn tells(
     words: &[&str],
     summary: &str,
 ) -> Result<bool, AllocError> {
-    let (_, text) = outcome(alloc, files, words)?;
+    let text = written(alloc, files, words)?;
     ends(
         alloc,
         files,

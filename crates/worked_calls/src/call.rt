@@ -1,0 +1,85 @@
+//! A call, and how it ends.
+
+use std::alloc::{AllocError, Global};
+
+/// What a name holds, or what is printed.
+#[derive(Drop)]
+pub enum Held {
+    Text(String),
+    /// No file has the name.
+    NoFile,
+    Anything,
+}
+
+impl Held {
+    /// Whether these bytes are what is held, or there are none.
+    pub fn is_met_by(&self, bytes: Option<&[u8]>) -> bool {
+        match (self, bytes) {
+            (Held::Anything, _) | (Held::NoFile, None) => true,
+            (Held::Text(text), Some(bytes)) => text.as_bytes() == bytes,
+            _ => false,
+        }
+    }
+}
+
+/// A name and what it holds.
+#[derive(Drop)]
+pub struct File<'a> {
+    pub name: &'a str,
+    pub held: Held,
+}
+
+/// What a text that begins here goes on with behind the next bar.
+#[derive(Clone, Copy)]
+pub enum Open {
+    Nothing,
+    Words,
+    File,
+    Printed,
+    Left,
+}
+
+/// The words of a call and the files that stand before; and the status, what is printed, and what stands afterwards, where
+/// that is something else.
+#[derive(Drop)]
+pub struct Call<'a> {
+    pub words: Vec<&'a str>,
+    pub files: Vec<File<'a>>,
+    pub status: u8,
+    pub printed: Held,
+    pub left: Vec<File<'a>>,
+    /// The part of the call that was begun last.
+    pub open: Open,
+    /// The first line that isn't understood, or the row.
+    pub misread: Option<&'a str>,
+}
+
+/// The file of this name among these.
+pub fn find<'f, 'a>(files: &'f [File<'a>], name: &str) -> Option<&'f File<'a>> {
+    files.iter().find(|file| file.name == name)
+}
+
+impl<'a> Call<'a> {
+    /// No word and no file, done without a printed line.
+    pub fn new(alloc: Global) -> Call<'a> {
+        Call {
+            words: Vec::new(alloc),
+            files: Vec::new(alloc),
+            status: 0,
+            printed: Held::Text(String::new(alloc)),
+            left: Vec::new(alloc),
+            open: Open::Nothing,
+            misread: None,
+        }
+    }
+
+    /// Takes the words of the line, which stand between blanks.
+    pub fn set_words(&mut self, line: &'a str) -> Result<(), AllocError> {
+        self.words.clear();
+        for word in line.split(' ') {
+            self.words.push(word)?;
+        }
+        self.open = Open::Words;
+        Ok(())
+    }
+}

@@ -1,0 +1,101 @@
+//! Texts that have names, and texts of one line.
+
+use crate::line::Line;
+use std::alloc::{AllocError, Global};
+
+#[derive(Drop)]
+struct Named {
+    name: String,
+    text: String,
+}
+
+/// The texts that were named so far.
+#[derive(Drop)]
+pub struct Texts {
+    named: Vec<Named>,
+}
+
+impl Texts {
+    pub fn new(alloc: Global) -> Texts {
+        Texts {
+            named: Vec::new(alloc),
+        }
+    }
+
+    pub fn find(&self, name: &str) -> Option<&str> {
+        let named = self.named.iter().find(|named| named.name.as_str() == name)?;
+        Some(&named.text)
+    }
+
+    /// Names the text behind the bars of a paragraph.
+    pub fn add(&mut self, alloc: Global, name: &str, paragraph: &str) -> Result<(), AllocError> {
+        let name = String::from_str(alloc, name)?;
+        let text = behind_bars(alloc, paragraph)?;
+        self.named.push(Named { name, text })?;
+        Ok(())
+    }
+}
+
+fn behind_bars(alloc: Global, paragraph: &str) -> Result<String, AllocError> {
+    let mut text = String::new(alloc);
+    for line in paragraph.lines() {
+        if let Line::Bar(line) = Line::of(line) {
+            push_line(&mut text, line)?;
+        }
+    }
+    Ok(text)
+}
+
+pub fn push_line(text: &mut String, line: &str) -> Result<(), AllocError> {
+    text.push_str(line)?;
+    text.push_str("\n")
+}
+
+/// What stands for a byte in a text of one line.
+static MARKS: [(&str, &str); 4] = [
+    ("\\n", "\n"),
+    ("\\t", "\t"),
+    ("\\r", "\r"),
+    ("\\x7f", "\x7f"),
+];
+
+/// The text that stands in one line.
+pub fn of_line(alloc: Global, line: &str) -> Result<String, AllocError> {
+    let mut text = String::from_str(alloc, line)?;
+    for (mark, byte) in MARKS {
+        text = text.replace(alloc, mark, byte)?;
+    }
+    with_repeated(alloc, &text)
+}
+
+/// The text with each part in braces so many times as it says.
+fn with_repeated(alloc: Global, text: &str) -> Result<String, AllocError> {
+    let mut whole = String::new(alloc);
+    for piece in text.split('{') {
+        push_piece(alloc, &mut whole, piece)?;
+    }
+    Ok(whole)
+}
+
+/// Appends what stands behind an opening brace, or before the first one.
+fn push_piece(alloc: Global, whole: &mut String, piece: &str) -> Result<(), AllocError> {
+    let Some((repeated, rest)) = piece.split_once('}') else {
+        return whole.push_str(piece);
+    };
+    push_repeated(alloc, whole, repeated)?;
+    whole.push_str(rest)
+}
+
+/// Appends the part behind the number, so many times.
+fn push_repeated(alloc: Global, whole: &mut String, repeated: &str) -> Result<(), AllocError> {
+    let (count, part) = crate::line::first_word(repeated);
+    let count = count.parse::<usize>().unwrap_or(0);
+    let Some((front, back)) = part.split_once('#') else {
+        return whole.push_str(&part.repeat(alloc, count)?);
+    };
+    for number in 0..count {
+        let numbered = format!(in alloc; "{front}{number}{back}")?;
+        whole.push_str(&numbered)?;
+    }
+    Ok(())
+}
