@@ -33,3 +33,8 @@ piece_more f xs i x before after more held made =
 
 pub piece_all : {X Y : Type 0} (f : X → List Y) (xs : List X) (i : ℕ) (all : List Y) → length xs ≤ i → all ≡ flat_map f (take i xs) → all ≡ flat_map f xs
 piece_all f xs i all past held = held ∙ ap (flat_map f) (take_all i xs past)
+
+-- the same where the list is taken apart
+pub piece_yielded : {X Y : Type 0} (f : X → List Y) (done : List X) (x : X) (before after : List Y) → before ≡ flat_map f done → after ≡ before ++ f x → after ≡ flat_map f (done ++ x ∷ [])
+piece_yielded f done x before after held made =
+    made ∙ ap (λ all. all ++ f x) held ∙ sym (flat_map-append f done (x ∷ []) ∙ ap (λ ys. flat_map f done ++ ys) (append-nil (f x)))

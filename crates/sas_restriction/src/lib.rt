@@ -1,6 +1,6 @@
 //! Restrictions of tasks: to some of their variables, in any order, to some of the values of each, and to some of their
-//! operators. A pass over tasks chooses, and `restrict` does the rest; one law says when the result may stand for the
-//! task.
+//! operators. A pass over tasks chooses, and `restrict` or `into_restriction` does the rest; one law says when the
+//! result may stand for the task.
 #![tactic(auto)]
 
 mod all;
@@ -12,4 +12,4 @@ mod whole;
 pub use all::{all_marks, all_values};
 pub use chosen::{Chosen, Once};
 pub use parts::busy_marks;
-pub use whole::restrict;
+pub use whole::{into_restriction, restrict};

@@ -62,7 +62,7 @@ pub(crate) fn new_variables(
     requires { All (λ v. v < length task.now.variables) shown.now.vars }
     ensures { IfOk result (λ variables. variables.items ≡ map (choice.new_variable (chosen shown.now) task.now) shown.now.vars) }
 {
-    let mut variables = Vec::new(alloc);
+    let mut variables = Vec::with_capacity(alloc, shown.vars().len() + 1)?;
     for var in shown.vars() {
         variables.push(new_variable(alloc, shown, task, *var)?)?;
     }
@@ -117,13 +117,18 @@ pub(crate) fn groups_left(
     Ok(groups)
 }
 
-fn new_effect(alloc: Global, shown: &Chosen, effect: &Effect) -> Result<Effect, AllocError>
-    ensures { IfOk result (λ new. new ≡ choice.new_effect (chosen shown.now) effect.now) }
+fn new_effect(shown: &Chosen, effect: Effect) -> Result<Effect, AllocError>
+    ensures { IfOk result (λ new. new ≡ choice.new_effect (chosen shown.now) effect) }
 {
+    let Effect {
+        conditions,
+        var,
+        after,
+    } = effect;
     Ok(Effect {
-        conditions: shown.new_pairs(alloc, effect.conditions.as_slice())?,
-        var: shown.new_var(effect.var),
-        after: shown.new_val(effect.var, effect.after),
+        conditions: shown.conditions_left(conditions.into_vec())?,
+        var: shown.new_var(var),
+        after: shown.new_val(var, after),
     })
 }
 
@@ -157,26 +162,21 @@ pub fn busy_marks(alloc: Global, shown: &Chosen, task: &SasTask) -> Result<Vec<b
     Ok(marks)
 }
 
-fn add_effect(
-    alloc: Global,
-    shown: &Chosen,
-    effects: &mut Vec<Effect>,
-    effect: &Effect,
-) -> Result<(), AllocError>
-    ensures { OnOk result (effects.new.items ≡ effects.old.items ++ (if choice.effect_stays (chosen shown.now) effect.now then choice.new_effect (chosen shown.now) effect.now ∷ [] else [])) }
+fn add_effect(shown: &Chosen, effects: &mut Vec<Effect>, effect: Effect) -> Result<(), AllocError>
+    ensures { OnOk result (effects.new.items ≡ effects.old.items ++ (if choice.effect_stays (chosen shown.now) effect then choice.new_effect (chosen shown.now) effect ∷ [] else [])) }
 {
-    if shown.keeps_effect(effect) {
-        effects.push(new_effect(alloc, shown, effect)?)?;
+    if shown.keeps_effect(&effect) {
+        effects.push(new_effect(shown, effect)?)?;
     }
     Ok(())
 }
 
-fn effects_left(alloc: Global, shown: &Chosen, old: &[Effect]) -> Result<Vec<Effect>, AllocError>
-    ensures { IfOk result (λ effects. effects.items ≡ map (choice.new_effect (chosen shown.now)) (filter (choice.effect_stays (chosen shown.now)) old.now)) }
+fn effects_left(alloc: Global, shown: &Chosen, old: Vec<Effect>) -> Result<Vec<Effect>, AllocError>
+    ensures { IfOk result (λ effects. effects.items ≡ map (choice.new_effect (chosen shown.now)) (filter (choice.effect_stays (chosen shown.now)) old.items)) }
 {
     let mut effects = Vec::with_capacity(alloc, old.len())?;
     for effect in old {
-        add_effect(alloc, shown, &mut effects, effect)?;
+        add_effect(shown, &mut effects, effect)?;
     }
     Ok(effects)
 }
@@ -185,17 +185,24 @@ fn new_operator(
     alloc: Global,
     once: Once,
     shown: &Chosen,
-    operator: &Operator,
+    operator: Operator,
 ) -> Result<Operator, AllocError>
-    ensures { IfOk result (λ new. new ≡ restriction.new_operator once (chosen shown.now) operator.now) }
+    ensures { IfOk result (λ new. new ≡ restriction.new_operator once (chosen shown.now) operator) }
 {
-    let effects = effects_left(alloc, shown, operator.effects.as_slice())?;
+    let Operator {
+        name,
+        conditions,
+        effects,
+        cost,
+    } = operator;
+    let conditions = shown.conditions_left(conditions.into_vec())?;
+    let effects = effects_left(alloc, shown, effects.into_vec())?;
     let effects = List::from_vec(arrange(once.effects, effects)?);
     Ok(Operator {
-        name: Text::from_vec(operator.name.as_slice().to_vec(alloc)?),
-        conditions: shown.new_pairs(alloc, operator.conditions.as_slice())?,
+        name,
+        conditions,
         effects,
-        cost: operator.cost,
+        cost,
     })
 }
 
@@ -204,10 +211,10 @@ fn add_operator(
     once: Once,
     shown: &Chosen,
     operators: &mut Vec<Operator>,
-    operator: &Operator,
+    operator: Operator,
     is_left: bool,
 ) -> Result<(), AllocError>
-    ensures { OnOk result (operators.new.items ≡ operators.old.items ++ (if choice.all_left (chosen shown.now) operator.now.conditions && is_left then restriction.new_operator once (chosen shown.now) operator.now ∷ [] else [])) }
+    ensures { OnOk result (operators.new.items ≡ operators.old.items ++ (if choice.all_left (chosen shown.now) operator.conditions && is_left then restriction.new_operator once (chosen shown.now) operator ∷ [] else [])) }
 {
     if shown.has_all(operator.conditions.as_slice()) && is_left {
         operators.push(new_operator(alloc, once, shown, operator)?)?;
@@ -215,28 +222,23 @@ fn add_operator(
     Ok(())
 }
 
-/// What is left of the operators that stay. The marks tell which operators are left.
+/// What is left of the operators that stay, whose lists are handed on. The marks tell which operators are left.
 pub(crate) fn operators_left(
     alloc: Global,
     once: Once,
     shown: &Chosen,
     marks: &[bool],
-    task: &SasTask,
+    old: Vec<Operator>,
 ) -> Result<Vec<Operator>, AllocError>
-    requires { length marks.now ≡ length task.now.operators }
-    ensures { IfOk result (λ operators. (leaves : AnOperator → Bool) → marks.now ≡ map leaves task.now.operators →
-        operators.items ≡ restriction.new_operators once (with_operators shown.now leaves) task.now) }
+    requires { length marks.now ≡ length old.items }
+    ensures { IfOk result (λ operators. (leaves : AnOperator → Bool) → marks.now ≡ map leaves old.items →
+        operators.items ≡ map (restriction.new_operator once (with_operators shown.now leaves)) (filter (choice.operator_stays (with_operators shown.now leaves)) old.items)) }
 {
     let mut operators = Vec::new(alloc);
-    for i in 0..task.operators() {
-        add_operator(
-            alloc,
-            once,
-            shown,
-            &mut operators,
-            task.operator(i),
-            marks[i as usize],
-        )?;
+    let mut i = 0;
+    for operator in old {
+        add_operator(alloc, once, shown, &mut operators, operator, marks[i])?;
+        i += 1;
     }
     Ok(operators)
 }

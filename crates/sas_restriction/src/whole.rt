@@ -1,8 +1,9 @@
 // The restriction as a whole.
 
-ghost use Rattle.std.specs.Prelude.{◌≡◌, ◌++◌, Bool, [], ◌∷◌, map, length, IfOk, OnOk};
+ghost use Rattle.std.specs.Prelude.{◌≡◌, ◌++◌, ◌<◌, Bool, [], ◌∷◌, map, length, All, IfOk, OnOk, slice_index};
 ghost use Rattle.std.specs.Option.{option_map_or};
 ghost use Rattle.sas_task.specs.declared.parts.Operator.{Operator as AnOperator};
+ghost use Rattle.sas_task.specs.Valid.{IsValid};
 ghost use Rattle.sas_restriction.specs.Listed.{chosen, with_operators};
 ghost use Rattle.sas_restriction.specs.Choice.{IsChoice};
 ghost use Rattle.sas_restriction.specs.Choice as choice;
@@ -12,7 +13,7 @@ use crate::chosen::{Chosen, Once};
 use crate::parts::{groups_left, new_state, new_variables, operators_left, rules_left};
 use lists::{List, Text};
 use sas_orders::arrange;
-use sas_task::{Pair, SasTask, Variable};
+use sas_task::{Group, Operator, Pair, Rule, SasTask, Variable};
 use std::alloc::{AllocError, Global};
 
 fn text(alloc: Global, bytes: &[u8]) -> Result<Text, AllocError>
@@ -69,8 +70,126 @@ fn goal(alloc: Global, shown: &Chosen, task: &SasTask) -> Result<List<Pair>, All
     }
 }
 
+/// What a restriction has beside its operators.
+#[derive(Drop)]
+struct Beside {
+    metric: bool,
+    variables: List<Variable>,
+    groups: List<Group>,
+    state: List<u64>,
+    goal: List<Pair>,
+    rules: List<Rule>,
+}
+
+impl Beside {
+    /// The task with these operators too.
+    fn with(self, operators: List<Operator>) -> SasTask
+        requires { IsValid record {
+          metric = self.metric;
+          variables = self.variables;
+          groups = self.groups;
+          state = self.state;
+          goal = self.goal;
+          operators = operators;
+          rules = self.rules;
+        } }
+        ensures { result ≡ record {
+          metric = self.metric;
+          variables = self.variables;
+          groups = self.groups;
+          state = self.state;
+          goal = self.goal;
+          operators = operators;
+          rules = self.rules;
+        } }
+    {
+        let Beside {
+            metric,
+            variables,
+            groups,
+            state,
+            goal,
+            rules,
+        } = self;
+        SasTask::from_parts(metric, variables, groups, state, goal, operators, rules)
+    }
+}
+
+/// The variables that are shown, and the holder's.
+fn all_variables(
+    alloc: Global,
+    shown: &Chosen,
+    task: &SasTask,
+) -> Result<List<Variable>, AllocError>
+    requires { All (λ v. v < length task.now.variables) shown.now.vars }
+    ensures { IfOk result (λ all. all ≡ map (choice.new_variable (chosen shown.now) task.now) shown.now.vars ++ option_map_or (λ start. choice.holder_variable ∷ []) shown.now.holder []) }
+{
+    let mut all = new_variables(alloc, shown, task)?;
+    add_holder(alloc, &mut all, shown.holder())?;
+    Ok(List::from_vec(all))
+}
+
+/// The values at the start, and the holder's.
+fn whole_state(alloc: Global, shown: &Chosen, task: &SasTask) -> Result<List<u64>, AllocError>
+    requires { All (λ v. v < length task.now.variables) shown.now.vars }
+    ensures { IfOk result (λ state. state ≡ map (λ var. choice.new_val (chosen shown.now) var (slice_index task.now.state var)) shown.now.vars ++ option_map_or (λ start. start ∷ []) shown.now.holder []) }
+{
+    let mut state = new_state(alloc, shown, task)?;
+    add_start(&mut state, shown.holder())?;
+    Ok(List::from_vec(state))
+}
+
+/// What the restriction has beside its operators.
+fn beside_operators(
+    alloc: Global,
+    once: Once,
+    shown: &Chosen,
+    task: &SasTask,
+) -> Result<Beside, AllocError>
+    requires { All (λ v. v < length task.now.variables) shown.now.vars }
+    ensures { IfOk result (λ beside. let new = restriction.restriction once (chosen shown.now) task.now in
+        beside ≡ record { metric = new.metric; variables = new.variables; groups = new.groups; state = new.state; goal = new.goal; rules = new.rules }) }
+{
+    let metric = task.metric();
+    let variables = all_variables(alloc, shown, task)?;
+    let groups = arrange(once.groups, groups_left(alloc, shown, task)?)?;
+    let state = whole_state(alloc, shown, task)?;
+    let goal = goal(alloc, shown, task)?;
+    let rules = arrange(once.rules, rules_left(alloc, shown, task)?)?;
+    Ok(Beside {
+        metric,
+        variables,
+        groups: List::from_vec(groups),
+        state,
+        goal,
+        rules: List::from_vec(rules),
+    })
+}
+
 /// The restriction of the task to these variables, values and operators, with all lists in order. The marks tell which
-/// operators are left. `laws::restriction_keeps` says when it may stand for the task.
+/// operators are left; the lists of those are handed on. `laws::restriction_keeps` says when the restriction may stand
+/// for the task. Where memory is wanting, the task is dropped.
+pub fn into_restriction(
+    alloc: Global,
+    once: Once,
+    shown: &Chosen,
+    marks: &[bool],
+    task: SasTask,
+) -> Result<SasTask, AllocError>
+    requires marks { (leaves : AnOperator → Bool) × (marks.now ≡ map leaves task.operators) × IsChoice (with_operators shown.now leaves) task }
+    ensures { IfOk result (λ new. (leaves : AnOperator → Bool) → marks.now ≡ map leaves task.operators →
+        new ≡ restriction.restriction once (with_operators shown.now leaves) task) }
+{
+    let beside = beside_operators(alloc, once, shown, &task)?;
+    let old = task.into_operators().into_vec();
+    let operators = arrange(
+        once.operators,
+        operators_left(alloc, once, shown, marks, old)?,
+    )?;
+    Ok(beside.with(List::from_vec(operators)))
+}
+
+/// The same of a task that stays, of which a copy is restricted.
 pub fn restrict(
     alloc: Global,
     once: Once,
@@ -82,23 +201,7 @@ pub fn restrict(
     ensures { IfOk result (λ new. (leaves : AnOperator → Bool) → marks.now ≡ map leaves task.now.operators →
         new ≡ restriction.restriction once (with_operators shown.now leaves) task.now) }
 {
-    let metric = task.metric();
-    let mut variables = new_variables(alloc, shown, task)?;
-    add_holder(alloc, &mut variables, shown.holder())?;
-    let groups = arrange(once.groups, groups_left(alloc, shown, task)?)?;
-    let mut state = new_state(alloc, shown, task)?;
-    add_start(&mut state, shown.holder())?;
-    let goal = goal(alloc, shown, task)?;
-    let operators = operators_left(alloc, once, shown, marks, task)?;
-    let operators = arrange(once.operators, operators)?;
-    let rules = arrange(once.rules, rules_left(alloc, shown, task)?)?;
-    Ok(SasTask::from_parts(
-        metric,
-        List::from_vec(variables),
-        List::from_vec(groups),
-        List::from_vec(state),
-        goal,
-        List::from_vec(operators),
-        List::from_vec(rules),
-    ))
+    let copy = task.copy(alloc)?;
+    let new = into_restriction(alloc, once, shown, marks, copy)?;
+    Ok(new)
 }

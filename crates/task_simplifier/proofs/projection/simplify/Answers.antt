@@ -17,8 +17,8 @@ new-requires c =
       rising = each_rises c.args.task c.in_ok-kept.kept.items c.in_ok-kept.ensures.count c.in_ok-kept.ensures.are;
     }
 
-pub restrict-requires : goal.restrict-requires
-restrict-requires c =
+pub into_restriction-requires : goal.into_restriction-requires
+into_restriction-requires c =
     let valid = subst IsValid c.task.view_is c.task.invariant in
     let shown = left_is c.args.task c.in_ok-kept.kept.items c.in_ok-vars.vars.items c.in_ok-shown.shown c.with_holder-shown.result c.holder-holder.result c.in_ok-kept.ensures.count
     (c.in_ok-vars.ensures ∙ ap (λ (k : List (List ℕ)). staying k (length k)) c.as_slice.ensures.value) c.in_ok-shown.ensures c.holder-holder.ensures c.with_holder-shown.ensures in

@@ -1,0 +1,42 @@
+-- The parts are those of the restriction, which is valid.
+use Rattle.std.proofs.Common.{◌≡◌, Bool, List, map, filter, length, sym, ap, subst, ◌∙◌}
+use Rattle.std.proofs.lemmas.List.{length-map}
+use Rattle.sas_task.specs.declared.parts.Operator.{Operator}
+use Rattle.sas_task.specs.Valid.{IsValid}
+use Rattle.sas_task.specs.Orders.{operator_cmp}
+use Rattle.sas_orders.specs.InOrder.{arranged}
+use Rattle.sas_restriction.specs.Listed.{with_operators}
+use Rattle.sas_restriction.specs.Choice.{operator_stays}
+use Rattle.sas_restriction.specs.Restriction.{new_operator, restriction}
+use Rattle.sas_restriction.proofs.Assembled.{joined}
+use Rattle.sas_restriction.proofs.Valid.{restriction_valid}
+use Rattle.sas_restriction.proofs.Arranged.{restricts}
+use Rattle.sas_restriction.proofs.whole.into_restriction.Goals as goal
+
+pub beside_operators-requires : goal.beside_operators-requires
+beside_operators-requires c = c.requires.marks.2.inside
+
+pub operators_left-requires : goal.operators_left-requires
+operators_left-requires c =
+    let old = c.into_vec-old.ensures ∙ c.into_operators.ensures in
+    ap length c.requires.marks.1 ∙ length-map c.args.task.operators c.requires.marks.0 ∙ sym (ap length old)
+
+pub with-requires : goal.with-requires
+with-requires c =
+    let leaves = c.requires.marks.0 in
+    let left = with_operators c.args.shown.now leaves in
+    let valid = subst IsValid c.task.view_is c.task.invariant in
+    let choice = c.requires.marks.2 in
+    let old = c.into_vec-old.ensures ∙ c.into_operators.ensures in
+    let marked = c.requires.marks.1 ∙ ap (map leaves) (sym old) in
+    let operators = c.from_vec.ensures ∙ c.in_ok-operators.ensures ∙ ap (arranged c.args.once.operators operator_cmp) (c.in_ok-operators_left.ensures leaves marked ∙ ap (λ os. map (new_operator c.args.once left) (filter (operator_stays left) os)) old) in
+    subst IsValid (sym (joined c.args.once left c.args.task c.in_ok-beside.beside c.from_vec.result c.in_ok-beside.ensures operators))
+    (restriction_valid left c.args.task (restriction c.args.once left c.args.task) valid choice (restricts c.args.once left c.args.task valid choice))
+
+pub returns : goal.returns
+returns c leaves marks =
+    let left = with_operators c.args.shown.now leaves in
+    let old = c.into_vec-old.ensures ∙ c.into_operators.ensures in
+    let marked = marks ∙ ap (map leaves) (sym old) in
+    let operators = c.from_vec.ensures ∙ c.in_ok-operators.ensures ∙ ap (arranged c.args.once.operators operator_cmp) (c.in_ok-operators_left.ensures leaves marked ∙ ap (λ os. map (new_operator c.args.once left) (filter (operator_stays left) os)) old) in
+    c.with.ensures ∙ joined c.args.once left c.args.task c.in_ok-beside.beside c.from_vec.result c.in_ok-beside.ensures operators
