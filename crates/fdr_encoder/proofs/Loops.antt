@@ -1,12 +1,12 @@
 -- One more turn of the loops.
-use Rattle.std.proofs.Common.{◌≡◌, ℕ, ◌+◌, ◌<◌, Bool, true, false, cond, ◌&&◌, List, [], ◌∷◌, ◌++◌, map, take, length, get_or, append-nil, append_assoc, refl, sym, ap, ◌∙◌, arith, ◌≤◌, inl, inr, subst}
+use Rattle.std.proofs.Common.{◌≡◌, ℕ, ◌+◌, ◌<◌, Bool, true, false, not, eqb, cond, ◌&&◌, ◌||◌, List, [], ◌∷◌, ◌++◌, map, take, length, get_or, append-nil, append_assoc, refl, sym, ap, ◌∙◌, arith, ◌≤◌, inl, inr, subst}
 use Rattle.std.specs.Prelude.{fold}
 use Rattle.std.proofs.lemmas.List.{ext_get_or, get_or-map, length-map, map-append}
 use Rattle.std.proofs.lemmas.Simd.{map-map}
 use Rattle.std.proofs.lemmas.List.FromFn.{length-map-range_with_len, get_or-map-range_with_len}
 use Rattle.std.proofs.lemmas.List.Sums.{fold-append}
-use Rattle.std.specs.List.{filter, flat_map, range_with_len, position_or_len}
-use Rattle.std.proofs.lemmas.Bool.{cases_lt}
+use Rattle.std.specs.List.{filter, flat_map, list_all, list_any, range_with_len, position_or_len}
+use Rattle.std.proofs.lemmas.Bool.{cases_lt, and_parts, eqb-true}
 use Rattle.std.proofs.lemmas.List.Sums.{position_or_len_is}
 use Rattle.std.proofs.lemmas.List.{take_more}
 use Rattle.std.proofs.lemmas.List.Elements.{filter-append}
@@ -14,8 +14,11 @@ use Rattle.std.proofs.lemmas.List.Concat.{flat_map-append}
 use Rattle.lists.proofs.LoopSteps.{range_next}
 use Rattle.static_matcher.specs.declared.types.Cond.{Cond}
 use Rattle.relaxed_reach.specs.declared.types.ReachedEffect.{ReachedEffect}
-use Rattle.fdr_encoder.specs.Places.{Cover, stands_in}
-use Rattle.fdr_encoder.specs.Effects.{no_literals, both, negations, choices, rivals}
+use Rattle.sas_task.specs.declared.parts.Pair.{Pair}
+use Rattle.sas_task.specs.declared.parts.Effect.{Effect}
+use Rattle.fdr_encoder.specs.Places.{Cover, stands_in, last_value}
+use Rattle.fdr_encoder.specs.Effects.{no_literals, is_true, is_false, both, negations, choices, rivals, is_given, can_go, less_idle}
+use Rattle.fdr_encoder.specs.Rivals.{is_no_literal}
 
 pub filter_range_more : (p : ℕ → Bool) (n : ℕ) → filter p (range_with_len 0 (n + 1)) ≡ filter p (range_with_len 0 n) ++ cond (p n) (n ∷ []) []
 filter_range_more p n =
@@ -111,3 +114,44 @@ map_places f xs d =
     ext_get_or (f d) (map f xs) (map (λ k. f (get_or xs k d)) (range_with_len 0 (length xs))) (length-map xs f ∙ sym (length-map-range_with_len (λ k. f (get_or xs k d)) 0 (length xs))) (λ k within.
     let low : k < length xs = subst (λ m. k < m) (length-map xs f) within in
     get_or-map f xs k d (f d) low ∙ sym (get_or-map-range_with_len (λ k. f (get_or xs k d)) 0 (length xs) k k (f d) low (omega arith)))
+
+-- no condition can go where none is on the variable of its effect
+module _ (cover : Cover) (all : List Effect) where
+  all_stay : (e : Effect) (ps : List Pair) → list_all (λ p. not (eqb p.var e.var)) ps ≡ true → filter (λ p. not (can_go cover all e p)) ps ≡ ps
+  all_stay e [] apart = refl
+  all_stay e (p ∷ ps) apart =
+      let parts = and_parts (not (eqb p.var e.var)) (list_all (λ p. not (eqb p.var e.var)) ps) apart in
+      by_test (eqb p.var e.var) parts.0 (all_stay e ps parts.1)
+    where
+      by_test : (b : Bool) → not b ≡ true → filter (λ p. not (can_go cover all e p)) ps ≡ ps →
+          cond (not (b && (eqb (last_value cover e.var) 1 && (not (eqb p.val e.after) && not (is_given all p))))) (p ∷ filter (λ p. not (can_go cover all e p)) ps) (filter (λ p. not (can_go cover all e p)) ps) ≡ p ∷ ps
+      by_test true off rest = cc
+      by_test false off rest = ap (λ qs. p ∷ qs) rest
+
+  pub apart_stay : (es : List Effect) → list_all (λ e. list_all (λ p. not (eqb p.var e.var)) e.conditions) es ≡ true → map (less_idle cover all) es ≡ es
+  apart_stay [] apart = refl
+  apart_stay (e ∷ es) apart =
+      let parts = and_parts (list_all (λ p. not (eqb p.var e.var)) e.conditions) (list_all (λ e. list_all (λ p. not (eqb p.var e.var)) e.conditions) es) apart in
+      let kept = λ (ps : List Pair). let r : Effect = record { conditions = ps; var = e.var; after = e.after } in r in
+      ap (λ ps. kept ps ∷ map (less_idle cover all) es) (all_stay e e.conditions parts.0) ∙ ap (λ rest. e ∷ rest) (apart_stay es parts.1)
+
+-- no choice where one of the lists has no literal
+no_pieces : (ones : List (Cond ℕ)) → flat_map (λ one. map (both one) []) ones ≡ []
+no_pieces [] = refl
+no_pieces (one ∷ ones) = no_pieces ones
+
+pub no_choices : (lists : List (Cond ℕ)) → list_any is_no_literal lists ≡ true → choices lists ≡ []
+no_choices [] some = cc
+no_choices (literals ∷ lists) some = by_test (no_choices lists) (is_no_literal literals) refl some
+  where
+    emptied : (positive negative : List ℕ) → (eqb (length positive) 0 && eqb (length negative) 0) ≡ true →
+        flat_map (λ one. map (both one) (choices lists)) (map is_false positive ++ map is_true negative) ≡ []
+    emptied [] [] none = refl
+    emptied [] (n ∷ ns) none = let is : length (n ∷ ns) ≡ 0 = eqb-true (length (n ∷ ns)) 0 none in absurd (omega (arith, is))
+    emptied (p ∷ ps) ns none =
+        let is : length (p ∷ ps) ≡ 0 = eqb-true (length (p ∷ ps)) 0 (and_parts (eqb (length (p ∷ ps)) 0) (eqb (length ns) 0) none).0 in
+        absurd (omega (arith, is))
+
+    by_test : (list_any is_no_literal lists ≡ true → choices lists ≡ []) → (b : Bool) → is_no_literal literals ≡ b → (b || list_any is_no_literal lists) ≡ true → choices (literals ∷ lists) ≡ []
+    by_test rest true is some' = emptied literals.positive literals.negative is
+    by_test rest false is some' = ap (λ cs. flat_map (λ one. map (both one) cs) (negations literals)) (rest some') ∙ no_pieces (negations literals)

@@ -1,5 +1,5 @@
 -- Words of the code: the add effects of an action, gathered by variable.
-use Rattle.std.specs.Prelude.{◌≡◌, ℕ, ◌==◌, List, [], map, if◌then◌else◌}
+use Rattle.std.specs.Prelude.{◌≡◌, ℕ, Bool, ◌==◌, ◌&&◌, List, [], map, length, if◌then◌else◌}
 use Rattle.std.specs.List.{filter}
 use Rattle.static_matcher.specs.declared.types.Cond.{Cond}
 use Rattle.relaxed_reach.specs.declared.types.ReachedEffect.{ReachedEffect}
@@ -22,3 +22,7 @@ conditions_on var all = map (λ r. r.condition.now) (filter (λ r. r.var == var)
 -- on each variable they are those of the add effects on its facts
 abbrev pub AreRivals : Cover → List ReachedEffect → List Rival → Type 0
 AreRivals cover effects all = (var : ℕ) → conditions_on var all ≡ rivals cover effects var
+
+-- whether there are no literals
+abbrev pub is_no_literal : Cond ℕ → Bool
+is_no_literal literals = (length literals.positive == 0) && (length literals.negative == 0)

@@ -1,7 +1,6 @@
 -- The parts are those of the restriction, which is valid.
-use Rattle.std.proofs.Common.{◌≡◌, Bool, List, map, filter, length, sym, ap, subst, ◌∙◌}
+use Rattle.std.proofs.Common.{map, filter, length, sym, ap, subst, ◌∙◌}
 use Rattle.std.proofs.lemmas.List.{length-map}
-use Rattle.sas_task.specs.declared.parts.Operator.{Operator}
 use Rattle.sas_task.specs.Valid.{IsValid}
 use Rattle.sas_task.specs.Orders.{operator_cmp}
 use Rattle.sas_orders.specs.InOrder.{arranged}
