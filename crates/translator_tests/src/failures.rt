@@ -1,4 +1,5 @@
-//! The top call on files and a console in memory, in the place of whose output an older one stands.
+//! Runs of which each call on the files and each print fails once, and problems that end early, in the place of whose output an
+//! older one stands.
 
 use calls_in_memory::switch::{DOMAIN, PROBLEM, TEXT};
 use calls_in_memory::{Ending, Outside};
