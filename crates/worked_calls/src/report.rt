@@ -54,7 +54,7 @@ fn tell_rows(
             Line::Bar(row) => {
                 number = number.saturating_add(1);
                 let verdict = verdict(rt.alloc(), texts, lines, Variant::Row(row))?;
-                println!(rt; "{name}, row {number}: {verdict}")?;
+                println!(rt; "{name}, change {number}: {verdict}")?;
             }
             Line::Item(_, _) => println!(rt; "{name}: not understood: {line}")?,
         }
