@@ -12,6 +12,7 @@ ghost use Rattle.normal_task.specs.Numbers.{function_number, object_number};
 
 use crate::keys::Keys;
 use crate::numbering::Numbering;
+use atom_objects::Objects;
 use lists::List;
 use normal_task::{GroundAtom, ValueRow};
 use pddl_parser::{Atom, Init, Term};
@@ -59,14 +60,14 @@ fn stated_objects(
     alloc: Global,
     numbering: &Numbering<'_>,
     terms: &[Term],
-) -> Result<List<u64>, AllocError>
+) -> Result<Objects, AllocError>
     ensures { IfOk result (λ objects. objects ≡ map (object_number numbering.now.domain numbering.now.problem) (map (pddl.object_of []) terms.now)) }
 {
-    let mut objects = Vec::new(alloc);
+    let mut objects = Objects::new(alloc);
     for term in terms {
         objects.push(stated_object(numbering, term))?;
     }
-    Ok(List::from_vec(objects))
+    Ok(objects)
 }
 
 fn stated_atom(
