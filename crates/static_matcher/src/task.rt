@@ -9,6 +9,7 @@ use crate::grounding::{actions, axioms};
 use crate::literals::{all_can_hold, condition};
 use crate::tables::Tables;
 use crate::types::{GoalRow, Ground};
+use atom_objects::Objects;
 use lists::{List, Text};
 use normal_task::{GroundAtom, Normal, PredicateRow};
 use std::alloc::{AllocError, Global};
@@ -60,7 +61,7 @@ fn copy(alloc: Global, atom: &GroundAtom) -> Result<GroundAtom, AllocError>
 {
     Ok(GroundAtom {
         predicate: atom.predicate,
-        objects: List::from_vec(Vec::from_slice(alloc, atom.objects.as_slice())?),
+        objects: Objects::from_slice(alloc, atom.objects.as_slice())?,
     })
 }
 
