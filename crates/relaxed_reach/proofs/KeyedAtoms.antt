@@ -21,9 +21,6 @@ position_or_len-map test [] = refl
 position_or_len-map test (key ∷ keys) = ap (λ n. cond (not (test (atom_of key))) (1 + n) 0) (position_or_len-map test keys)
 
 module _ (keys : List Key) (atoms : List GroundAtom) (is : map atom_of keys ≡ atoms) where
-  pub among_keys : (atom : GroundAtom) → list_any (λ key. is_same_atom atom (atom_of key)) keys ≡ is_among atoms atom
-  among_keys atom = sym (any_map (is_same_atom atom) atom_of keys) ∙ ap (λ l. is_among l atom) is
-
   pub number_in_keys : (atom : GroundAtom) → position (λ key. is_same_atom atom (atom_of key)) keys ≡ cond (is_among atoms atom) (Some (number_of atoms atom)) None
   number_in_keys atom =
       ap (λ n. cond (nat_lt n (length keys)) (Some n) None) (sym (position_or_len-map (is_same_atom atom) keys))
