@@ -39,6 +39,7 @@ impl Objects {
     }
 
     /// Adds the number at the end.
+    #[inline]
     pub fn push(&mut self, number: u64) -> Result<(), AllocError>
         ensures { OnOk result (self.new ≡ self.old ++ number ∷ []) }
     {
@@ -47,6 +48,7 @@ impl Objects {
     }
 
     /// The numbers.
+    #[inline]
     pub fn as_slice(&self) -> &[u64]
         ensures { result.now ≡ self.now }
     {
