@@ -2,6 +2,7 @@
 ghost use Rattle.std.specs.Prelude.{◌≡◌, IfOk, filter};
 ghost use Rattle.normal_task.specs.Lawful.{IsLawful as IsLawfulNormal};
 ghost use Rattle.static_matcher.specs.Instances.{instance_task, static_settling, IsGroundTask};
+ghost use Rattle.static_matcher.specs.Candidates.{without_schemas};
 ghost use Rattle.static_matcher.specs.Lawful.{IsLawful};
 ghost use Rattle.static_matcher.specs.Settled.{kept_goal};
 
@@ -92,21 +93,31 @@ fn goal(alloc: Global, tables: &Tables<'_>) -> Result<GoalRow<GroundAtom>, Alloc
     Ok(GoalRow::All(condition))
 }
 
-/// The ground task of the task with tables.
-fn instances_by(alloc: Global, tables: &Tables<'_>) -> Result<Ground, AllocError>
-    requires { IsLawfulNormal tables.now }
-    ensures { IfOk result (IsGroundTask tables.now) }
+/// The ground task of the normal task without its schemas.
+pub fn without_actions(alloc: Global, tables: &Tables<'_>) -> Result<Ground, AllocError>
+    requires lawful { IsLawfulNormal tables.now }
+    ensures { IfOk result (IsGroundTask (without_schemas tables.now)) }
 {
     let task = tables.task();
     Ok(Ground {
         normal_predicates: predicates(alloc, task.predicates.as_slice())?,
         objects: objects(alloc, task.objects.as_slice())?,
         init: init(alloc, tables)?,
-        actions: actions(alloc, tables)?,
+        actions: List::from_vec(Vec::new(alloc)),
         axioms: axioms(alloc, tables)?,
         goal: goal(alloc, tables)?,
         metric: task.metric,
     })
+}
+
+/// The ground task of the task with tables.
+fn instances_by(alloc: Global, tables: &Tables<'_>) -> Result<Ground, AllocError>
+    requires { IsLawfulNormal tables.now }
+    ensures { IfOk result (IsGroundTask tables.now) }
+{
+    let mut ground = without_actions(alloc, tables)?;
+    ground.actions = actions(alloc, tables)?;
+    Ok(ground)
 }
 
 /// The ground task of a normal task (Helmert 2009, grounding): its schemas and axioms with each choice of objects of
