@@ -20,7 +20,7 @@ use Rattle.invariant_check.specs.declared.types.Candidate.{Candidate}
 use Rattle.invariant_check.specs.WellFormed.{is_well_formed}
 use Rattle.invariant_guess.specs.declared.types.Found.{Found}
 use Rattle.static_matcher.specs.declared.types.Ground.{Ground}
-use Rattle.static_matcher.specs.Instances.{IsGroundTask}
+use Rattle.reachable_instances.specs.Parts.{LeavesOut, HoldsReachable}
 use Rattle.static_matcher.specs.Literals.{meaning}
 use Rattle.relaxed_reach.specs.declared.types.Reached.{Reached}
 use Rattle.relaxed_reach.specs.ReachedTask.{is_derived, reached_task}
@@ -122,10 +122,12 @@ passed_translates passes domain problem first task translates chain kept valid t
 
 -- ---- what the calls give, put together
 
--- what is reached of the instances is reached of the task
-pub reached_of_instances : {E : Type 0} (made : Normal) (grounded : Ground) (result : Result Reached E) → IsGroundTask made grounded → IfOk result (IsReachedTask grounded) → IfOk result (IsReachedOf made)
-reached_of_instances made grounded (Ok reached) is_ground is_reached = record { ground_of = grounded; is_ground = is_ground; is_reached = is_reached }
-reached_of_instances made grounded (Err end) is_ground is_reached = tt
+-- what is reached of the instances that can be is reached of the task
+pub reached_of_reachable : {E : Type 0} (made : Normal) (part : Ground) (result : Result Reached E) → HoldsReachable made part
+    → ((whole part : Ground) → LeavesOut whole part → (reached : Reached) → IsReachedTask part reached → IsReachedTask whole reached)
+    → IfOk result (IsReachedTask part) → IfOk result (IsReachedOf made)
+reached_of_reachable made part (Ok reached) holds same is_reached = record { ground_of = holds.whole; is_ground = holds.is; is_reached = same holds.whole part holds.leaves reached is_reached }
+reached_of_reachable made part (Err end) holds same is_reached = tt
 
 -- the passes' results up to the encoding are those of the run
 pub encoding_of_run : {E : Type 0} (full : Bool) (made : Normal) (found : Found) (reached : Reached) (layers layers' : List ℕ) (groups sets : List (List ℕ)) (facts : ℕ) (result : Result Task E)

@@ -30,9 +30,11 @@ use normal_task::Normal;
 use normaliser::normalise;
 use pddl_lexer::{Tree, TreeEnd, read_tree};
 use pddl_parser::{Domain, ParseEnd, Problem, parse_domain, parse_problem};
+use reachable_instances::laws::same_reached;
+use reachable_instances::reachable;
 use relaxed_reach::{Reached, Steps, reach};
 use sas_task::{SasTask, Variable};
-use static_matcher::{Ground, instances};
+use static_matcher::Ground;
 use std::alloc::{AllocError, Global};
 use std::marker::Brand;
 use std::sync::ledger::{Blank, Ledger};
@@ -195,7 +197,8 @@ fn reached_of(alloc: Global, normal: &Normal) -> Result<Reached, AllocError>
     ensures reached { IfOk result (IsReachedOf normal.now) }
     ensures lawful { IfOk result IsLawful }
 {
-    let ground = instances(alloc, normal)?;
+    same_reached();
+    let ground = reachable(alloc, normal)?;
     reached::<Brand>(alloc, &ground, Blank::new(1))
 }
 

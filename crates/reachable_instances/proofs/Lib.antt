@@ -1,0 +1,9 @@
+mod Tests
+mod RowActions
+mod SameReached
+mod LawfulPart
+mod KeySets
+mod CandidateRows
+mod Steps
+mod Turns
+mod Parts
