@@ -1,4 +1,4 @@
-//! The ground task and the reached task of a pair of texts.
+//! The ground tasks and the reached task of a pair of texts.
 
 ghost use Rattle.std.specs.Prelude.{◌≡◌, ◌<◌, IfOk, IfSome};
 ghost use Rattle.normal_task.specs.Lawful.{IsLawful as IsLawfulNormal};
@@ -6,6 +6,7 @@ ghost use Rattle.static_matcher.specs.Lawful.{IsLawful as IsLawfulGround};
 ghost use Rattle.relaxed_reach.specs.Lawful.{IsLawful};
 
 use normal_task::Normal;
+use reachable_instances::reachable;
 use relaxed_reach::{Reached, Steps, reach};
 use static_matcher::{Ground, instances};
 use std::alloc::{AllocError, Global};
@@ -20,12 +21,29 @@ fn instances_of(alloc: Global, normal: &Normal) -> Result<Ground, AllocError>
     instances(alloc, normal)
 }
 
-/// The ground task of two texts without a fault.
-pub(crate) fn ground_of(alloc: Global, domain: &str, problem: &str) -> Option<Ground>
-    ensures { IfSome result IsLawfulGround }
+fn part_of(alloc: Global, normal: &Normal) -> Result<Ground, AllocError>
+    requires { IsLawfulNormal normal.now }
+    ensures { IfOk result IsLawfulGround }
+{
+    reachable(alloc, normal)
+}
+
+/// The ground task with all instances, and that without actions that can't be reached.
+#[derive(Drop)]
+pub(crate) struct Grounds {
+    pub(crate) whole: Ground,
+    pub(crate) part: Ground,
+}
+
+/// The ground tasks of two texts without a fault.
+pub(crate) fn grounds_of(alloc: Global, domain: &str, problem: &str) -> Option<Grounds>
+    ensures whole { IfSome result (λ grounds. IsLawfulGround grounds.whole) }
+    ensures part { IfSome result (λ grounds. IsLawfulGround grounds.part) }
 {
     let normal = normal_task(alloc, domain, problem)?;
-    instances_of(alloc, &normal).ok()
+    let whole = instances_of(alloc, &normal).ok()?;
+    let part = part_of(alloc, &normal).ok()?;
+    Some(Grounds { whole, part })
 }
 
 fn reached_by<L: Ledger>(

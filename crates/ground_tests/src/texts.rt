@@ -35,3 +35,13 @@ pub(crate) const LAYERS: &str = "(define (domain layers) (:predicates (p) (q) (d
 /// p at the start.
 pub(crate) const LOW: &str =
     "(define (problem low) (:domain layers) (:init (p)) (:goal (and (f) (q))))";
+
+/// One fact leads to the next, and nothing makes z true.
+pub(crate) const CHAIN: &str = "(define (domain chain) (:predicates (a) (b) (c) (e) (y) (z))
+ (:action last :parameters () :precondition (and (b) (c)) :effect (e))
+ (:action second :parameters () :precondition (b) :effect (c))
+ (:action first :parameters () :precondition (a) :effect (b))
+ (:action lost :parameters () :precondition (and (a) (z)) :effect (and (y) (not (z)))))";
+
+/// a at the start.
+pub(crate) const START: &str = "(define (problem start) (:domain chain) (:init (a)) (:goal (e)))";

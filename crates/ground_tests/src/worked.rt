@@ -3,9 +3,9 @@
 ghost use Rattle.static_matcher.specs.Lawful.{IsLawful as IsLawfulGround};
 ghost use Rattle.relaxed_reach.specs.Lawful.{IsLawful};
 
-use crate::found::{ground_of, reached_of};
+use crate::found::{grounds_of, reached_of};
 use crate::lines::{Names, are_named, are_shown, is_goal};
-use crate::texts::{CIRCLE, ENDS, HALF, LAYERS, LOW, ROADS};
+use crate::texts::{CHAIN, CIRCLE, ENDS, HALF, LAYERS, LOW, ROADS, START};
 use axiom_layers::layers;
 use relaxed_reach::{Fact, Reached};
 use static_matcher::Ground;
@@ -21,19 +21,21 @@ struct Task {
     goal: &'static str,
 }
 
-/// A pair of texts, its ground task, its reached task, and the reachable facts, each derived one with its layer.
+/// A pair of texts, its ground task, the actions that are made where those that can't be reached aren't, the reached task, and
+/// the reachable facts, each derived one with its layer.
 struct Row {
     domain: &'static str,
     problem: &'static str,
     ground: Task,
+    made: &'static [(&'static str, usize)],
     reached: Task,
     facts: &'static [(&'static str, Option<u64>)],
 }
 
-fn is_ground(ground: &Ground, task: &Task) -> bool {
+fn is_ground(ground: &Ground, task: &Task, actions: &[(&str, usize)]) -> bool {
     let names = Names { ground, facts: &[] };
     are_named(&names, ground.init.as_slice(), task.init)
-        && are_shown(&names, ground.actions.as_slice(), task.actions)
+        && are_shown(&names, ground.actions.as_slice(), actions)
         && are_shown(&names, ground.axioms.as_slice(), task.axioms)
         && is_goal(&names, &ground.goal, task.goal)
 }
@@ -87,16 +89,21 @@ fn is_reached_so(alloc: Global, ground: &Ground, row: &Row) -> bool
 }
 
 fn is_worked(alloc: Global, row: &Row) -> bool {
-    match ground_of(alloc, row.domain, row.problem) {
-        Some(ground) => is_ground(&ground, &row.ground) && is_reached_so(alloc, &ground, row),
+    match grounds_of(alloc, row.domain, row.problem) {
+        Some(grounds) => {
+            is_ground(&grounds.whole, &row.ground, row.ground.actions)
+                && is_ground(&grounds.part, &row.ground, row.made)
+                && is_reached_so(alloc, &grounds.whole, row)
+                && is_reached_so(alloc, &grounds.part, row)
+        }
         None => false,
     }
 }
 
-static ROWS: [Row; 3] = [
+static ROWS: [Row; 4] = [
     // Neither q nor r can be reached: r is added only where q is true, and q only where r is. So the axiom for d goes, with d,
     // and so do the effects on r, under q, and on q, which deletes a fact that is never true. `not (q)` and `not (d)` are true
-    // then, and the action that needs r goes.
+    // then, and the action that needs r goes. It is made, since the condition under which r is added isn't looked at.
     Row {
         domain: CIRCLE,
         problem: HALF,
@@ -112,6 +119,13 @@ static ROWS: [Row; 3] = [
             axioms: &[("d() | q()", 1), ("e() | p() !q()", 1)],
             goal: " s() !r()",
         },
+        made: &[
+            (
+                "act | p() !d() | +r() q() | +s() !q() | -q() | -s() p() | -p()",
+                1,
+            ),
+            ("never | r() | +q()", 1),
+        ],
         reached: Task {
             init: &["p()"],
             actions: &[("act | p() | +s() | -s() p() | -p()", 1)],
@@ -132,6 +146,7 @@ static ROWS: [Row; 3] = [
             axioms: &[("near(a) | at(a)", 1), ("near(a) | at(b)", 1)],
             goal: "never",
         },
+        made: &[("go a | at(a) | +at(b) | -at(a)", 2)],
         reached: Task {
             init: &["at(a)"],
             actions: &[("go a | at(a) | +at(b) | -at(a)", 2)],
@@ -157,6 +172,7 @@ static ROWS: [Row; 3] = [
             ],
             goal: " f() q()",
         },
+        made: &[("act | p() | -p()", 1)],
         reached: Task {
             init: &["p()"],
             actions: &[("act | p() | -p()", 1)],
@@ -176,6 +192,38 @@ static ROWS: [Row; 3] = [
             ("f()", Some(2)),
             ("g()", Some(2)),
         ],
+    },
+    // The last action waits for b, and then for c; the lost one waits for z, which nothing adds.
+    Row {
+        domain: CHAIN,
+        problem: START,
+        ground: Task {
+            init: &["a()"],
+            actions: &[
+                ("last | b() c() | +e()", 1),
+                ("second | b() | +c()", 1),
+                ("first | a() | +b()", 1),
+                ("lost | a() z() | +y() | -z()", 1),
+            ],
+            axioms: &[],
+            goal: " e()",
+        },
+        made: &[
+            ("last | b() c() | +e()", 1),
+            ("second | b() | +c()", 1),
+            ("first | a() | +b()", 1),
+        ],
+        reached: Task {
+            init: &["a()"],
+            actions: &[
+                ("last | b() c() | +e()", 1),
+                ("second | b() | +c()", 1),
+                ("first | a() | +b()", 1),
+            ],
+            axioms: &[],
+            goal: " e()",
+        },
+        facts: &[("a()", None), ("b()", None), ("c()", None), ("e()", None)],
     },
 ];
 
