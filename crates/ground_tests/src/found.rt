@@ -14,25 +14,21 @@ use std::marker::Brand;
 use std::sync::ledger::{Blank, Ledger};
 use worked_tasks::normal_task;
 
-fn instances_of(alloc: Global, normal: &Normal) -> Result<Ground, AllocError>
-    requires { IsLawfulNormal normal.now }
-    ensures { IfOk result IsLawfulGround }
-{
-    instances(alloc, normal)
-}
-
-fn part_of(alloc: Global, normal: &Normal) -> Result<Ground, AllocError>
-    requires { IsLawfulNormal normal.now }
-    ensures { IfOk result IsLawfulGround }
-{
-    reachable(alloc, normal)
-}
-
 /// The ground task with all instances, and that without actions that can't be reached.
 #[derive(Drop)]
 pub(crate) struct Grounds {
     pub(crate) whole: Ground,
     pub(crate) part: Ground,
+}
+
+fn both(alloc: Global, normal: &Normal) -> Result<Grounds, AllocError>
+    requires { IsLawfulNormal normal.now }
+    ensures whole { IfOk result (λ grounds. IsLawfulGround grounds.whole) }
+    ensures part { IfOk result (λ grounds. IsLawfulGround grounds.part) }
+{
+    let whole = instances(alloc, normal)?;
+    let part = reachable(alloc, normal)?;
+    Ok(Grounds { whole, part })
 }
 
 /// The ground tasks of two texts without a fault.
@@ -41,9 +37,7 @@ pub(crate) fn grounds_of(alloc: Global, domain: &str, problem: &str) -> Option<G
     ensures part { IfSome result (λ grounds. IsLawfulGround grounds.part) }
 {
     let normal = normal_task(alloc, domain, problem)?;
-    let whole = instances_of(alloc, &normal).ok()?;
-    let part = part_of(alloc, &normal).ok()?;
-    Some(Grounds { whole, part })
+    both(alloc, &normal).ok()
 }
 
 fn reached_by<L: Ledger>(

@@ -40,7 +40,7 @@ pub(crate) const LOW: &str =
 pub(crate) const CHAIN: &str = "(define (domain chain) (:predicates (a) (b) (c) (e) (y) (z))
  (:action last :parameters () :precondition (and (b) (c)) :effect (e))
  (:action second :parameters () :precondition (b) :effect (c))
- (:action first :parameters () :precondition (a) :effect (b))
+ (:action first :parameters () :precondition (a) :effect (and (b) (not (a))))
  (:action lost :parameters () :precondition (and (a) (z)) :effect (and (y) (not (z)))))";
 
 /// a at the start.

@@ -202,7 +202,7 @@ static ROWS: [Row; 4] = [
             actions: &[
                 ("last | b() c() | +e()", 1),
                 ("second | b() | +c()", 1),
-                ("first | a() | +b()", 1),
+                ("first | a() | +b() | -a()", 1),
                 ("lost | a() z() | +y() | -z()", 1),
             ],
             axioms: &[],
@@ -211,14 +211,14 @@ static ROWS: [Row; 4] = [
         made: &[
             ("last | b() c() | +e()", 1),
             ("second | b() | +c()", 1),
-            ("first | a() | +b()", 1),
+            ("first | a() | +b() | -a()", 1),
         ],
         reached: Task {
             init: &["a()"],
             actions: &[
                 ("last | b() c() | +e()", 1),
                 ("second | b() | +c()", 1),
-                ("first | a() | +b()", 1),
+                ("first | a() | +b() | -a()", 1),
             ],
             axioms: &[],
             goal: " e()",
