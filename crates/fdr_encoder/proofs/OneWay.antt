@@ -1,6 +1,6 @@
 -- Where each literal is positive and has a variable of its own, there is one way to satisfy them all.
-use Rattle.std.proofs.Common.{◌≡◌, ℕ, ◌+◌, ◌<◌, Bool, true, false, ◌&&◌, ◌||◌, ◌==◌, inl, inr, List, [], ◌∷◌, map, length, get_or, eqb, cond, refl, sym, ap, ◌∙◌, subst, arith}
-use Rattle.std.specs.List.{All, AllPairs, AllByRecursion, Contains, filter, filter_map, flat_map, list_any, list_all, range_with_len, IsAllAdjacentAnswer}
+use Rattle.std.proofs.Common.{◌≡◌, ℕ, ◌+◌, ◌<◌, Bool, true, false, ◌&&◌, ◌||◌, ◌==◌, inl, inr, List, [], ◌∷◌, map, length, get_or, eqb, refl, sym, ap, ◌∙◌, subst, arith}
+use Rattle.std.specs.List.{AllPairs, Contains, filter, filter_map, flat_map, list_any, list_all, range_with_len, IsAllAdjacentAnswer}
 use Rattle.std.specs.List.Sorted.{IsPermutation, IsStrictlyIncreasing}
 use Rattle.std.specs.Prelude.{nat_lt}
 use Rattle.std.proofs.lemmas.Bool.{ltb-true, eqb-true, eq-eqb, cond-true, false_from_ne_true}
@@ -14,7 +14,7 @@ use Rattle.sas_task.specs.declared.parts.Pair.{Pair}
 use Rattle.static_matcher.specs.declared.types.Cond.{Cond}
 use Rattle.fdr_encoder.specs.Places.{Cover, pair, places, first_place, last_value}
 use Rattle.fdr_encoder.specs.Split.{split, combinations, values_left, is_looked_at}
-use Rattle.fdr_encoder.specs.Marks.{on, leaves, pool, values_marked}
+use Rattle.fdr_encoder.specs.Marks.{on, leaves}
 use Rattle.fdr_encoder.proofs.Combined.{single_ways}
 use Rattle.fdr_encoder.proofs.Looked.{looked_are}
 use Rattle.fdr_encoder.proofs.Marked.{values_are, looked_at_is, wanted_fit, pool_wanted}

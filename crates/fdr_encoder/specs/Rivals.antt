@@ -1,10 +1,11 @@
 -- Words of the code: the add effects of an action, gathered by variable.
-use Rattle.std.specs.Prelude.{◌≡◌, ℕ, Bool, ◌==◌, ◌&&◌, List, [], map, length, if◌then◌else◌}
-use Rattle.std.specs.List.{filter}
+use Rattle.std.specs.Prelude.{◌≡◌, ℕ, Bool, ◌==◌, ◌&&◌, List, [], Some, map, length, if◌then◌else◌}
+use Rattle.std.specs.List.{Contains, filter}
+use Rattle.sas_task.specs.declared.parts.Pair.{Pair}
 use Rattle.static_matcher.specs.declared.types.Cond.{Cond}
 use Rattle.relaxed_reach.specs.declared.types.ReachedEffect.{ReachedEffect}
 use Rattle.fdr_encoder.specs.declared.rivals.Rival.{Rival}
-use Rattle.fdr_encoder.specs.Places.{Cover, places}
+use Rattle.fdr_encoder.specs.Places.{Cover, places, first_place}
 use Rattle.fdr_encoder.specs.Effects.{rivals}
 
 -- a rival's variable and condition
@@ -26,3 +27,11 @@ AreRivals cover effects all = (var : ℕ) → conditions_on var all ≡ rivals c
 -- whether there are no literals
 abbrev pub is_no_literal : Cond ℕ → Bool
 is_no_literal literals = (length literals.positive == 0) && (length literals.negative == 0)
+
+-- some fact with a place is the condition's positive literal, and one of the choice's negative literals
+pub record IsRuledOut (cover : Cover) (condition choice : Cond ℕ) : Type 0 where
+  pub fact : ℕ
+  pub asked : Contains condition.positive fact
+  pub barred : Contains choice.negative fact
+  pub place : Pair
+  pub first : first_place cover fact ≡ Some place
