@@ -64,7 +64,7 @@ fn in_turn<'a>(
 ) -> Result<Vec<Rival<'a>>, AllocError>
     ensures { IfOk result (λ all. map words.seen all.items ≡ flat_map (words.rivals_of index.now) effects.now) }
 {
-    let mut all = Vec::new(alloc);
+    let mut all = Vec::with_capacity(alloc, effects.len())?;
     for effect in effects {
         push_effect(&mut all, index, effect)?;
     }
