@@ -1,6 +1,6 @@
 //! The section of the operators.
 
-ghost use Rattle.std.specs.Prelude.{◌≡◌, ◌==◌, ◌++◌, [], ◌∷◌, ℕ, length, map, filter, not, find, IfOk, OnOk};
+ghost use Rattle.std.specs.Prelude.{◌≡◌, ◌==◌, ◌++◌, [], ◌∷◌, ℕ, length, map, filter, not, find, OnOk, if◌then◌else◌};
 ghost use Rattle.std.specs.List.{list_any};
 ghost use Rattle.std.specs.List.Sorted.{IsNonDecreasing, IsStrictlyIncreasing};
 ghost use Rattle.std.specs.Option.{option_map};
@@ -13,22 +13,36 @@ use crate::lines::{
 use sas_task::{Effect, Operator, Pair, SasTask};
 use std::alloc::{AllocError, Global};
 
-/// The variable of each effect.
-fn effect_variables(alloc: Global, effects: &[Effect]) -> Result<Vec<u64>, AllocError>
-    ensures { IfOk result (λ vars. vars.items ≡ map (λ e. e.var) effects.now) }
-{
-    effects.iter().map(|effect| effect.var).collect(alloc)
+/// What is found of an operator before its lines are written. The lists are filled again for each operator, so that none takes
+/// memory of its own.
+#[derive(Drop)]
+struct Room {
+    /// The variables that its effects change.
+    changed: Vec<u64>,
+    /// Its prevail conditions.
+    prevail: Vec<Pair>,
 }
 
-/// The variables that the effects change, sorted.
-fn changed_variables(alloc: Global, effects: &[Effect]) -> Result<Vec<u64>, AllocError>
-    ensures sorted { IfOk result (λ changed. IsNonDecreasing changed.items) }
-    ensures changed { IfOk result (λ changed. (var : ℕ) →
-        list_any (λ v. v == var) changed.items ≡ list_any (λ e. e.var == var) effects.now) }
+/// Makes them the variables of the effects.
+fn set_variables(variables: &mut Vec<u64>, effects: &[Effect]) -> Result<(), AllocError>
+    ensures { OnOk result (variables.new.items ≡ map (λ e. e.var) effects.now) }
 {
-    let mut changed = effect_variables(alloc, effects)?;
+    variables.clear();
+    for effect in effects {
+        variables.push(effect.var)?;
+    }
+    Ok(())
+}
+
+/// Makes them the variables that the effects change, sorted.
+fn set_changed(changed: &mut Vec<u64>, effects: &[Effect]) -> Result<(), AllocError>
+    ensures sorted { OnOk result (IsNonDecreasing changed.new.items) }
+    ensures changed { OnOk result ((var : ℕ) →
+        list_any (λ v. v == var) changed.new.items ≡ list_any (λ e. e.var == var) effects.now) }
+{
+    set_variables(changed, effects)?;
     changed.sort_unstable();
-    Ok(changed)
+    Ok(())
 }
 
 /// Whether the number is among the sorted ones.
@@ -39,24 +53,40 @@ fn is_among(sorted: &[u64], number: u64) -> bool
     sorted.binary_search(&number).is_ok()
 }
 
-/// The pairs whose variable isn't among the sorted ones, in order.
-fn pairs_without(alloc: Global, pairs: &[Pair], sorted: &[u64]) -> Result<Vec<Pair>, AllocError>
+/// Adds the pair, if its variable isn't among the sorted ones.
+fn push_without(kept: &mut Vec<Pair>, pair: &Pair, sorted: &[u64]) -> Result<(), AllocError>
     requires { IsNonDecreasing sorted.now }
-    ensures { IfOk result (λ kept. kept.items ≡ filter (λ p. not (list_any (λ v. v == p.var) sorted.now)) pairs.now) }
+    ensures { OnOk result (kept.new.items ≡ kept.old.items ++ (if not (list_any (λ v. v == pair.now.var) sorted.now) then pair.now ∷ [] else [])) }
 {
-    pairs
-        .iter()
-        .filter(|pair| !is_among(sorted, pair.var))
-        .copied()
-        .collect(alloc)
+    if !is_among(sorted, pair.var) {
+        kept.push(*pair)?;
+    }
+    Ok(())
 }
 
-/// The prevail conditions of an operator, in order.
-fn prevail_conditions(alloc: Global, operator: &Operator) -> Result<Vec<Pair>, AllocError>
-    ensures { IfOk result (λ pairs. pairs.items ≡ prevail operator.now) }
+/// Makes them the pairs whose variable isn't among the sorted ones, in order.
+fn set_without(kept: &mut Vec<Pair>, pairs: &[Pair], sorted: &[u64]) -> Result<(), AllocError>
+    requires { IsNonDecreasing sorted.now }
+    ensures { OnOk result (kept.new.items ≡ filter (λ p. not (list_any (λ v. v == p.var) sorted.now)) pairs.now) }
 {
-    let changed = changed_variables(alloc, operator.effects.as_slice())?;
-    pairs_without(alloc, operator.conditions.as_slice(), changed.as_slice())
+    kept.clear();
+    for pair in pairs {
+        push_without(kept, pair, sorted)?;
+    }
+    Ok(())
+}
+
+/// Finds the prevail conditions of an operator, in order.
+fn find_prevail(room: &mut Room, operator: &Operator) -> Result<(), AllocError>
+    ensures { OnOk result (room.new.prevail.items ≡ prevail operator.now) }
+{
+    set_changed(&mut room.changed, operator.effects.as_slice())?;
+    set_without(
+        &mut room.prevail,
+        operator.conditions.as_slice(),
+        room.changed.as_slice(),
+    )?;
+    Ok(())
 }
 
 /// The value that conditions, sorted by variable, require of a variable.
@@ -98,13 +128,14 @@ fn push_effects(out: &mut Vec<u8>, operator: &Operator) -> Result<(), AllocError
     Ok(())
 }
 
-fn push_operator(alloc: Global, out: &mut Vec<u8>, operator: &Operator) -> Result<(), AllocError>
+fn push_operator(out: &mut Vec<u8>, room: &mut Room, operator: &Operator) -> Result<(), AllocError>
     requires { IsStrictlyIncreasing (map (λ p. p.var) operator.now.conditions) }
     ensures { OnOk result (out.new.items ≡ out.old.items ++ bytes_of (operator_lines operator.now)) }
 {
+    find_prevail(room, operator)?;
     push_line(out, b"begin_operator")?;
     push_line(out, operator.name.as_slice())?;
-    push_pairs(out, prevail_conditions(alloc, operator)?.as_slice())?;
+    push_pairs(out, room.prevail.as_slice())?;
     push_effects(out, operator)?;
     push_number_line(out, operator.cost)?;
     push_line(out, b"end_operator")
@@ -116,8 +147,12 @@ pub fn push_operators(alloc: Global, out: &mut Vec<u8>, task: &SasTask) -> Resul
 {
     let count = task.operators();
     push_number_line(out, count)?;
+    let mut room = Room {
+        changed: Vec::new(alloc),
+        prevail: Vec::new(alloc),
+    };
     for i in 0..count {
-        push_operator(alloc, out, task.operator(i))?;
+        push_operator(out, &mut room, task.operator(i))?;
     }
     Ok(())
 }
