@@ -234,3 +234,15 @@ def walled_grid(squares):
         + b" " + b" ".join(b"(clear %s)" % name(x, y) for x, y in free if (x, y) not in taken) + b")\n(:goal (and "
         + b" ".join(b"(stone-at stone%d %s)" % (i, name(side - 1, y)) for i, (_, y) in enumerate(stones)) + b")))",
     )
+
+
+# The families of whole planning tasks: the name, how it is made, its sizes for counting instructions, and its full sizes.
+PLANNING = (
+    ("ring, nodes", ring, (1_000, 2_000, 4_000), (2_000, 20_000, 200_000)),
+    ("gripper, balls", gripper, (50, 100, 200), (50, 100, 200, 400, 800)),
+    ("untyped gripper, balls", untyped_gripper, (25, 50, 100), (50, 100, 200, 400, 800)),
+    ("blocks", blocks, (10, 20, 40), (20, 40, 80, 160)),
+    ("transport, packages", transport, (25, 50, 100), (50, 100, 200)),
+    ("walls, squares", walled_grid, (100, 400), (100, 400, 1_600)),
+    ("lift, floors", lift, (12, 25, 50), (25, 50, 100)),
+)

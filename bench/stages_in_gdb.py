@@ -1,8 +1,8 @@
-"""Runs inside gdb, for bench/stages: the greatest resident size in each stage of one run.
+"""Runs inside gdb, for bench/stages: the processor seconds of each stage of one run, and the greatest resident size in it.
 
 The current folder has `beginnings.json`: for each stage, in order, its name and the functions with which it may begin. It
-begins where one of them is called first. `resident.json` gets the KiB of each stage that began, and under `rest` those before
-the first.
+begins where one of them is called first. `told.json` gets the seconds and the KiB of each stage that began, and under `rest`
+those before the first.
 """
 
 import json
@@ -24,6 +24,12 @@ def greatest():
         return next(int(line.split()[1]) for line in status if line.startswith("VmHWM:"))
 
 
+def processor_seconds():
+    """Those of the program so far, which the kernel counts while it runs, and so without what gdb takes at a stop."""
+    with open(f"/proc/{gdb.selected_inferior().pid}/schedstat", encoding="utf-8") as counts:
+        return int(counts.read().split()[0]) / 1e9
+
+
 def forget(waiting, place):
     """Stops no more for the stages up to this place."""
     for past in [it for it in waiting if it.place <= place]:
@@ -38,16 +44,17 @@ def main():
     waiting = [Beginning(function, place) for function, place in places.items()]
     gdb.execute("catch syscall exit_group")
     gdb.execute("run")
-    resident, name = {}, "rest"
+    told, name, begun = {}, "rest", 0
     while (function := gdb.newest_frame().name()) in places:
-        resident[name] = greatest()
-        name = stages[places[function]][0]
+        told[name] = processor_seconds() - begun, greatest()
+        name, begun = stages[places[function]][0], processor_seconds()
         forget(waiting, places[function])
-        gdb.execute("set variable *(int *) &stage_begins = 1")
+        if gdb.convenience_variable("gives_back"):
+            gdb.execute("set variable *(int *) &stage_begins = 1")
         gdb.execute("continue")
-    resident[name] = greatest()
-    with open("resident.json", "w", encoding="utf-8") as file:
-        json.dump(resident, file)
+    told[name] = processor_seconds() - begun, greatest()
+    with open("told.json", "w", encoding="utf-8") as file:
+        json.dump(told, file)
     gdb.execute("continue")
 
 
