@@ -13,8 +13,3 @@ module _ {X : Type 0} (positions_of : X → List At) (items : List X) (i : ℕ) 
       ∙ ap (λ first. earlier first here) held
       ∙ ap (earlier (earliest (flat_map positions_of (take i items)))) (in_item ∙ ap (λ (x : X). earliest (positions_of x)) is)
       ∙ sym (earliest_more positions_of items i item within)
-
--- the first position of what is equal to what was looked through
-pub first_of_same : {A B : Type 0} (positions : A → B → List At) (a other : A) (b another : B) (at : Option At) → at ≡ earliest (positions a b) → a ≡ other → b ≡ another → at ≡ earliest (positions other another)
-first_of_same positions a other b another at found same same' =
-    found ∙ ap (λ x. earliest (positions x b)) same ∙ ap (λ y. earliest (positions other y)) same'

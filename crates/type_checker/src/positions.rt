@@ -9,6 +9,9 @@ ghost use Rattle.type_checker.specs.Positions.{earliest};
 use pddl_lexer::At;
 use std::alloc::AllocError;
 
+/// The first position in the domain and the first position in the problem, where there is one.
+pub(crate) type FirstPositions = (Option<At>, Option<At>);
+
 /// The earlier of two positions that may be missing.
 pub(crate) fn earlier(first: Option<At>, second: Option<At>) -> Option<At>
     ensures { result ≡ spec.earlier first second }

@@ -1,22 +1,21 @@
-use Rattle.std.proofs.Common.{Option, sym, ap, ◌∙◌}
-use Rattle.pddl_lexer.specs.declared.position.At.{At}
-use Rattle.pddl_lexer.specs.declared.fault.Kind.{Kind}
-use Rattle.type_checker.specs.Positions.{earliest}
-use Rattle.type_checker.specs.Mentions.{in_domain}
-use Rattle.type_checker.specs.Names.{domain_arities, wrong_uses, total_cost_heads}
-use Rattle.type_checker.specs.Faults.{row_of}
-use Rattle.type_checker.specs.Rows.{first_positions}
-use Rattle.type_checker.proofs.FirstPositions.{first_of_same}
-use Rattle.type_checker.proofs.Joined.{earliest_of_both}
+use Rattle.std.proofs.Common.{◌∷◌, [], None}
+use Rattle.pddl_lexer.specs.declared.fault.Kind.TheVariants as kinds
 use Rattle.type_checker.proofs.checking.first_positions.Goals as goal
 
-pub returns-in-WrongArity : goal.returns-in-WrongArity
-returns-in-WrongArity c =
-    let domain = c.args.files.now.domain.now in
-    ap (λ (first : Option At). (first, c.first_wrong_use-in-WrongArity.result))
-    (c.earlier.ensures
-    ∙ earliest_of_both (total_cost_heads domain) (wrong_uses domain (in_domain domain)) _ _ c.first_total_cost_head.ensures
-    (first_of_same wrong_uses _ _ _ _ _ c.first_wrong_use.ensures c.requires.signature c.requires.in_domain))
-    ∙ ap (λ (second : Option At). (earliest (domain_arities domain), second))
-    (first_of_same wrong_uses _ _ _ _ _ c.first_wrong_use-in-WrongArity.ensures c.requires.signature c.requires.in_problem)
-    ∙ sym (ap (λ (kind : Kind). first_positions (row_of domain c.args.files.now.problem.now kind)) c.in-WrongArity.is)
+pub returns : goal.returns
+returns c = λ i.
+    (kinds.UnknownType, c.in_ok-first_unknown_types.ensures {u = tt} i)
+    ∷ (kinds.TypeCycle, (c.in_ok-first_type_on_cycle.ensures {u = tt} i, None))
+    ∷ (kinds.DuplicateName, c.in_ok-first_repeats.ensures {u = tt} i)
+    ∷ (kinds.UnknownPredicate, c.first_unknown_predicates.ensures i)
+    ∷ (kinds.UnknownFunction, c.first_unknown_functions.ensures i)
+    ∷ (kinds.WrongArity, c.first_wrong_arities.ensures i)
+    ∷ (kinds.UnknownObject, c.in_ok-first_unknown_objects.ensures {u = tt} i)
+    ∷ (kinds.UnboundVariable, c.in_ok-first_unbound.ensures {u = tt} i)
+    ∷ (kinds.DerivedWritten, c.in_ok-first_written_derived.ensures {u = tt} i)
+    ∷ (kinds.RecursiveDerived, (c.in_ok-first_recursive_axiom.ensures {u = tt} i, None))
+    ∷ (kinds.InitConflict, (None, c.in_ok-first_denied.ensures {u = tt} i))
+    ∷ (kinds.ValueConflict, (None, c.in_ok-first_revalued.ensures {u = tt} i))
+    ∷ (kinds.CostForm, (c.first_ill_formed_increase.ensures i, None))
+    ∷ (kinds.TooManyParts, c.first_too_large.ensures i)
+    ∷ []
