@@ -10,7 +10,7 @@ ghost use Rattle.normal_task.specs.Parts as parts;
 use crate::conditions::{Here, cut, joined_made, neutral};
 use lists::List;
 use normal_rows::{Change, Made, effect_rows, joined_ranges, made_behind, nothing_made};
-use normal_task::{EffectRow, Part};
+use normal_task::{EffectRow, ObjectRange, Part};
 use numbering::{Numbering, Scope, places_of, scope_inside, sum};
 use pddl_parser::{Atom, Condition, Effect, Typed};
 use std::alloc::{AllocError, Global};
@@ -129,7 +129,7 @@ fn with_required<'s, 'n, 'a>(
 /// The effect with more variables before its own.
 fn row_with_variables(
     alloc: Global,
-    variables: &[List<u64>],
+    variables: &[ObjectRange],
     row: EffectRow,
 ) -> Result<EffectRow, AllocError>
     ensures { IfOk result (λ longer. longer ≡ record {
@@ -152,7 +152,7 @@ fn row_with_variables(
 /// The effects with more variables before their own.
 fn rows_with_variables(
     alloc: Global,
-    variables: &[List<u64>],
+    variables: &[ObjectRange],
     rows: List<EffectRow>,
 ) -> Result<List<EffectRow>, AllocError>
     ensures { IfOk result (λ longer. longer ≡ map (λ row. record {

@@ -11,7 +11,7 @@ use lists::{List, Text};
 use normal_rows::{
     Made, action_cost, joined_lists, joined_ranges, made_behind, moved_rows, nothing_made,
 };
-use normal_task::{EffectRow, Part, Schema};
+use normal_task::{EffectRow, ObjectRange, Part, Schema};
 use numbering::{Numbering, Scope, scope_of, sum};
 use pddl_parser::Action;
 use std::alloc::{AllocError, Global};
@@ -21,7 +21,7 @@ use std::alloc::{AllocError, Global};
 struct Shared<'s, 'n, 'a> {
     action: &'a Action,
     scope: &'s Scope<'n, 'a>,
-    ranges: &'s [List<u64>],
+    ranges: &'s [ObjectRange],
     rows: &'s [EffectRow],
 }
 

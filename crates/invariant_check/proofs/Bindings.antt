@@ -12,11 +12,11 @@ use Rattle.normal_task.specs.declared.task.Normal.{Normal}
 use Rattle.normal_task.specs.declared.task.Place.{Place}
 use Rattle.normal_task.specs.declared.task.Place.TheVariants.{Variable, Object}
 use Rattle.normal_task.specs.Lawful.{is_place, is_literal, is_predicate, has_arity}
-use Rattle.normal_task.specs.Meaning.{atom_of, State, Binding, object_at, objects_at, answers, is_met, are_met}
+use Rattle.normal_task.specs.Meaning.{atom_of, State, Binding, object_at, objects_at, answers, is_met, are_met, choices}
 use Rattle.normal_task.proofs.Chosen.{is_choice}
 use Rattle.normal_task.specs.Within.{place_within, literal_within}
 use Rattle.normal_task.proofs.Alls.{all-weaker}
-use Rattle.invariant_check.specs.Accepted.{is_same_literal, is_listed, fits, with_terms, literal_with, terms, each_choice}
+use Rattle.invariant_check.specs.Accepted.{is_same_literal, is_listed, fits, with_terms, literal_with, terms}
 use Rattle.invariant_check.specs.Contradictory.{objects_of, is_among}
 use Rattle.invariant_check.proofs.SamePlaces.{same_place, same_places}
 
@@ -153,12 +153,12 @@ choice-typed (range ∷ ranges) (o ∷ binding) is (Variable (suc number)) = cho
 
 -- terms that fit give objects of the ranges
 pub fittings-choose : (task : Normal) (ranges : List (List ℕ)) (binding : Binding) → is_choice ranges binding ≡ true → (variables : List (List ℕ)) (given : List Place) →
-    Among given (each_choice (map (λ range. filter (fits ranges range) (terms task ranges)) variables)) → is_choice variables (map (object_at binding) given) ≡ true
+    Among given (choices (map (λ range. filter (fits ranges range) (terms task ranges)) variables)) → is_choice variables (map (object_at binding) given) ≡ true
 fittings-choose task ranges binding typed [] given (inl none) = subst (λ (g : List Place). is_choice [] (map (object_at binding) g) ≡ true) none refl
 fittings-choose task ranges binding typed [] given (inr never) = absurd never
 fittings-choose task ranges binding typed (range ∷ variables) given there =
-    let found = flat_map_piece (λ item. map (λ others. item ∷ others) (each_choice (map (λ range. filter (fits ranges range) (terms task ranges)) variables))) (filter (fits ranges range) (terms task ranges)) given there in
-    let rest = map_source (λ (others : List Place). found.source ∷ others) (each_choice (map (λ range. filter (fits ranges range) (terms task ranges)) variables)) given found.inside in
+    let found = flat_map_piece (λ item. map (λ others. item ∷ others) (choices (map (λ range. filter (fits ranges range) (terms task ranges)) variables))) (filter (fits ranges range) (terms task ranges)) given there in
+    let rest = map_source (λ (others : List Place). found.source ∷ others) (choices (map (λ range. filter (fits ranges range) (terms task ranges)) variables)) given found.inside in
     let fit = filter-passes (fits ranges range) found.source (terms task ranges) found.among in
     let here = contained range (objects_of ranges found.source) fit (object_at binding found.source) (choice-typed ranges binding typed found.source) in
     let more = fittings-choose task ranges binding typed variables rest.source rest.among in

@@ -5,34 +5,34 @@ use Rattle.std.specs.List.{list_any}
 use Rattle.std.proofs.Math.ListN.{drop_of_length-le}
 use Rattle.std.proofs.Math.Seq.{drop-cons}
 use Rattle.lists.proofs.Items.{any_map, any_flat_map, same_any}
-use Rattle.invariant_check.specs.Accepted.{each_choice}
+use Rattle.normal_task.specs.Meaning.{choices}
 
 module _ {A : Type 0} (test : List A → Bool) (given : List A) where
   -- the test passes with the item behind those given, and some choice of the others
   abbrev pub tries : List (List A) → A → Bool
-  tries more item = list_any (λ others. test ((given ++ item ∷ []) ++ others)) (each_choice more)
+  tries more item = list_any (λ others. test ((given ++ item ∷ []) ++ others)) (choices more)
 
-  split : (items : List A) (more : List (List A)) → list_any (λ others. test (given ++ others)) (each_choice (items ∷ more)) ≡ list_any (tries more) items
+  split : (items : List A) (more : List (List A)) → list_any (λ others. test (given ++ others)) (choices (items ∷ more)) ≡ list_any (tries more) items
   split items more =
-      any_flat_map (λ item. map (λ others. item ∷ others) (each_choice more)) (λ others. test (given ++ others)) items
-      ∙ same_any (λ item. list_any (λ others. test (given ++ others)) (map (λ others. item ∷ others) (each_choice more))) (tries more) items
-      (λ item there. any_map (λ others. test (given ++ others)) (λ others. item ∷ others) (each_choice more)
-      ∙ same_any (λ others. test (given ++ item ∷ others)) (λ others. test ((given ++ item ∷ []) ++ others)) (each_choice more) (λ others there. ap test (sym (append_assoc given (item ∷ []) others))))
+      any_flat_map (λ item. map (λ others. item ∷ others) (choices more)) (λ others. test (given ++ others)) items
+      ∙ same_any (λ item. list_any (λ others. test (given ++ others)) (map (λ others. item ∷ others) (choices more))) (tries more) items
+      (λ item there. any_map (λ others. test (given ++ others)) (λ others. item ∷ others) (choices more)
+      ∙ same_any (λ others. test (given ++ item ∷ others)) (λ others. test ((given ++ item ∷ []) ++ others)) (choices more) (λ others there. ap test (sym (append_assoc given (item ∷ []) others))))
 
   module _ (lists : List (List A)) (at : ℕ) where
     -- the choices from there on
     abbrev some_choice : Bool
-    some_choice = list_any (λ others. test (given ++ others)) (each_choice (drop at lists))
+    some_choice = list_any (λ others. test (given ++ others)) (choices (drop at lists))
 
     pub all_given : length lists ≤ at → test given ≡ some_choice
     all_given past =
-        ap test (sym (append-nil given)) ∙ sym (or-false (test (given ++ []))) ∙ ap (λ ls. list_any (λ others. test (given ++ others)) (each_choice ls)) (sym (drop_of_length-le lists past))
+        ap test (sym (append-nil given)) ∙ sym (or-false (test (given ++ []))) ∙ ap (λ ls. list_any (λ others. test (given ++ others)) (choices ls)) (sym (drop_of_length-le lists past))
 
     module _ (items : List A) (some : at < length lists) (first : items ≡ get_or lists at items) where
       whole : some_choice ≡ list_any (tries (drop (at + 1) lists)) items
       whole =
           let step : suc at ≡ at + 1 = omega arith in
-          ap (λ ls. list_any (λ others. test (given ++ others)) (each_choice ls)) (drop-cons lists at items some ∙ ap (λ n. get_or lists at items ∷ drop n lists) step)
+          ap (λ ls. list_any (λ others. test (given ++ others)) (choices ls)) (drop-cons lists at items some ∙ ap (λ n. get_or lists at items ∷ drop n lists) step)
           ∙ split (get_or lists at items) (drop (at + 1) lists) ∙ ap (list_any (tries (drop (at + 1) lists))) (sym first)
 
       module _ (index : ℕ) (other : A) (within : index < length items) (held : list_any (tries (drop (at + 1) lists)) items ≡ list_any (tries (drop (at + 1) lists)) (drop index items)) where

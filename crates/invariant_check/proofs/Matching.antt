@@ -17,11 +17,12 @@ use Rattle.normal_task.specs.declared.task.Normal.{Normal}
 use Rattle.normal_task.specs.declared.task.Place.{Place}
 use Rattle.normal_task.specs.declared.task.Place.TheVariants.{Variable, Object}
 use Rattle.normal_task.specs.declared.task.Schema.{Schema}
+use Rattle.normal_task.specs.Meaning.{choices}
 use Rattle.invariant_check.specs.declared.types.Candidate.{Candidate}
 use Rattle.invariant_check.specs.declared.types.Part.{Part}
 use Rattle.invariant_check.specs.Candidates.{at_positions}
 use Rattle.invariant_check.specs.Contradictory.{is_same_place, terms_of, is_among}
-use Rattle.invariant_check.specs.Accepted.{required, instance_of, apart_from, is_same_literal, is_listed, terms, fits, each_choice, fittings, with_terms, literal_with, row_with, never_restores, balances, has_balance}
+use Rattle.invariant_check.specs.Accepted.{required, instance_of, apart_from, is_same_literal, is_listed, terms, fits, fittings, with_terms, literal_with, row_with, never_restores, balances, has_balance}
 use Rattle.invariant_check.specs.Attempts.{is_at_instance, stated_at, some_terms, tried_for, tried, is_fitting, are_fitting, balances_given, balances_somehow}
 use Rattle.invariant_check.proofs.Bindings.{same_literal}
 use Rattle.invariant_check.proofs.SamePlaces.{get_or_map, true-false, same_place, place_itself}
@@ -34,21 +35,21 @@ Chosen [] (x ∷ xs) = ⊥
 Chosen (list ∷ lists) [] = ⊥
 Chosen (list ∷ lists) (x ∷ xs) = Among x list × Chosen lists xs
 
-pub choice_chosen : {A : Type 0} (lists : List (List A)) (xs : List A) → Among xs (each_choice lists) → Chosen lists xs
+pub choice_chosen : {A : Type 0} (lists : List (List A)) (xs : List A) → Among xs (choices lists) → Chosen lists xs
 choice_chosen [] xs (inl none) = subst (λ ys. Chosen [] ys) none tt
 choice_chosen [] xs (inr never) = absurd never
 choice_chosen {A = A} (list ∷ lists) xs there =
-    let found = flat_map_piece (λ item. map (λ others. item ∷ others) (each_choice lists)) list xs there in
-    let rest = map_source (λ (others : List A). found.source ∷ others) (each_choice lists) xs found.inside in
+    let found = flat_map_piece (λ item. map (λ others. item ∷ others) (choices lists)) list xs there in
+    let rest = map_source (λ (others : List A). found.source ∷ others) (choices lists) xs found.inside in
     subst (λ ys. Chosen (list ∷ lists) ys) rest.gives (found.among, choice_chosen lists rest.source rest.among)
 
-pub chosen_choice : {A : Type 0} (lists : List (List A)) (xs : List A) → Chosen lists xs → Among xs (each_choice lists)
+pub chosen_choice : {A : Type 0} (lists : List (List A)) (xs : List A) → Chosen lists xs → Among xs (choices lists)
 chosen_choice [] [] chosen = inl refl
 chosen_choice [] (x ∷ xs) chosen = absurd chosen
 chosen_choice (list ∷ lists) [] chosen = absurd chosen
 chosen_choice {A = A} (list ∷ lists) (x ∷ xs) chosen =
-    among_flat_map (λ item. map (λ others. item ∷ others) (each_choice lists)) x (x ∷ xs) list chosen.0
-    (among_map (λ (others : List A). x ∷ others) xs (each_choice lists) (chosen_choice lists xs chosen.1))
+    among_flat_map (λ item. map (λ others. item ∷ others) (choices lists)) x (x ∷ xs) list chosen.0
+    (among_map (λ (others : List A). x ∷ others) xs (choices lists) (chosen_choice lists xs chosen.1))
 
 -- ---- terms that fit
 
@@ -326,12 +327,12 @@ module _ (task : Normal) (candidate : Candidate) (schema : Schema) (part : Part)
         same-row : row_with schema d others ≡ row_with schema d given
         same-row = let places = same-places in let conditions = same-conditions in cc (places, conditions)
 
-  some-attempt : (given : List Place) → Among given (fittings task ranges d) → tests given ≡ true → list_any attempts (each_choice (tried task ranges rest d from d.variables)) ≡ true
+  some-attempt : (given : List Place) → Among given (fittings task ranges d) → tests given ≡ true → list_any attempts (choices (tried task ranges rest d from d.variables)) ≡ true
   some-attempt given there is =
       let s = says given is in
       let fit = chosen-fitting task ranges d.variables given (choice_chosen (map (λ range. filter (fits ranges range) (terms task ranges)) d.variables) given there) in
       let p = picked from d.variables given fit (given-in-atom given s) (given-standing given s) in
-      any_passes attempts p.others (each_choice (tried task ranges rest d from d.variables)) (chosen_choice (tried task ranges rest d from d.variables) p.others p.chosen)
+      any_passes attempts p.others (choices (tried task ranges rest d from d.variables)) (chosen_choice (tried task ranges rest d from d.variables) p.others p.chosen)
       (split s.deletes p.others ∙ and_from (are_fitting task ranges p.others d.variables) (tests p.others) p.fitting (same-test given p.others p.agree ∙ is))
 
   has-predicate : (places : List Place) → is_at_instance candidate (instance_of part e) d.predicate places ≡ true → list_any (λ part. nat_eq part.predicate d.predicate) candidate.parts ≡ true
@@ -346,9 +347,9 @@ module _ (task : Normal) (candidate : Candidate) (schema : Schema) (part : Part)
     where
       forth : balances_somehow task candidate schema e rest (instance_of part e) d ≡ true → list_any tests (fittings task ranges d) ≡ true
       forth is =
-          let outer = and_parts (not d.adds && list_any (λ part. nat_eq part.predicate d.predicate) candidate.parts) (list_any attempts (each_choice (tried task ranges rest d from d.variables))) is in
+          let outer = and_parts (not d.adds && list_any (λ part. nat_eq part.predicate d.predicate) candidate.parts) (list_any attempts (choices (tried task ranges rest d from d.variables))) is in
           let deletes = not-true d.adds (and_parts (not d.adds) (list_any (λ part. nat_eq part.predicate d.predicate) candidate.parts) outer.0).0 in
-          let found = passing attempts (each_choice (tried task ranges rest d from d.variables)) outer.1 in
+          let found = passing attempts (choices (tried task ranges rest d from d.variables)) outer.1 in
           let parts = and_parts (are_fitting task ranges found.item d.variables) (tests found.item) (sym (split deletes found.item) ∙ found.passes) in
           any_passes tests found.item (fittings task ranges d)
           (chosen_choice (map (λ range. filter (fits ranges range) (terms task ranges)) d.variables) found.item (fitting-chosen task ranges d.variables found.item parts.0)) parts.1
@@ -357,7 +358,7 @@ module _ (task : Normal) (candidate : Candidate) (schema : Schema) (part : Part)
       back is =
           let found = passing tests (fittings task ranges d) is in
           let s = says found.item found.passes in
-          and_from (not d.adds && list_any (λ part. nat_eq part.predicate d.predicate) candidate.parts) (list_any attempts (each_choice (tried task ranges rest d from d.variables)))
+          and_from (not d.adds && list_any (λ part. nat_eq part.predicate d.predicate) candidate.parts) (list_any attempts (choices (tried task ranges rest d from d.variables)))
           (and_from (not d.adds) (list_any (λ part. nat_eq part.predicate d.predicate) candidate.parts) (ap not s.deletes) (has-predicate (map (with_terms from found.item) d.places) s.at_instance))
           (some-attempt found.item found.among found.passes)
 

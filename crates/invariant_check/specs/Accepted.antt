@@ -10,6 +10,7 @@ use Rattle.normal_task.specs.declared.task.Place.{Place}
 use Rattle.normal_task.specs.declared.task.Place.TheVariants.{Variable, Object}
 use Rattle.normal_task.specs.declared.task.Schema.{Schema}
 use Rattle.normal_task.specs.Parts.{moved, moved_place}
+use Rattle.normal_task.specs.Meaning.{choices}
 use Rattle.invariant_check.specs.declared.types.Candidate.{Candidate}
 use Rattle.invariant_check.specs.declared.types.Part.{Part}
 use Rattle.invariant_check.specs.Candidates.{at_positions}
@@ -103,14 +104,9 @@ terms task ranges = map Variable (range_with_len 0 (length ranges)) ++ map Objec
 abbrev pub fits : List (List ℕ) → List ℕ → Place → Bool
 fits ranges range term = list_all (is_among range) (objects_of ranges term)
 
--- every list with one item of each list
-abbrev pub each_choice : {A : Type 0} → List (List A) → List (List A)
-each_choice [] = [] ∷ []
-each_choice (items ∷ more) = flat_map (λ item. map (λ others. item ∷ others) (each_choice more)) items
-
 -- the ways to give each own variable of the row a term that fits
 abbrev pub fittings : Normal → List (List ℕ) → EffectRow → List (List Place)
-fittings task ranges row = each_choice (map (λ range. filter (fits ranges range) (terms task ranges)) row.variables)
+fittings task ranges row = choices (map (λ range. filter (fits ranges range) (terms task ranges)) row.variables)
 
 -- the place, with the given terms for the variables from the given number on
 abbrev pub with_terms : ℕ → List Place → Place → Place

@@ -10,10 +10,11 @@ use Rattle.normal_task.specs.declared.task.Normal.{Normal}
 use Rattle.normal_task.specs.declared.task.Place.{Place}
 use Rattle.normal_task.specs.declared.task.Place.TheVariants.{Variable, Object}
 use Rattle.normal_task.specs.declared.task.Schema.{Schema}
+use Rattle.normal_task.specs.Meaning.{choices}
 use Rattle.invariant_check.specs.declared.types.Candidate.{Candidate}
 use Rattle.invariant_check.specs.Candidates.{at_positions}
 use Rattle.invariant_check.specs.Contradictory.{is_same_place, in_one_class, all_pairs, are_same_terms, terms_of, is_contradictory}
-use Rattle.invariant_check.specs.Accepted.{apart_from, ranges_with, denied, is_listed, terms, fits, each_choice, with_terms, literal_with}
+use Rattle.invariant_check.specs.Accepted.{apart_from, ranges_with, denied, is_listed, terms, fits, with_terms, literal_with}
 
 -- ---- light
 
@@ -82,4 +83,4 @@ abbrev pub balances_somehow : Normal → Candidate → Schema → EffectRow → 
 balances_somehow task candidate schema e required instance d =
     not d.adds && list_any (λ part. nat_eq part.predicate d.predicate) candidate.parts
     && list_any (balances_given task candidate schema e required instance d)
-    (each_choice (tried task (schema.parameters ++ e.variables) required d (length schema.parameters) d.variables))
+    (choices (tried task (schema.parameters ++ e.variables) required d (length schema.parameters) d.variables))

@@ -2,6 +2,7 @@
 use Rattle.std.specs.Prelude.{ℕ, Bool, false, not, ◌&&◌, ◌||◌, nat_eq, List, [], ◌∷◌, ◌++◌, get_or, if◌then◌else◌}
 use Rattle.std.specs.Cmp.Lexicographic.{pointwise}
 use Rattle.std.specs.List.{list_all, list_any, flat_map}
+use Rattle.lists.specs.Members as members
 use Rattle.normal_task.specs.declared.task.Literal.{Literal}
 use Rattle.normal_task.specs.declared.task.Literal.TheVariants.{Holds, Equal}
 use Rattle.normal_task.specs.declared.task.Place.{Place}
@@ -38,8 +39,9 @@ abbrev pub objects_of : List (List ℕ) → Place → List ℕ
 objects_of ranges (Variable number) = get_or ranges number (0 ∷ [])
 objects_of ranges (Object object) = object ∷ []
 
+-- the object is one of the list
 abbrev pub is_among : List ℕ → ℕ → Bool
-is_among objects object = list_any (nat_eq object) objects
+is_among objects object = members.is_among nat_eq objects object
 
 abbrev pub terms_of : Literal → List Place
 terms_of (Holds positive predicate places) = places

@@ -4,6 +4,7 @@ ghost use Rattle.std.specs.Cmp.Lexicographic.{pointwise};
 ghost use Rattle.std.specs.List.{list_all, list_any};
 ghost use Rattle.normal_task.specs.declared.task.Literal.TheVariants.{Holds};
 ghost use Rattle.normal_task.specs.declared.task.Place.TheVariants.{Object};
+ghost use Rattle.normal_task.specs.Meaning.{choices};
 ghost use Rattle.invariant_check.specs.Accepted as spec;
 ghost use Rattle.invariant_check.specs.Attempts as words;
 ghost use Rattle.invariant_check.specs.Candidates.{at_positions};
@@ -309,7 +310,7 @@ fn balances_from(
     variable: usize,
 ) -> Result<bool, AllocError>
     ensures { IfOk result (λ answer. answer ≡ list_any (λ others. words.balances_given normal.now candidate.now add.now.schema.now add.now.row.now add.now.required.now add.now.instance.now delete.now (given.now ++ others))
-        (spec.each_choice (drop variable tried.now))) }
+        (choices (drop variable tried.now))) }
 {
     if variable >= tried.len() {
         return balances_given(alloc, normal, candidate, add, delete, given);

@@ -2,20 +2,20 @@
 ghost use Rattle.std.specs.Prelude.{◌≡◌, ◌++◌, ◌∷◌, [], get_or};
 ghost use Rattle.invariant_check.specs.Merges.{all_ranges};
 
-use lists::List;
+use normal_task::ObjectRange;
 
 /// The ranges of a schema's parameters, and then those of the variables of two effects, in the order of their numbers.
 #[derive(Clone, Copy)]
 pub(crate) struct Ranges<'a> {
-    pub(crate) parameters: &'a [List<u64>],
-    pub(crate) first: &'a [List<u64>],
-    pub(crate) second: &'a [List<u64>],
+    pub(crate) parameters: &'a [ObjectRange],
+    pub(crate) first: &'a [ObjectRange],
+    pub(crate) second: &'a [ObjectRange],
 }
 
 /// A number that is in no list has this range, which holds what stands at it in a binding without it.
 static OBJECT_0: [u64; 1] = [0];
 
-fn range_in(ranges: &[List<u64>], number: usize) -> &[u64]
+fn range_in(ranges: &[ObjectRange], number: usize) -> &[u64]
     ensures { result.now ≡ get_or ranges.now number (0 ∷ []) }
 {
     if number < ranges.len() {
@@ -25,7 +25,7 @@ fn range_in(ranges: &[List<u64>], number: usize) -> &[u64]
     }
 }
 
-fn range_behind<'a>(front: &'a [List<u64>], back: &'a [List<u64>], number: usize) -> &'a [u64]
+fn range_behind<'a>(front: &'a [ObjectRange], back: &'a [ObjectRange], number: usize) -> &'a [u64]
     ensures { result.now ≡ get_or (front.now ++ back.now) number (0 ∷ []) }
 {
     if number < front.len() {

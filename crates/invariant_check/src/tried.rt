@@ -11,7 +11,7 @@ use crate::contradictory::push_terms;
 use crate::ranges::{Ranges, range_of};
 use crate::terms::{is_same_place, term_at};
 use lists::List;
-use normal_task::{EffectRow, Literal, Normal, Place};
+use normal_task::{EffectRow, Literal, Normal, ObjectRange, Place};
 use std::alloc::{AllocError, Global};
 
 // ---- terms that fit
@@ -44,7 +44,7 @@ pub(crate) fn are_fitting(
     normal: &Normal,
     ranges: &Ranges<'_>,
     given: &[Place],
-    variables: &[List<u64>],
+    variables: &[ObjectRange],
 ) -> bool
     ensures { result ≡ words.are_fitting normal.now (all_ranges ranges.now) given.now variables.now }
 {

@@ -5,7 +5,7 @@ ghost use Rattle.normal_task.specs.Parts as spec;
 
 use crate::parts::with_variables;
 use lists::List;
-use normal_task::Part;
+use normal_task::{ObjectRange, Part};
 use numbering::Numbering;
 use pddl_parser::Typed;
 use std::alloc::{AllocError, Global};
@@ -25,7 +25,7 @@ pub fn behind_ranges(
 
 fn all_behind(
     alloc: Global,
-    ranges: &[List<u64>],
+    ranges: &[ObjectRange],
     parts: List<Part>,
 ) -> Result<List<Part>, AllocError>
     ensures { IfOk result (λ all. all ≡ map (spec.with_variables ranges.now) parts) }

@@ -5,15 +5,15 @@ ghost use Rattle.normal_task.specs.Parts as spec;
 use crate::moved::moved_places;
 use crate::parts::{push_copied, push_moved, push_ranges};
 use lists::List;
-use normal_task::{AxiomRow, EffectRow, Literal, Part};
+use normal_task::{AxiomRow, EffectRow, Literal, ObjectRange, Part};
 use std::alloc::{AllocError, Global};
 
 /// The first list, and the second behind it.
 pub fn joined_ranges(
     alloc: Global,
-    first: &[List<u64>],
-    second: List<List<u64>>,
-) -> Result<List<List<u64>>, AllocError>
+    first: &[ObjectRange],
+    second: List<ObjectRange>,
+) -> Result<List<ObjectRange>, AllocError>
     ensures { IfOk result (λ all. all ≡ first.now ++ second) }
 {
     let mut all = Vec::new(alloc);
@@ -22,7 +22,7 @@ pub fn joined_ranges(
     Ok(List::from_vec(all))
 }
 
-fn copied_ranges(alloc: Global, ranges: &[List<u64>]) -> Result<List<List<u64>>, AllocError>
+fn copied_ranges(alloc: Global, ranges: &[ObjectRange]) -> Result<List<ObjectRange>, AllocError>
     ensures { IfOk result (λ copy. copy ≡ ranges.now) }
 {
     let mut copy = Vec::new(alloc);
@@ -97,7 +97,7 @@ pub fn moved_rows(
 fn axiom_row(
     alloc: Global,
     predicate: u64,
-    arguments: &[List<u64>],
+    arguments: &[ObjectRange],
     part: &Part,
 ) -> Result<AxiomRow, AllocError>
     ensures { IfOk result (λ row. row ≡ record {
@@ -123,7 +123,7 @@ fn axiom_row(
 pub fn push_axioms(
     rows: &mut Vec<AxiomRow>,
     predicate: u64,
-    arguments: &[List<u64>],
+    arguments: &[ObjectRange],
     parts: &[Part],
 ) -> Result<(), AllocError>
     ensures { OnOk result (rows.new.items ≡ rows.old.items ++ map (λ part. record {

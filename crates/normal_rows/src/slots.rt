@@ -9,7 +9,7 @@ ghost use Rattle.normal_task.specs.Parts as spec;
 use crate::free::free_inside;
 use lists::List;
 use names::Names;
-use normal_task::Place;
+use normal_task::{ObjectRange, Place};
 use numbering::{Numbering, Scope, Variable};
 use pddl_parser::{Condition, Typed};
 use std::alloc::{AllocError, Global};
@@ -108,7 +108,7 @@ pub fn variables_of(
 pub(crate) fn ranges_of(
     alloc: Global,
     arguments: &[Variable<'_, '_>],
-) -> Result<List<List<u64>>, AllocError>
+) -> Result<List<ObjectRange>, AllocError>
     ensures { IfOk result (λ ranges. ranges ≡ map (λ slot. slot.range) arguments.now) }
 {
     let mut ranges = Vec::new(alloc);

@@ -3,9 +3,11 @@
 
 pub mod laws;
 mod parts;
+mod range;
 mod task;
 
 pub use parts::{Fresh, Part};
+pub use range::ObjectRange;
 pub use task::{
     AxiomRow, CostRow, EffectRow, GroundAtom, Literal, Normal, Place, PredicateRow, Schema,
     ValueRow,

@@ -6,8 +6,8 @@
 
 use lists::{List, Text};
 use normal_task::{
-    AxiomRow, CostRow, EffectRow, GroundAtom, Literal, Normal, Place, PredicateRow, Schema,
-    ValueRow,
+    AxiomRow, CostRow, EffectRow, GroundAtom, Literal, Normal, ObjectRange, Place, PredicateRow,
+    Schema, ValueRow,
 };
 use std::alloc::{AllocError, Global};
 
@@ -74,7 +74,7 @@ fn put_range(text: &mut Vec<u8>, range: &[u64]) -> Result<(), AllocError> {
     Ok(())
 }
 
-fn put_ranges(text: &mut Vec<u8>, ranges: &[List<u64>]) -> Result<(), AllocError> {
+fn put_ranges(text: &mut Vec<u8>, ranges: &[ObjectRange]) -> Result<(), AllocError> {
     for range in ranges {
         put_range(text, range.as_slice())?;
     }

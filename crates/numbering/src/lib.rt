@@ -14,7 +14,7 @@ mod variable;
 
 pub use initial::{stated_atoms, stated_values};
 pub use numbering::Numbering;
-pub use numbers::{copied_numbers, sum};
+pub use numbers::sum;
 pub use predicates::predicate_rows;
 pub use scope::{Scope, place_of, places_of, scope_inside, scope_of};
 pub use variable::Variable;

@@ -11,9 +11,9 @@ ghost use Rattle.normal_task.specs.Numbers as spec;
 
 use crate::asked::asked_types;
 use crate::below::{Hierarchy, has_some};
-use crate::numbers::copied_numbers;
 use lists::List;
 use names::Names;
+use normal_task::ObjectRange;
 use pddl_parser::{Domain, Head, Named, Problem, Typed};
 use std::alloc::{AllocError, Global};
 use std::marker::Model;
@@ -23,7 +23,7 @@ use type_checker::Checked;
 #[derive(Drop)]
 pub(crate) struct OfType<'a> {
     name: &'a [u8],
-    objects: List<u64>,
+    objects: ObjectRange,
 }
 
 /// The objects, the declared predicates and the declared functions of two files, by their positions. A look-up goes
@@ -142,18 +142,18 @@ impl<'a> Numbering<'a> {
     }
 
     /// The numbers of the objects that the variable ranges over, in their order.
-    pub fn range(&self, alloc: Global, variable: &'a Typed) -> Result<List<u64>, AllocError>
+    pub fn range(&self, alloc: Global, variable: &'a Typed) -> Result<ObjectRange, AllocError>
         ensures { IfOk result (λ range. range ≡ spec.range_of self.now.domain self.now.problem variable.now) }
     {
         let listed = variable.types.as_slice();
         match self.known_range(listed) {
-            Some(range) => copied_numbers(alloc, range),
+            Some(range) => range.share(),
             None => self.range_of_types(alloc, listed),
         }
     }
 
     /// The numbers of the objects of the listed type, if they are known.
-    fn known_range(&self, listed: &[Named]) -> Option<&[u64]>
+    fn known_range(&self, listed: &[Named]) -> Option<&ObjectRange>
         ensures { IfSome result (λ range. range.now ≡ range_of_types self.now.domain self.now.problem listed.now) }
     {
         let name = one_type(listed)?;
@@ -163,14 +163,14 @@ impl<'a> Numbering<'a> {
         }
         let known = &self.of_types[place];
         if known.name == name {
-            Some(known.objects.as_slice())
+            Some(&known.objects)
         } else {
             None
         }
     }
 
     /// The numbers of the objects that have a listed type.
-    fn range_of_types(&self, alloc: Global, listed: &'a [Named]) -> Result<List<u64>, AllocError>
+    fn range_of_types(&self, alloc: Global, listed: &'a [Named]) -> Result<ObjectRange, AllocError>
         ensures { IfOk result (λ range. range ≡ range_of_types self.now.domain self.now.problem listed.now) }
     {
         let below = self.hierarchy.below(alloc, listed)?;
@@ -188,7 +188,7 @@ impl<'a> Numbering<'a> {
             &below,
             self.problem().objects.as_slice(),
         )?;
-        Ok(List::from_vec(numbers))
+        ObjectRange::from_vec(alloc, numbers)
     }
 
     /// Adds the numbers of those of the objects that have one of the types, or of all of them.
@@ -239,7 +239,7 @@ impl<'a> Numbering<'a> {
         &self,
         alloc: Global,
         variables: &'a [Typed],
-    ) -> Result<List<List<u64>>, AllocError>
+    ) -> Result<List<ObjectRange>, AllocError>
         ensures { IfOk result (λ ranges. ranges ≡ spec.ranges_of self.now.domain self.now.problem variables.now) }
     {
         let mut ranges = Vec::new(alloc);

@@ -1,8 +1,7 @@
 // Numbers that are counted on.
 ghost use Rattle.std.specs.Prelude.{◌≡◌, ◌+◌, IfOk};
 
-use lists::List;
-use std::alloc::{AllocError, Global};
+use std::alloc::AllocError;
 
 /// The sum, or want of memory where it isn't a `u64`.
 pub fn sum(number: u64, more: u64) -> Result<u64, AllocError>
@@ -12,11 +11,4 @@ pub fn sum(number: u64, more: u64) -> Result<u64, AllocError>
         Some(sum) => Ok(sum),
         None => Err(AllocError),
     }
-}
-
-/// The same numbers.
-pub fn copied_numbers(alloc: Global, numbers: &[u64]) -> Result<List<u64>, AllocError>
-    ensures { IfOk result (λ copy. copy ≡ numbers.now) }
-{
-    Ok(List::from_vec(Vec::from_slice(alloc, numbers)?))
 }

@@ -3,7 +3,7 @@ ghost use Rattle.std.specs.Prelude.{◌≡◌, IfOk};
 ghost use Rattle.normal_task.specs.Numbers.{range_of};
 
 use crate::numbering::Numbering;
-use lists::List;
+use normal_task::ObjectRange;
 use pddl_parser::Typed;
 use std::alloc::{AllocError, Global};
 use std::marker::Model;
@@ -79,7 +79,7 @@ impl<'n, 'a> Variable<'n, 'a> {
     }
 
     /// What the variable ranges over.
-    pub fn range(&self, alloc: Global) -> Result<List<u64>, AllocError>
+    pub fn range(&self, alloc: Global) -> Result<ObjectRange, AllocError>
         ensures { IfOk result (λ range. range ≡ self.now.range) }
     {
         self.numbering.range(alloc, self.declared)

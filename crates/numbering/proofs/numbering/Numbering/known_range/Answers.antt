@@ -13,6 +13,5 @@ returns-then-eq c =
     let known = c.self.inside.of_types.items in
     let all =
     subst (λ (p : Pair). map (λ (k : OfType). k.objects) known ≡ map (λ (k : OfType). objects_of_type p.domain p.problem k.name.now) known) c.self.view_is c.self.invariant.1.1.1.1 in
-    c.as_slice.ensures
-    ∙ known_at domain problem known all c.position-place.result c.index-known.result.now (omega (arith, c.if-place-len.false, c.len.ensures, c.self.inside.of_types.ok.0)) c.index-known.ensures
+    known_at domain problem known all c.position-place.result c.index-known.result.now (omega (arith, c.if-place-len.false, c.len.ensures, c.self.inside.of_types.ok.0)) c.index-known.ensures
     ∙ ap (objects_of_type domain problem) (same_name c.index-known.result.now.name.now c.in_ok-name.name.now (sym c.eq.ensures ∙ c.if-eq.true)) ∙ c.in_ok-name.ensures domain problem
