@@ -9,10 +9,11 @@ ghost use Rattle.mutex_groups.specs.Laws.{AreExclusive};
 ghost use Rattle.mutex_groups.specs.Found.{parts_differ, AddsGroup, covers_just, has_group};
 
 use crate::instances::{instance_of, members, weights};
-use crate::tables::{NumberLists, Weights};
+use crate::tables::Weights;
 use group_cover::Groups;
 use invariant_check::Candidate;
 use normal_task::{GroundAtom, Normal};
+use number_lists::NumberLists;
 use relaxed_reach::{Fact, Reached};
 use static_matcher::Buckets;
 use std::alloc::{AllocError, Global};

@@ -1,12 +1,9 @@
 // Tables of instances.
-ghost use Rattle.std.specs.Prelude.{◌≡◌, ◌||◌, [], ℕ, List as Items, nat_eq, IfOk, OnOk, if◌then◌else◌};
-ghost use Rattle.std.specs.List.{list_any, IsDistinct};
-ghost use Rattle.std.specs.Cmp.Lexicographic.{pointwise};
+ghost use Rattle.std.specs.Prelude.{◌≡◌, [], ℕ, List as Items, OnOk, if◌then◌else◌};
 ghost use Rattle.names.specs.Names.{is_same};
 ghost use Rattle.mutex_groups.specs.Found.{told_more, is_one, weight_in};
 
-use indexmap::{IndexMap, IndexSet};
-use lists::List;
+use indexmap::IndexMap;
 use std::alloc::{AllocError, Global};
 use std::marker::Model;
 
@@ -65,47 +62,5 @@ impl Weights {
         ensures { result ≡ weight_in self.now instance.now }
     {
         self.table.get(instance).copied()
-    }
-}
-
-/// Lists of numbers, each once. Contracts see the lists, in the order in which they were added.
-#[derive(Drop)]
-pub(crate) struct NumberLists {
-    table: IndexSet<Vec<u64>>,
-}
-
-impl Model for NumberLists {
-    ghost use Rattle.std.specs.Prelude.{ℕ, List as Items, map};
-
-    ghost Value = { Items (Items ℕ) };
-
-    ghost view = { λ lists. map (λ list. list.items) lists.table.keys };
-}
-
-impl NumberLists {
-    pub(crate) fn new(alloc: Global) -> NumberLists
-        ensures { result ≡ [] }
-    {
-        NumberLists {
-            table: IndexSet::new(alloc),
-        }
-    }
-
-    /// Adds the list, unless it is there.
-    pub(crate) fn add(&mut self, alloc: Global, numbers: &[u64]) -> Result<(), AllocError>
-        ensures { OnOk result ((list : Items ℕ) → list_any (is_same list) self.new ≡ (is_same list numbers.now || list_any (is_same list) self.old)) }
-    {
-        self.table.insert(Vec::from_slice(alloc, numbers)?)?;
-        Ok(())
-    }
-
-    /// The lists.
-    pub(crate) fn into_list(self, alloc: Global) -> Result<List<List<u64>>, AllocError>
-        ensures lists { IfOk result (λ lists. lists ≡ self) }
-        ensures once { IfOk result (IsDistinct (pointwise nat_eq)) }
-    {
-        let NumberLists { table } = self;
-        let lists = table.into_iter().map(List::from_vec).collect(alloc)?;
-        Ok(List::from_vec(lists))
     }
 }

@@ -23,7 +23,6 @@ mod Counts
 pub mod Written
 mod Asks
 pub mod Ranks
-pub mod KeyTables
 mod NameWords
 pub mod OnceEach
 mod PredicateTable

@@ -10,11 +10,11 @@ ghost use Rattle.normal_task.specs.Meaning.{is_same_atom, is_same_value};
 ghost use Rattle.normal_task.specs.Normalised as spec;
 ghost use Rattle.normal_task.specs.Numbers.{function_number, object_number};
 
-use crate::keys::Keys;
 use crate::numbering::Numbering;
 use atom_objects::Objects;
 use lists::List;
 use normal_task::{GroundAtom, ValueRow};
+use number_lists::NumberLists;
 use pddl_parser::{Atom, Init, Term};
 use std::alloc::{AllocError, Global};
 
@@ -30,14 +30,14 @@ fn key_of(alloc: Global, number: u64, objects: &[u64]) -> Result<Vec<u64>, Alloc
 
 /// Adds the item, if its key is new.
 fn push_new<T: Drop>(
-    keys: &mut Keys,
+    keys: &mut NumberLists,
     items: &mut Vec<T>,
     key: Vec<u64>,
     item: T,
 ) -> Result<(), AllocError>
     ensures { OnOk result ((keys.new ≡ (if list_any (is_same key.items) keys.old then keys.old else keys.old ++ key.items ∷ [])) × (items.new.items ≡ (if list_any (is_same key.items) keys.old then items.old.items else items.old.items ++ item ∷ []))) }
 {
-    if keys.add(key)? {
+    if keys.insert(key)? {
         items.push(item)?;
     }
     Ok(())
@@ -85,7 +85,7 @@ fn stated_atom(
 
 /// Adds the atom that the entry states, if it is a new one.
 fn push_stated(
-    keys: &mut Keys,
+    keys: &mut NumberLists,
     atoms: &mut Vec<GroundAtom>,
     numbering: &Numbering<'_>,
     entry: &Init,
@@ -112,7 +112,7 @@ pub fn stated_atoms(
 ) -> Result<List<GroundAtom>, AllocError>
     ensures { IfOk result (λ atoms. atoms ≡ spec.once_after numbering.now.domain numbering.now.problem is_same_atom [] (flat_map (spec.stated numbering.now.domain numbering.now.problem) entries.now)) }
 {
-    let mut keys = Keys::new(alloc);
+    let mut keys = NumberLists::new(alloc);
     let mut atoms = Vec::new(alloc);
     for entry in entries {
         push_stated(&mut keys, &mut atoms, numbering, entry)?;
@@ -149,7 +149,7 @@ fn value_row(
 
 /// Adds the value that the entry gives, if the function has none yet for the objects.
 fn push_value(
-    keys: &mut Keys,
+    keys: &mut NumberLists,
     rows: &mut Vec<ValueRow>,
     numbering: &Numbering<'_>,
     entry: &Init,
@@ -179,7 +179,7 @@ pub fn stated_values(
 ) -> Result<List<ValueRow>, AllocError>
     ensures { IfOk result (λ rows. rows ≡ spec.once_after numbering.now.domain numbering.now.problem is_same_value [] (flat_map (spec.value_row numbering.now.domain numbering.now.problem) entries.now)) }
 {
-    let mut keys = Keys::new(alloc);
+    let mut keys = NumberLists::new(alloc);
     let mut rows = Vec::new(alloc);
     for entry in entries {
         push_value(&mut keys, &mut rows, numbering, entry)?;

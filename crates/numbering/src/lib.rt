@@ -5,7 +5,6 @@
 mod asked;
 mod below;
 mod initial;
-mod keys;
 mod numbering;
 mod numbers;
 mod predicates;
