@@ -17,6 +17,7 @@ use Rattle.normal_task.specs.declared.task.Literal.TheVariants.{Holds, Equal}
 use Rattle.normal_task.specs.declared.task.Normal.{Normal}
 use Rattle.normal_task.specs.declared.task.Place.{Place}
 use Rattle.normal_task.specs.declared.task.Place.TheVariants.{Variable, Object}
+use Rattle.normal_task.specs.declared.task.PredicateRow.{PredicateRow}
 use Rattle.normal_task.specs.declared.task.Schema.{Schema}
 use Rattle.normal_task.specs.declared.task.ValueRow.{ValueRow}
 
@@ -71,8 +72,11 @@ are_met state binding literals = list_all (is_met state binding) literals
 -- ---- derived atoms
 
 -- the predicate is derived, and not basic
+abbrev pub is_derived_among : List PredicateRow → ℕ → Bool
+is_derived_among predicates predicate = unwrap_or (option_map (λ row. row.derived) (slice_get predicates predicate)) false
+
 abbrev pub is_derived : Normal → ℕ → Bool
-is_derived task predicate = unwrap_or (option_map (λ row. row.derived) (slice_get task.predicates predicate)) false
+is_derived task predicate = is_derived_among task.predicates predicate
 
 -- the axiom gives the atom: for some objects of its parameters, of which those shown are the atom's, its condition is true
 abbrev pub derives : State → GroundAtom → AxiomRow → Bool
