@@ -2,7 +2,7 @@
 
 use pass_h2::prune;
 use sas_reader::read_task;
-use sas_task::{SasTask, examples};
+use sas_task::SasTask;
 use sas_writer::text_of;
 use std::alloc::{AllocError, Global};
 use std::test::*;
@@ -266,7 +266,7 @@ fn an_operator_that_stands_twice_stays_twice(rt: HostRuntime) -> Result<(), Allo
 #[test]
 fn a_task_that_is_not_plain_stays(rt: HostRuntime) -> Result<(), AllocError> {
     let alloc = rt.alloc();
-    let room = examples::room(alloc)?;
+    let room = sas_examples::room(alloc)?;
     assert!(rt; pruned(alloc, &room)?.as_slice() == text_of(alloc, &room)?.as_slice());
     Ok(())
 }

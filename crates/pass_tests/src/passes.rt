@@ -3,7 +3,7 @@
 use crate::tasks::{SWITCH, task_of};
 use order_variables::order_variables;
 use pass_book::{AddEnd, ApplyEnd, Book, Pass, PassKind};
-use sas_task::{SasTask, examples};
+use sas_task::SasTask;
 use sas_writer::text_of;
 use std::alloc::{AllocError, Global};
 use std::test::*;
@@ -105,7 +105,7 @@ fn gives(
     kinds: &[PassKind],
     wanted: &[u8],
 ) -> Result<bool, AllocError> {
-    match book.apply(alloc, kinds, examples::room(alloc)?) {
+    match book.apply(alloc, kinds, sas_examples::room(alloc)?) {
         Ok(task) => has_text(alloc, &task, wanted),
         Err(_) => Ok(false),
     }
@@ -118,7 +118,7 @@ fn ends(
     kinds: &[PassKind],
     wanted: ApplyEnd,
 ) -> Result<bool, AllocError> {
-    match book.apply(alloc, kinds, examples::room(alloc)?) {
+    match book.apply(alloc, kinds, sas_examples::room(alloc)?) {
         Ok(_) => Ok(false),
         Err(end) => Ok(end == wanted),
     }
@@ -143,8 +143,8 @@ fn copies_have_one_text(alloc: Global, task: &SasTask) -> Result<bool, AllocErro
 #[test]
 fn a_copy_has_the_same_text(rt: HostRuntime) -> Result<(), AllocError> {
     let alloc = rt.alloc();
-    assert!(rt; copies_have_one_text(alloc, &examples::switch(alloc)?)?);
-    assert!(rt; copies_have_one_text(alloc, &examples::room(alloc)?)?);
+    assert!(rt; copies_have_one_text(alloc, &sas_examples::switch(alloc)?)?);
+    assert!(rt; copies_have_one_text(alloc, &sas_examples::room(alloc)?)?);
     Ok(())
 }
 
@@ -168,7 +168,7 @@ fn a_copy_of_the_lamp_has_its_text(rt: HostRuntime) -> Result<(), AllocError> {
 #[test]
 fn variables_are_ordered(rt: HostRuntime) -> Result<(), AllocError> {
     let alloc = rt.alloc();
-    let ordered = order_variables(alloc, &examples::room(alloc)?)?;
+    let ordered = order_variables(alloc, &sas_examples::room(alloc)?)?;
     assert!(rt; has_text(alloc, &ordered, REORDERED)?);
     Ok(())
 }
@@ -227,7 +227,7 @@ fn an_empty_book_has_no_pass(rt: HostRuntime) -> Result<(), AllocError> {
 fn wants_memory(alloc: Global, book: &Book) -> Result<bool, AllocError> {
     let kind = PassKind::Order;
     let is_starved = ends(alloc, book, &[kind], ApplyEnd::NoMemory)?;
-    let room = text_of(alloc, &examples::room(alloc)?)?;
+    let room = text_of(alloc, &sas_examples::room(alloc)?)?;
     Ok(is_starved && book.has(kind) && gives(alloc, book, &[], room.as_slice())?)
 }
 

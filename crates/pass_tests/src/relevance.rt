@@ -4,7 +4,7 @@ use crate::tasks::{self, task_of};
 use order_variables::order_variables;
 use pass_book::{Book, Pass, PassKind};
 use pass_relevance::relevant;
-use sas_task::{SasTask, examples};
+use sas_task::SasTask;
 use sas_writer::text_of;
 use std::alloc::{AllocError, Global};
 use std::test::*;
@@ -450,7 +450,7 @@ fn what_can_influence_the_goal_stays(rt: HostRuntime) -> Result<(), AllocError> 
     let alloc = rt.alloc();
     assert!(rt; leaves(alloc, TOUCH, TOUCH)?);
     assert!(rt; leaves(alloc, tasks::GATE, GATE)?);
-    assert!(rt; leaves_all(alloc, &examples::room(alloc)?)?);
+    assert!(rt; leaves_all(alloc, &sas_examples::room(alloc)?)?);
     Ok(())
 }
 

@@ -10,7 +10,7 @@ use Rattle.std.proofs.lemmas.List.Elements.{All-nil, All-cons, All-head, All-tai
 use Rattle.sas_task.specs.declared.parts.Pair.{Pair}
 use Rattle.sas_task.specs.declared.parts.Effect.{Effect}
 use Rattle.sas_task.specs.declared.parts.Operator.{Operator}
-use Rattle.sas_task.specs.Output.{Line, numeral, spaced, counted, pair_words, pair_lines, is_changed, prevail, required_value, effect_line, operator_lines}
+use Rattle.sas_task.specs.Output.{Line, numeral, spaced, counted, pair_words, pair_lines, is_changed, prevail, required_value, effect_line, operator_lines, value_in}
 use Rattle.sas_task.specs.Output as output
 use Rattle.sas_task.specs.Task.{Task}
 use Rattle.sas_task.specs.Valid.{IsName, IsValue, IsFact, AreConditions, IsValidEffect, layer_of}
@@ -26,9 +26,10 @@ use Rattle.sas_reader.proofs.Again.{Again, again_then, again_next, again_given, 
 use Rattle.sas_reader.proofs.AgainWords.{AgainWords, words_then, words_passing, words_number, words_number_or_none, NoSpace, numeral_no_space, again_words}
 use Rattle.sas_reader.proofs.AgainPairs.{Fits, value_fits, again_value, in_all, same_lines, again_effect_conditions, again_conditions}
 use Rattle.sas_reader.proofs.AgainSections.{name_passes}
-use Rattle.sas_reader.proofs.InTurn.{value_in, in_turn, in_turn_rises, in_turn_all, same_in_turn, pairs_in_turn, filter_in_turn}
+use Rattle.sas_task.proofs.States.{is_variable}
+use Rattle.sas_reader.proofs.InTurn.{in_turn, in_turn_rises, in_turn_all, same_in_turn, pairs_in_turn, filter_in_turn}
 use Rattle.sas_reader.proofs.Tabled.{any_found}
-use Rattle.sas_reader.proofs.ToldEffects.{told_words, told_lines, value_below, pair_value, told_value}
+use Rattle.sas_reader.proofs.ToldEffects.{told_words, told_lines, pair_value, told_value}
 
 abbrev told_of : Operator → List Told
 told_of o = map (λ e. (e, required_value o e.var)) o.effects
@@ -104,7 +105,7 @@ module _ (task : Task) (o : Operator) (are : AreConditions task o.conditions) wh
   conditions_in_turn : in_turn (value_in o.conditions) 0 (length task.variables) ≡ o.conditions
   conditions_in_turn =
       pairs_in_turn (length task.variables) 0 o.conditions are.sorted (All-weaker (IsFact task) (λ p. 0 ≤ p.var) (λ p fact. omega arith) o.conditions are.facts)
-      (All-weaker (IsFact task) (λ p. p.var < 0 + length task.variables) (λ p fact. let b = value_below task p.var p.val fact in omega (arith, b)) o.conditions are.facts)
+      (All-weaker (IsFact task) (λ p. p.var < 0 + length task.variables) (λ p fact. let b = is_variable task p.var p.val fact in omega (arith, b)) o.conditions are.facts)
 
   pub required_again : required (length task.variables) (prevail o) (map (λ e. (e, required_value o e.var)) o.effects) ≡ o.conditions
   required_again = same_in_turn _ (value_in o.conditions) (length task.variables) 0 (λ var from. same_required var) ∙ conditions_in_turn

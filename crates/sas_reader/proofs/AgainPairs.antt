@@ -5,7 +5,7 @@ use Rattle.std.specs.List.{All, AllPairs, flat_map}
 use Rattle.std.specs.List.Sorted.{IsStrictlyIncreasing}
 use Rattle.std.specs.Option.{option_map_or}
 use Rattle.std.proofs.lemmas.Bool.{lt-ltb, eq-eqb, le-ltb}
-use Rattle.std.proofs.lemmas.Option.{slice_get_within, slice_get-get_or, get_or_from_slice_get}
+use Rattle.std.proofs.lemmas.Option.{slice_get_within, get_or_from_slice_get}
 use Rattle.std.proofs.lemmas.List.{get_or-map, get_or_append_left, get_or-append_right, length-map}
 use Rattle.std.proofs.lemmas.List.Elements.{All-nil, All-cons}
 use Rattle.sas_task.specs.declared.parts.Pair.{Pair}
@@ -20,6 +20,7 @@ use Rattle.sas_reader.specs.Numbers.{number, number_line, at_least}
 use Rattle.sas_reader.specs.Pairs.{value, pair, condition, fact, effect_conditions, conditions}
 use Rattle.sas_reader.specs.Sections.{group, groups, goal}
 use Rattle.sas_reader.proofs.Again.{Again, again_then, again_next, again_given, again_fixed, again_number, again_at_least, lines_from, again_listed}
+use Rattle.sas_reader.proofs.Conditions.{last_is}
 use Rattle.sas_reader.proofs.AgainWords.{AgainWords, words_then, words_given, words_passing, words_number, words_listed, NoSpace, numeral_no_space, again_words}
 
 -- so few variables and values that their numbers can be read
@@ -48,9 +49,6 @@ unfolding pair
 again_pair task p fits is =
     words_then number (λ var. value task var >>= λ val. given (record { var = var; val = val })) p.var p (numeral p.var ∷ []) (numeral p.val ∷ []) (words_number p.var (value_fits task p.var p.val fits is).0)
     (words_then (value task p.var) (λ val. given (record { var = p.var; val = val })) p.val p (numeral p.val ∷ []) [] (again_value task p.var p.val fits is) (words_given p))
-
-last_is : {X : Type 0} (xs : List X) (d : X) → 0 < length xs → slice_get xs (length xs - 1) ≡ Some (get_or xs (length xs - 1) d)
-last_is xs d some = slice_get-get_or xs (length xs - 1) d (omega (arith, some))
 
 pub at_place : {X : Type 0} (before : List X) (x : X) (more all : List X) (d : X) → before ++ x ∷ more ≡ all → get_or all (length before) d ≡ x
 at_place before x more all d is =

@@ -69,7 +69,7 @@ fact_read task before now p after e =
     let all : TakesWords now (pair_words a.0) after × IsFact task a.0 × (is_next_fact before a.0 ≡ true) = (words, r.1, q.0) in
     subst (λ o. TakesWords now (pair_words o) after × IsFact task o × (is_next_fact before o ≡ true)) q.1 all
 
-last_is : {X : Type 0} (xs : List X) (d : X) → 0 < length xs → slice_get xs (length xs - 1) ≡ Some (get_or xs (length xs - 1) d)
+pub last_is : {X : Type 0} (xs : List X) (d : X) → 0 < length xs → slice_get xs (length xs - 1) ≡ Some (get_or xs (length xs - 1) d)
 last_is xs d some = slice_get-get_or xs (length xs - 1) d (omega (arith, some))
 
 no_pairs : (task : Task) → AreConditions task []

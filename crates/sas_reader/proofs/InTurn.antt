@@ -1,41 +1,17 @@
 -- The conditions of an operator, from its prevail conditions and what its effect lines tell.
-use Rattle.std.proofs.Common.{◌≡◌, ◌≢◌, ℕ, zero, suc, ◌+◌, ◌<◌, ◌≤◌, Bool, true, false, cond, eqb, List, [], ◌∷◌, ◌++◌, map, get_or, Option, Some, None, inl, inr, refl, sym, ap, ◌∙◌, subst, arith}
+use Rattle.std.proofs.Common.{◌≡◌, ◌≢◌, ℕ, zero, suc, ◌+◌, ◌<◌, ◌≤◌, Bool, true, false, cond, List, [], ◌∷◌, ◌++◌, map, get_or, Option, Some, None, inl, inr, refl, sym, ap, ◌∙◌, subst, arith}
 use Rattle.std.specs.Prelude.{filter}
-use Rattle.std.specs.List.{All, find, flat_map, range_with_len}
-use Rattle.std.specs.List.Sorted.{IsStrictlyIncreasing}
-use Rattle.std.specs.Option.{option_map}
-use Rattle.std.proofs.lemmas.Bool.{cases_eq, eq-eqb, ne_eqb}
+use Rattle.std.specs.List.{All, flat_map, range_with_len}
+use Rattle.std.proofs.lemmas.Bool.{cases_eq}
 use Rattle.std.proofs.lemmas.List.Elements.{All-nil, All-cons, All-head, All-tail, All-append, All-weaker}
 use Rattle.sas_task.specs.declared.parts.Pair.{Pair}
+use Rattle.sas_task.specs.Output.{value_in}
+use Rattle.sas_task.proofs.RisingPairs.{Rise, here, passed_over, none_below, later_rise, later_above}
 use Rattle.sas_reader.specs.Operators.{pair_if}
-
-abbrev pub value_in : List Pair → ℕ → Option ℕ
-value_in pairs var = option_map (λ p. p.val) (find (λ p. eqb p.var var) pairs)
-
-abbrev pub Rise : List Pair → Type 0
-Rise pairs = IsStrictlyIncreasing (map (λ p. p.var) pairs)
 
 -- each variable in turn, with what f gives of it
 abbrev pub in_turn : (ℕ → Option ℕ) → ℕ → ℕ → List Pair
 in_turn f a n = flat_map (λ var. pair_if var (f var)) (range_with_len a n)
-
-here : (p : Pair) (ps : List Pair) (var : ℕ) → p.var ≡ var → value_in (p ∷ ps) var ≡ Some p.val
-here p ps var is = ap (λ b. option_map (λ (q : Pair). q.val) (cond b (Some p) (find (λ q. eqb q.var var) ps))) (eq-eqb p.var var is)
-
-passed_over : (p : Pair) (ps : List Pair) (var : ℕ) → p.var ≢ var → value_in (p ∷ ps) var ≡ value_in ps var
-passed_over p ps var other = ap (λ b. option_map (λ (q : Pair). q.val) (cond b (Some p) (find (λ q. eqb q.var var) ps))) (ne_eqb p.var var other)
-
-later_rise : (p : Pair) (ps : List Pair) → Rise (p ∷ ps) → Rise ps
-later_rise p ps rises k within =
-    let e : suc (k + 1) ≡ suc k + 1 = omega arith in
-    subst (λ n. get_or (map (λ (q : Pair). q.var) ps) k 0 < get_or (map (λ (q : Pair). q.var) (p ∷ ps)) n 0) (sym e) (rises (suc k) (omega arith))
-
-later_above : (p : Pair) (ps : List Pair) → Rise (p ∷ ps) → All (λ q. p.var < q.var) ps
-later_above p [] rises = All-nil (λ (q : Pair). p.var < q.var)
-later_above p (q ∷ ps) rises =
-    let first : p.var < q.var = rises 0 (omega arith) in
-    let rest = later_above q ps (later_rise p (q ∷ ps) rises) in
-    All-cons (λ (r : Pair). p.var < r.var) q ps first (All-weaker (λ (r : Pair). q.var < r.var) (λ r. p.var < r.var) (λ r above. omega (arith, first, above)) ps rest)
 
 rise_first : (p : Pair) (ps : List Pair) → All (λ q. p.var < q.var) ps → Rise ps → Rise (p ∷ ps)
 rise_first p [] above rises k within = absurd (omega (arith, within))
@@ -43,12 +19,6 @@ rise_first p (q ∷ ps) above rises zero within = All-head (λ (r : Pair). p.var
 rise_first p (q ∷ ps) above rises (suc k) within =
     let e : suc k + 1 ≡ suc (k + 1) = omega arith in
     subst (λ n. get_or (map (λ (r : Pair). r.var) (q ∷ ps)) k 0 < get_or (map (λ (r : Pair). r.var) (p ∷ q ∷ ps)) n 0) (sym e) (rises k (omega (arith, within)))
-
-none_below : (ps : List Pair) (var : ℕ) → All (λ p. var < p.var) ps → value_in ps var ≡ None
-none_below [] var above = refl
-none_below (p ∷ ps) var above =
-    let first : var < p.var = All-head (λ (q : Pair). var < q.var) p ps above in
-    passed_over p ps var (λ is. absurd (omega (arith, first, is))) ∙ none_below ps var (All-tail (λ (q : Pair). var < q.var) p ps above)
 
 from_first : (f : ℕ → Option ℕ) (n a b : ℕ) → a ≤ b → All (λ p. a ≤ p.var) (in_turn f b n)
 from_first f zero a b below = All-nil (λ (p : Pair). a ≤ p.var)

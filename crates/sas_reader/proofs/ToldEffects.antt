@@ -1,17 +1,16 @@
 -- Operators that were read are valid, and are written as they were read.
 use Rattle.std.proofs.Common.{◌≡◌, ◌≢◌, ℕ, zero, suc, ◌+◌, ◌-◌, ◌<◌, ◌≤◌, Bool, true, false, not, ◌&&◌, ◌||◌, cond, eqb, leb, List, [], ◌∷◌, ◌++◌, length, map, take, get_or, Option, Some, None, Ok, inl, inr, refl, sym, ap, ◌∙◌, subst, arith}
-use Rattle.std.specs.Prelude.{filter, slice_get, IsNone, IfSome, IsSomeAnd, is_some, nat_eq, nat_le}
+use Rattle.std.specs.Prelude.{filter, IsNone, IfSome, is_some, nat_eq, nat_le}
 use Rattle.std.specs.List.{All, find, list_any, flat_map}
 use Rattle.std.specs.Option.{option_map, option_map_or, option_eq}
 use Rattle.std.proofs.lemmas.Bool.{cases_Bool, cases_eq, eq-eqb, ne_eqb, eqb-true, leb-true, and_parts, false≢true}
-use Rattle.std.proofs.lemmas.Option.{same_Some, slice_get_within}
+use Rattle.std.proofs.lemmas.Option.{same_Some}
 use Rattle.std.proofs.lemmas.List.Folds.{flat_map-map}
 use Rattle.std.proofs.lemmas.List.Elements.{All-nil, All-cons, All-head, All-tail, All-push, All-weaker}
 use Rattle.sas_task.specs.declared.parts.Pair.{Pair}
-use Rattle.sas_task.specs.declared.parts.Variable.{Variable}
 use Rattle.sas_task.specs.declared.parts.Effect.{Effect}
 use Rattle.sas_task.specs.declared.parts.Operator.{Operator}
-use Rattle.sas_task.specs.Output.{Line, numeral, spaced, counted, block, pair_words, pair_lines, is_changed, prevail, effect_line, operator_lines}
+use Rattle.sas_task.specs.Output.{Line, numeral, spaced, pair_words, effect_line, value_in}
 use Rattle.sas_task.specs.Output as output
 use Rattle.sas_task.specs.Task.{Task}
 use Rattle.sas_task.specs.Valid.{IsName, IsValue, IsFact, AreConditions, IsValidEffect, layer_of}
@@ -28,7 +27,8 @@ use Rattle.sas_reader.proofs.Kept.{parts, passed, kept, TakesLines, TakesWords, 
 use Rattle.sas_reader.proofs.Lines.{NoFeed, IsClean, clean_line, tested_line, number_line_is, number_is, number_or_none_is, line_is_words, name_is}
 use Rattle.sas_reader.proofs.Conditions.{value_holds, value_read, effect_conditions_read, more_lines}
 use Rattle.sas_reader.proofs.Tabled.{found_push, any_found}
-use Rattle.sas_reader.proofs.InTurn.{value_in, in_turn_rises, in_turn_all, in_turn_value, same_in_turn, pairs_in_turn, filter_in_turn}
+use Rattle.sas_task.proofs.States.{is_variable}
+use Rattle.sas_reader.proofs.InTurn.{in_turn_rises, in_turn_all, in_turn_value, same_in_turn, pairs_in_turn, filter_in_turn}
 
 abbrev pub told_words : Told → List Line
 told_words t = numeral (length t.0.conditions) ∷ (flat_map pair_words t.0.conditions ++ numeral t.0.var ∷ output.number_or_none t.1 ∷ numeral t.0.after ∷ [])
@@ -132,13 +132,6 @@ effects_read task pairs count now told after e =
     count [] now told after start e in
     (all.0, omega (arith, all.1))
 
-pub value_below : (task : Task) (var val : ℕ) → IsValue task var val → var < length task.variables
-value_below task var val is = from (slice_get task.variables var) refl is
-  where
-    from : (v : Option Variable) → slice_get task.variables var ≡ v → IsSomeAnd v (λ v. val < length v.facts) → var < length task.variables
-    from (Some v) at is = slice_get_within task.variables var v at
-    from None at is = absurd is
-
 pub pair_value : (P : Pair → Type 0) (Q : ℕ → Type 0) (ps : List Pair) (var val : ℕ) → All P ps → ((p : Pair) → P p → p.var ≡ var → Q p.val) → value_in ps var ≡ Some val → Q val
 pair_value P Q [] var val all gives is = absurd cc
 pair_value P Q (p ∷ ps) var val all gives is =
@@ -230,11 +223,11 @@ module _ (task : Task) (pairs : List Pair) (told : List Told) (start now : Unrea
       filter_in_turn (λ var. not (list_any (λ (e : Effect). eqb e.var var) (map (λ (t : Told). t.0) told))) (required_of pairs told) (length task.variables) 0
       ∙ same_in_turn _ (value_in pairs) (length task.variables) 0 (λ var from. kept_value var)
       ∙ pairs_in_turn (length task.variables) 0 pairs are.sorted (All-weaker (IsFact task) (λ p. 0 ≤ p.var) (λ p fact. omega arith) pairs are.facts)
-      (All-weaker (IsFact task) (λ p. p.var < 0 + length task.variables) (λ p fact. let b = value_below task p.var p.val fact in omega (arith, b)) pairs are.facts)
+      (All-weaker (IsFact task) (λ p. p.var < 0 + length task.variables) (λ p fact. let b = is_variable task p.var p.val fact in omega (arith, b)) pairs are.facts)
 
   tells : (t : Told) → IsTold task t × IsApart pairs t × IsFirst told t → option_map (λ (p : Pair). p.val) (find (λ p. eqb p.var t.0.var) (required (length task.variables) pairs told)) ≡ t.1
   tells t good =
-      let below : t.0.var < 0 + length task.variables = (let b = value_below task t.0.var t.0.after good.0.valid.value in omega (arith, b)) in
+      let below : t.0.var < 0 + length task.variables = (let b = is_variable task t.0.var t.0.after good.0.valid.value in omega (arith, b)) in
       in_turn_value (required_of pairs told) (length task.variables) 0 t.0.var (omega arith) below
       ∙ (λ i. option_map_or (λ (p : Pair). Some p.val) (nothing_found (λ (p : Pair). eqb p.var t.0.var) pairs good.1 i) (option_map_or (λ r. r) (good.2 i) None))
 
@@ -285,7 +278,7 @@ required_below task pairs told facts are var r is = from (find (λ p. eqb p.var 
   where
     from : (p : Option Pair) → find (λ p. eqb p.var var) pairs ≡ p → (before : Option (Option ℕ)) → told_before told var ≡ before → option_map_or (λ (p : Pair). Some (Prevails p.val)) p (option_map Changes before) ≡ Some r → var < length task.variables
     from (Some p) found before at is =
-        pair_value (IsFact task) (λ v. var < length task.variables) pairs var p.val facts (λ q fact on. subst (λ w. w < length task.variables) on (value_below task q.var q.val fact)) (ap (option_map (λ (q : Pair). q.val)) found)
+        pair_value (IsFact task) (λ v. var < length task.variables) pairs var p.val facts (λ q fact on. subst (λ w. w < length task.variables) on (is_variable task q.var q.val fact)) (ap (option_map (λ (q : Pair). q.val)) found)
     from None found (Some b) at is =
-        told_value (IsTold task) (λ o. var < length task.variables) told var b are (λ t good on. subst (λ w. w < length task.variables) on (value_below task t.0.var t.0.after good.valid.value)) at
+        told_value (IsTold task) (λ o. var < length task.variables) told var b are (λ t good on. subst (λ w. w < length task.variables) on (is_variable task t.0.var t.0.after good.valid.value)) at
     from None found None at is = absurd cc

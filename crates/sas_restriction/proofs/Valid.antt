@@ -25,6 +25,7 @@ use Rattle.sas_task.specs.Orders.{pair_cmp}
 use Rattle.sas_task.proofs.Orders.{pair_total}
 use Rattle.sas_task.proofs.ValidParts.{operator_law, rule_law}
 use Rattle.lists.proofs.Members.{no_member, member_cases, all_pass, all_from_members, member_single, filter_member, map_member}
+use Rattle.sas_restriction.proofs.Exact.{nat_exact}
 use Rattle.sas_restriction.proofs.Pairs.{of_pairs, pairs_mapped, pairs_unmapped}
 use Rattle.sas_orders.specs.InOrder.{sorted}
 use Rattle.sas_restriction.specs.Choice.{Choice, IsChoice, is_shown, is_left, all_left, new_var, new_val, new_pair, new_pairs, variable_at, new_variable, fact_stays, new_group, effect_stays, new_effect, rule_stays, new_rule, holder_variable}
@@ -45,14 +46,6 @@ nat_less x y e = by_order (nat_cmp x y) (ranked x y (nat_cmp x y) refl) e
     by_order Equal is e = cc
     by_order Greater is e = cc
 
-nat_equal : (x y : ℕ) → nat_cmp x y ≡ Equal → x ≡ y
-nat_equal x y e = by_order (nat_cmp x y) (ranked x y (nat_cmp x y) refl) e
-  where
-    by_order : (o : Ordering) → MatchOrdering o (x < y) (x ≡ y) (y < x) → o ≡ Equal → x ≡ y
-    by_order Less is e = cc
-    by_order Equal is e = is
-    by_order Greater is e = cc
-
 then_less : (a b : Ordering) → ordering_then a b ≡ Less → (a ≡ Less) ⊎ ((a ≡ Equal) × (b ≡ Less))
 then_less Less b e = inl refl
 then_less Equal b e = inr (refl, e)
@@ -63,7 +56,7 @@ pair_less : (p q : Pair) → pair_cmp p q ≡ Less → ComesBefore p q
 pair_less p q e =
     elim (then_less (nat_cmp p.var q.var) (nat_cmp p.val q.val) e) [
       | inl var ↦ inl (nat_less p.var q.var var)
-      | inr both ↦ inr (nat_equal p.var q.var both.0, nat_less p.val q.val both.1)
+      | inr both ↦ inr (nat_exact p.var q.var both.0, nat_less p.val q.val both.1)
     ]
 
 pub sorted_pairs : (ps : List Pair) → AllPairs ComesBefore (sorted pair_cmp ps)

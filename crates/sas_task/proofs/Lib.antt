@@ -1,10 +1,11 @@
+pub mod Checks
 pub mod ValidParts
+pub mod RisingPairs
 pub mod Completion
 pub mod Successors
 pub mod States
 pub mod KeepsLaws
 pub mod Alike
-mod Checks
 mod Steps
 mod Tells
 mod TextsTellTasks

@@ -3,7 +3,6 @@
 #![tactic(auto)]
 
 mod copy;
-pub mod examples;
 pub mod laws;
 pub mod parts;
 pub mod plain_step;

@@ -3,14 +3,14 @@
 ghost use Rattle.std.specs.Prelude.{◌≡◌, ◌<◌, length};
 ghost use Rattle.sas_task.specs.Examples.{room};
 
-use sas_task::{SasTask, examples, plain_step};
+use sas_task::{SasTask, plain_step};
 use std::alloc::{AllocError, Global};
 use std::process::Abort;
 use std::test::*;
 
 /// The room, without what is known of it, so that the proof of a test doesn't carry it.
 fn room(alloc: Global) -> Result<SasTask, AllocError> {
-    examples::room(alloc)
+    sas_examples::room(alloc)
 }
 
 /// Whether these are the values in the state.
@@ -66,7 +66,7 @@ fn flickered(alloc: Global, task: &SasTask, state: &[u64]) -> Result<Option<Vec<
     requires room { task.now ≡ room }
     requires state { length state.now ≡ 4 }
 {
-    let flicker = examples::flicker(alloc)?;
+    let flicker = sas_examples::flicker(alloc)?;
     plain_step::successor(alloc, task, state, &flicker)
 }
 
@@ -130,6 +130,6 @@ fn assert_flickers(rt: &impl Abort, alloc: Global, task: &SasTask) -> Result<(),
 
 #[test]
 fn firing_effects_may_disagree(rt: HostRuntime) -> Result<(), AllocError> {
-    let task = examples::room(rt.alloc())?;
+    let task = sas_examples::room(rt.alloc())?;
     assert_flickers(&rt, rt.alloc(), &task)
 }

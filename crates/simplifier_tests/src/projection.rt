@@ -1,6 +1,6 @@
 //! Tasks that are their own projections, since each value of each variable is kept.
 
-use sas_task::{SasTask, examples};
+use sas_task::SasTask;
 use sas_writer::text_of;
 use std::alloc::{AllocError, Global};
 use std::test::*;
@@ -15,14 +15,14 @@ fn texts(alloc: Global, task: SasTask) -> Result<(Vec<u8>, Vec<u8>), AllocError>
 
 #[test]
 fn the_room_is_its_own_projection(rt: HostRuntime) -> Result<(), Fail> {
-    let (before, after) = texts(rt.alloc(), examples::room(rt.alloc())?)?;
+    let (before, after) = texts(rt.alloc(), sas_examples::room(rt.alloc())?)?;
     assert_eq!(rt; before.as_slice(), after.as_slice());
     Ok(())
 }
 
 #[test]
 fn the_switch_is_its_own_projection(rt: HostRuntime) -> Result<(), Fail> {
-    let (before, after) = texts(rt.alloc(), examples::switch(rt.alloc())?)?;
+    let (before, after) = texts(rt.alloc(), sas_examples::switch(rt.alloc())?)?;
     assert_eq!(rt; before.as_slice(), after.as_slice());
     Ok(())
 }
