@@ -6,7 +6,6 @@ pub mod Successors
 pub mod States
 pub mod KeepsLaws
 pub mod Alike
-mod Steps
 mod Tells
 mod TextsTellTasks
 pub mod Orders

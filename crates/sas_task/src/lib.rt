@@ -5,7 +5,6 @@
 mod copy;
 pub mod laws;
 pub mod parts;
-pub mod plain_step;
 pub mod task;
 
 pub use lists::{List, Text};

@@ -3,7 +3,7 @@
 ghost use Rattle.std.specs.Prelude.{◌≡◌, ◌<◌, length};
 ghost use Rattle.sas_task.specs.Examples.{room};
 
-use sas_task::{SasTask, plain_step};
+use sas_task::SasTask;
 use std::alloc::{AllocError, Global};
 use std::process::Abort;
 use std::test::*;
@@ -20,7 +20,7 @@ fn are_values(
     state: &[u64],
     expected: &[u64],
 ) -> Result<bool, AllocError> {
-    let values = plain_step::values(alloc, task, state)?;
+    let values = sas_plain::values(alloc, task, state)?;
     Ok(values.as_slice() == expected)
 }
 
@@ -28,7 +28,7 @@ fn are_values(
 fn is_applicable(alloc: Global, task: &SasTask, state: &[u64], i: u64) -> Result<bool, AllocError>
     requires { i < length task.now.operators }
 {
-    plain_step::is_applicable(alloc, task, state, task.operator(i))
+    sas_plain::is_applicable(alloc, task, state, task.operator(i))
 }
 
 /// The successor under the operator at this place.
@@ -41,7 +41,7 @@ fn successor(
     requires operator { i < length task.now.operators }
     requires state { length state.now ≡ length task.now.variables }
 {
-    plain_step::successor(alloc, task, state, task.operator(i))
+    sas_plain::successor(alloc, task, state, task.operator(i))
 }
 
 /// Whether the operator at this place leads from the one state to the other.
@@ -67,7 +67,7 @@ fn flickered(alloc: Global, task: &SasTask, state: &[u64]) -> Result<Option<Vec<
     requires state { length state.now ≡ 4 }
 {
     let flicker = sas_examples::flicker(alloc)?;
-    plain_step::successor(alloc, task, state, &flicker)
+    sas_plain::successor(alloc, task, state, &flicker)
 }
 
 // Each test owns the room, and a function that is handed it asserts, so that the room is let go at one place.
