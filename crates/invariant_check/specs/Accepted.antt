@@ -1,7 +1,7 @@
 -- When a candidate is light and balanced: the effects of a step then never raise an instance's weight above one (Helmert 2009, section 5).
 use Rattle.std.specs.Prelude.{ℕ, Bool, true, false, not, ◌&&◌, ◌||◌, ◌-◌, nat_eq, nat_lt, List, [], ◌∷◌, ◌++◌, map, length, get_or, filter, zip, if◌then◌else◌}
 use Rattle.std.specs.Cmp.Lexicographic.{pointwise}
-use Rattle.std.specs.List.{list_all, list_any, flat_map, range_with_len}
+use Rattle.std.specs.List.{list_all, list_any, range_with_len}
 use Rattle.normal_task.specs.declared.task.EffectRow.{EffectRow}
 use Rattle.normal_task.specs.declared.task.Literal.{Literal}
 use Rattle.normal_task.specs.declared.task.Literal.TheVariants.{Holds, Equal}
