@@ -1,7 +1,7 @@
 -- Layers that are lifted along arcs: none is higher than it must be, and each is below the number of facts.
-use Rattle.std.proofs.Common.{◌≡◌, ◌≢◌, ℕ, zero, suc, ◌+◌, ◌-◌, ◌*◌, ◌<◌, ◌≤◌, Bool, true, false, nat_le, nat_eq, eq-eqb, cond, ◌⊎◌, inl, inr, List, [], length, get_or, set, sum, refl, sym, ap, ◌∙◌, subst, arith, get_or-set_same, get_or-set_other, length-set}
+use Rattle.std.proofs.Common.{◌≡◌, ◌≢◌, ℕ, zero, suc, ◌+◌, ◌-◌, ◌*◌, ◌<◌, ◌≤◌, Bool, true, false, nat_le, cond, ◌⊎◌, inl, inr, List, [], length, get_or, set, sum, refl, sym, ap, ◌∙◌, subst, arith, get_or-set_same, get_or-set_other, length-set}
 use Rattle.std.specs.List.{Contains}
-use Rattle.std.proofs.lemmas.Bool.{cases_Bool, cases_lt, eqb-true, true≢false, leb-true, le-leb}
+use Rattle.std.proofs.lemmas.Bool.{cases_lt, true≢false, leb-true, le-leb, cases_eq}
 use Rattle.std.proofs.lemmas.List.Elements.{All-from_get_or}
 use Rattle.std.proofs.lemmas.List.Sums.{sum_by-le, sum_by-set}
 use Rattle.lists.proofs.Items.{Among, among_at}
@@ -38,12 +38,6 @@ module _ (arcs : List Arc) (layers : List ℕ) (sound : AreSound (length layers)
 
 -- ---- one fact lifted
 
-either : (a b : ℕ) → (a ≡ b) ⊎ (a ≢ b)
-either a b = elim (cases_Bool (nat_eq a b)) [
-  | inl same ↦ inl (eqb-true a b same)
-  | inr not ↦ inr (λ same. true≢false (sym (eq-eqb a b same) ∙ not))
-]
-
 module _ (arcs : List Arc) (layers : List ℕ) (arc : Arc) (within : arc.to < length layers) (low : get_or layers arc.to 0 ≤ get_or layers arc.from 0) where
   abbrev above : ℕ
   above = get_or layers arc.from 0 + 1
@@ -52,7 +46,7 @@ module _ (arcs : List Arc) (layers : List ℕ) (arc : Arc) (within : arc.to < le
   now = set layers arc.to above
 
   grows : (fact : ℕ) → get_or layers fact 0 ≤ get_or now fact 0
-  grows fact = elim (either fact arc.to) [
+  grows fact = elim (cases_eq fact arc.to) [
     | inl same ↦
         let new : get_or now fact 0 ≡ above = subst (λ (f : ℕ). get_or now f 0 ≡ above) (sym same) (get_or-set_same layers arc.to above 0 within) in
         let old : get_or layers fact 0 ≡ get_or layers arc.to 0 = ap (λ (f : ℕ). get_or layers f 0) same in
@@ -61,7 +55,7 @@ module _ (arcs : List Arc) (layers : List ℕ) (arc : Arc) (within : arc.to < le
   ]
 
   held_now : Contains arcs arc → AreHeld arcs layers → AreHeld arcs now
-  held_now in' held fact within_now = elim (either fact arc.to) [
+  held_now in' held fact within_now = elim (cases_eq fact arc.to) [
     | inl same ↦
         let new : get_or now fact 0 ≡ above = subst (λ (f : ℕ). get_or now f 0 ≡ above) (sym same) (get_or-set_same layers arc.to above 0 within) in
         let more = grows arc.from in

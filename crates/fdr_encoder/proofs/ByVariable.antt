@@ -10,7 +10,8 @@ use Rattle.static_matcher.specs.declared.types.Cond.{Cond}
 use Rattle.fdr_encoder.specs.Places.{Cover, pair}
 use Rattle.fdr_encoder.specs.Split.{is_looked_at, values_left, combinations, split}
 use Rattle.fdr_encoder.specs.Marks.{on}
-use Rattle.fdr_encoder.proofs.Rising.{rising_from, range_increases}
+use Rattle.fdr_encoder.proofs.Rising.{rising_from}
+use Rattle.lists.proofs.Ordered.{range_increasing}
 
 -- the variables of a combination are those that were asked for
 combination_vars : (values : ℕ → List ℕ) (vars : List ℕ) (m : List Pair) → Contains (combinations values vars) m → map (λ p. p.var) m ≡ vars
@@ -23,7 +24,7 @@ combination_vars values (v ∷ vars) m in' =
 pub member_rises : (cover : Cover) (literals : Cond ℕ) (m : List Pair) → Contains (split cover literals) m → IsStrictlyIncreasing (map (λ p. p.var) m)
 member_rises cover literals m in' =
     let vars = filter (is_looked_at cover literals) (range_with_len 0 (length cover)) in
-    subst IsStrictlyIncreasing (sym (combination_vars (values_left cover literals) vars m in')) (IsStrictlyIncreasing-filter (is_looked_at cover literals) (range_with_len 0 (length cover)) (range_increases (length cover)))
+    subst IsStrictlyIncreasing (sym (combination_vars (values_left cover literals) vars m in')) (IsStrictlyIncreasing-filter (is_looked_at cover literals) (range_with_len 0 (length cover)) (range_increasing (length cover)))
 
 no_falls : (m : List Pair) → IsStrictlyIncreasing (map (λ p. p.var) m) → IsNonDecreasingBy (λ p. p.var) m
 no_falls m rises i j d most within =

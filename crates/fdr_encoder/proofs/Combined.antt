@@ -18,6 +18,7 @@ use Rattle.lists.proofs.Members.{flat_map_member, range_member, map_member}
 use Rattle.sas_task.specs.declared.parts.Pair.{Pair}
 use Rattle.fdr_encoder.specs.Places.{pair}
 use Rattle.fdr_encoder.specs.Split.{combinations}
+use Rattle.std.proofs.Math.Seq.{get_or-append_seam}
 
 abbrev pub items : List (Vec Pair Global) → List (List Pair)
 items pools = map (λ pool. pool.items) pools
@@ -65,10 +66,6 @@ by_place before (x ∷ rest) f =
 abbrev pub low : List ℕ → ℕ
 low p = 0
 
-size_at : (front : List ℕ) (n : ℕ) (back : List ℕ) → get_or (front ++ n ∷ back) (length front) 0 ≡ n
-size_at [] n back = refl
-size_at (m ∷ front) n back = size_at front n back
-
 abbrev sizes : List (List Pair) → List ℕ
 sizes pools = map (λ pool. length pool) pools
 
@@ -77,7 +74,7 @@ ways_after front [] p same = refl
 ways_after front (pool ∷ pools) p same =
     let high = sizes_high (front ++ sizes (pool ∷ pools)) in
     let next = λ (d : ℕ). ways low high (length pools) (p ++ d ∷ []) in
-    let size : high p - 0 ≡ length pool = (let e : high p ≡ length pool = ap (λ k. get_or (front ++ sizes (pool ∷ pools)) k 0) same ∙ size_at front (length pool) (sizes pools) in omega arith) in
+    let size : high p - 0 ≡ length pool = (let e : high p ≡ length pool = ap (λ k. get_or (front ++ sizes (pool ∷ pools)) k 0) same ∙ get_or-append_seam front (length pool) (sizes pools) 0 in omega arith) in
     ap (λ n. map (read (pool ∷ pools)) (flat_map (λ d. map (λ ds. d ∷ ds) (next d)) (numbers 0 n))) size
     ∙ map_flat_map (read (pool ∷ pools)) (λ d. map (λ ds. d ∷ ds) (next d)) (numbers 0 (length pool))
     ∙ same_flat_map (λ d. map (read (pool ∷ pools)) (map (λ ds. d ∷ ds) (next d))) (λ d. map (λ rest. get_or pool d none ∷ rest) (taken pools)) (numbers 0 (length pool)) (λ d among.
@@ -108,7 +105,7 @@ ways_fit front [] p same w in' = refl
 ways_fit front (pool ∷ pools) p same w in' =
     let high = sizes_high (front ++ sizes (pool ∷ pools)) in
     let next = λ (d : ℕ). ways low high (length pools) (p ++ d ∷ []) in
-    let size : high p - 0 ≡ length pool = (let e : high p ≡ length pool = ap (λ k. get_or (front ++ sizes (pool ∷ pools)) k 0) same ∙ size_at front (length pool) (sizes pools) in omega arith) in
+    let size : high p - 0 ≡ length pool = (let e : high p ≡ length pool = ap (λ k. get_or (front ++ sizes (pool ∷ pools)) k 0) same ∙ get_or-append_seam front (length pool) (sizes pools) 0 in omega arith) in
     let d = flat_map_member (λ d. map (λ ds. d ∷ ds) (next d)) (numbers 0 (high p - 0)) w in' in
     let ds = map_member (λ ds. d.0 ∷ ds) (next d.0) w d.2 in
     let below : d.0 < length pool = range_member (length pool) d.0 (subst (λ l. Contains l d.0) (numbers_range 0 (length pool)) (subst (λ n. Contains (numbers 0 n) d.0) size d.1)) in

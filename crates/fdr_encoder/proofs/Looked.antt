@@ -13,7 +13,8 @@ use Rattle.static_matcher.specs.declared.types.Cond.{Cond}
 use Rattle.fdr_encoder.specs.Places.{Cover, places, first_place, stands_in}
 use Rattle.fdr_encoder.specs.Split.{is_looked_at, values_left, combinations, split}
 use Rattle.fdr_encoder.proofs.Placed.{place_is, stands_below}
-use Rattle.fdr_encoder.proofs.Rising.{range_increases, same_in_order}
+use Rattle.fdr_encoder.proofs.Rising.{same_in_order}
+use Rattle.lists.proofs.Ordered.{range_increasing}
 
 -- the variables that are looked at are variables
 module _ (cover : Cover) (literals : Cond ℕ) where
@@ -40,7 +41,7 @@ module _ (cover : Cover) (literals : Cond ℕ) where
   -- in order they are those of the range
   pub looked_are : (vars : List ℕ) → IsStrictlyIncreasing vars → ((var : ℕ) → list_any (λ v. eqb v var) vars ≡ test var) → vars ≡ filter test (range_with_len 0 (length cover))
   looked_are vars up same =
-      same_in_order vars (filter test (range_with_len 0 (length cover))) up (IsStrictlyIncreasing-filter test (range_with_len 0 (length cover)) (range_increases (length cover)))
+      same_in_order vars (filter test (range_with_len 0 (length cover))) up (IsStrictlyIncreasing-filter test (range_with_len 0 (length cover)) (range_increasing (length cover)))
       (λ v in'.
       let is = sym (same v) ∙ member_any (λ w. eqb w v) vars v in' (eq-eqb v v refl) in
       member_filter test (range_with_len 0 (length cover)) v (member_range (length cover) v (looked_below v is)) is)

@@ -7,11 +7,10 @@ use Rattle.std.specs.Option.{option_map_or}
 use Rattle.std.proofs.lemmas.Bool.{cases_Bool, both_ways, eqb-true, eq-eqb, ltb-true, leb-true, leb-false, ltb-false, and_parts, false_from_ne_true, cond-true, cond-false}
 use Rattle.std.proofs.lemmas.List.{take-append-drop, get_or-take, get_or-drop, length-take-le, length-drop}
 use Rattle.std.proofs.lemmas.List.Sums.{AllPass-from_list_all, list_all-from_AllPass}
-use Rattle.std.proofs.lemmas.List.Folds.{list_all-append}
 use Rattle.std.proofs.lemmas.List.Elements.{All-contains, filter-append}
 use Rattle.std.proofs.lemmas.List.Sorted.{IsPermutation-sym, All-permutation, list_any-IsPermutation}
 use Rattle.std.proofs.lemmas.List.Kept.{IsStrictlyIncreasing-filter, Contains-dedup_nat, Contains-from_dedup}
-use Rattle.lists.proofs.Items.{any_flat_map}
+use Rattle.lists.proofs.Items.{any_flat_map, all_flat_map}
 use Rattle.sas_task.specs.declared.parts.Pair.{Pair}
 use Rattle.lists.proofs.Members.{member_first, member_range, filter_every, filter_none, flat_map_member, all_from_members, map_member, member_filter, filter_member, any_member, member_any, member_single}
 use Rattle.static_matcher.specs.declared.types.Cond.{Cond}
@@ -21,18 +20,15 @@ use Rattle.fdr_encoder.specs.Marks.{on, leaves, pool, values_marked}
 use Rattle.fdr_encoder.proofs.Grouped.{filter_map_member}
 use Rattle.fdr_encoder.proofs.Sets.{place_below}
 use Rattle.fdr_encoder.proofs.Placed.{place_is}
-use Rattle.fdr_encoder.proofs.Rising.{range_increases, same_in_order}
+use Rattle.fdr_encoder.proofs.Rising.{same_in_order}
 use Rattle.fdr_encoder.proofs.Grouped.{first_listed}
+use Rattle.lists.proofs.Ordered.{range_increasing}
 
 all_permutation : {X : Type 0} (p : X → Bool) (xs ys : List X) → IsPermutation xs ys → list_all p xs ≡ list_all p ys
 all_permutation p xs ys moved =
     same_tests (list_all p xs) (list_all p ys)
     (λ h. list_all-from_AllPass p ys (All-permutation (λ x. p x ≡ true) xs ys moved (AllPass-from_list_all p xs h)))
     (λ h. list_all-from_AllPass p xs (All-permutation (λ x. p x ≡ true) ys xs (IsPermutation-sym xs ys moved) (AllPass-from_list_all p ys h)))
-
-all_flat_map : {X Y : Type 0} (p : Y → Bool) (f : X → List Y) (xs : List X) → list_all p (flat_map f xs) ≡ list_all (λ x. list_all p (f x)) xs
-all_flat_map p f [] = refl
-all_flat_map p f (x ∷ xs) = list_all-append p (f x) (flat_map f xs) ∙ ap (λ b. list_all p (f x) && b) (all_flat_map p f xs)
 
 all_filter_map : {X Y : Type 0} (p : Y → Bool) (f : X → Option Y) (xs : List X) → list_all p (filter_map f xs) ≡ list_all (λ x. option_map_or p (f x) true) xs
 all_filter_map p f [] = refl
@@ -178,7 +174,7 @@ one_passes : (test : ℕ → Bool) (v n : ℕ) → v < n → ((k : ℕ) → test
 one_passes test v n low only =
     elim (cases_Bool (test v)) [
       | inl yes' ↦
-          same_in_order (filter test (range_with_len 0 n)) (v ∷ []) (IsStrictlyIncreasing-filter test (range_with_len 0 n) (range_increases n)) (λ k none. absurd (omega arith))
+          same_in_order (filter test (range_with_len 0 n)) (v ∷ []) (IsStrictlyIncreasing-filter test (range_with_len 0 n) (range_increasing n)) (λ k none. absurd (omega arith))
           (λ k in'. subst (Contains (v ∷ [])) (sym (only k (filter_member test (range_with_len 0 n) k in').1)) (member_first v []))
           (λ k in'. subst (Contains (filter test (range_with_len 0 n))) (member_single v k in') (member_filter test (range_with_len 0 n) v (member_range n v low) yes'))
           ∙ sym (cond-true (test v) (v ∷ []) [] yes')

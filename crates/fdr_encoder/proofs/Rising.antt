@@ -42,12 +42,6 @@ range_rises a n i j d before within =
     let high : j < n = omega arith in
     omega (arith, get_or-range_with_len a n i d low, get_or-range_with_len a n j d high)
 
-pub range_increases : (n : ℕ) → IsStrictlyIncreasing (range_with_len 0 n)
-range_increases n k within =
-    let long = length-range_with_len 0 n in
-    let step : k < k + 1 = omega arith in
-    range_rises 0 n k (k + 1) 0 step within
-
 -- each element of the first list stands in the relation to each of the second
 pub pairs_append : {X : Type 0} (R : X → X → Type 0) (xs ys : List X) → AllPairs R xs → AllPairs R ys → ((x y : X) → Contains xs x → Contains ys y → R x y) → AllPairs R (xs ++ ys)
 pairs_append R [] ys px py across = py

@@ -15,7 +15,7 @@ use Rattle.sas_task.specs.declared.parts.Effect.{Effect}
 use Rattle.sas_task.specs.declared.parts.Operator.{Operator}
 use Rattle.sas_task.specs.declared.parts.Rule.{Rule}
 use Rattle.sas_task.specs.Task.{Task}
-use Rattle.sas_task.specs.Valid.{IsValid, IsValue, IsFact, AreConditions, IsName, IsValidVariable, IsValidGroup, IsValidEffect, IsValidOperator, IsBelow, IsValidRule, layer_of, default_of}
+use Rattle.sas_task.specs.Valid.{IsValid, IsValue, IsFact, AreConditions, IsValidVariable, IsValidGroup, IsValidEffect, IsValidOperator, IsBelow, IsValidRule, layer_of, default_of}
 use Rattle.lists.proofs.Members.{no_member, member_first, member_cases, flat_map_member, member_range, range_member, all_from_members, map_member, filter_member, any_member, member_single}
 use Rattle.static_matcher.specs.declared.types.Cond.{Cond}
 use Rattle.static_matcher.specs.declared.types.GoalRow.{GoalRow}
@@ -41,8 +41,9 @@ use Rattle.fdr_encoder.proofs.Standing.{lawful_axiom, value_single, stands, lite
 use Rattle.fdr_encoder.proofs.Rising.{rising_filter, two_members}
 use Rattle.fdr_encoder.proofs.ByVariable.{member_rises}
 use Rattle.fdr_encoder.proofs.Grouped.{places_in, in_variable, group_in_order, first_in_group}
-use Rattle.fdr_encoder.proofs.Texts.{named, variable_valid, goal_variable_valid}
+use Rattle.fdr_encoder.proofs.Texts.{variable_valid, goal_variable_valid}
 use Rattle.fdr_encoder.proofs.LayersBelow.{layer_below, above_within}
+use Rattle.lists.specs.Names.{IsName}
 
 -- a fold by max is at least what each member gives
 fold_max_start : (g : ℕ → ℕ) (xs : List ℕ) (start : ℕ) → start ≤ fold (λ n x. max n (g x)) start xs
@@ -126,7 +127,7 @@ module _ (reached : Reached) (lawful : IsLawful reached) (cover : Cover) (ok : M
       let law = All-contains (IsLawfulAction reached) reached.actions a lawful.actions from.of_task in
       let raw = simplified cover from.member (effects_of cover a.effects) in
       record {
-        name = subst IsName (sym from.same.name) (named a.name law.name);
+        name = subst IsName (sym from.same.name) law.name;
         conditions = subst (AreConditions task) (sym from.same.conditions) (split_conditions a.condition from.member from.in_split);
         effects = all_from_members (IsValidEffect task) o.effects (λ q q-in. simple_effect a law from.member q (Contains-permutation o.effects raw q (IsPermutation-sym raw o.effects from.same.effects) q-in));
         cost = subst (λ c. c ≤ 2147483647) (sym from.same.cost) law.small_cost;

@@ -46,18 +46,6 @@ literal-more bound more (Equal positive left right) is =
 
 -- ---- what stands at places
 
-place-kept : (binding more : Binding) (place : Place) → place_within (length binding) place ≡ true → object_at (binding ++ more) place ≡ object_at binding place
-place-kept binding more (Variable number) within = get_or_append_left binding more 0 number (ltb-true number (length binding) within)
-place-kept binding more (Object object) within = refl
-
-pub places-kept : (binding more : Binding) (places : List Place) → list_all (place_within (length binding)) places ≡ true → objects_at (binding ++ more) places ≡ objects_at binding places
-places-kept binding more [] within = refl
-places-kept binding more (place ∷ places) within =
-    let parts = and_parts (place_within (length binding) place) (list_all (place_within (length binding)) places) within in
-    let here = place-kept binding more place parts.0 in
-    let rest = places-kept binding more places parts.1 in
-    cc (here, rest)
-
 -- with terms for the row's own variables
 place-given : (objects values : Binding) (given : List Place) (place : Place) →
     object_at (objects ++ values) (with_terms (length objects) given place) ≡ object_at (objects ++ map (object_at (objects ++ values)) given) place
@@ -133,14 +121,6 @@ listed-passes test literals all literal is =
     subst (λ (l : Literal). test l ≡ true) (sym (same_literal literal found.item found.passes)) (all_passes test found.item literals found.among all)
 
 -- ---- choices
-
-pub choice-append : (lists more : List (List ℕ)) (objects others : List ℕ) → is_choice lists objects ≡ true → is_choice more others ≡ true → is_choice (lists ++ more) (objects ++ others) ≡ true
-choice-append [] more [] others one other = other
-choice-append [] more (o ∷ objects) others one other = absurd (true≢false (sym one))
-choice-append (list ∷ lists) more [] others one other = absurd (true≢false (sym one))
-choice-append (list ∷ lists) more (o ∷ objects) others one other =
-    let parts = and_parts (list_any (nat_eq o) list) (is_choice lists objects) one in
-    and_from (list_any (nat_eq o) list) (is_choice (lists ++ more) (objects ++ others)) parts.0 (choice-append lists more objects others parts.1 other)
 
 -- each term's object is one that it ranges over
 pub choice-typed : (ranges : List (List ℕ)) (binding : Binding) → is_choice ranges binding ≡ true → (term : Place) → is_among (objects_of ranges term) (object_at binding term) ≡ true

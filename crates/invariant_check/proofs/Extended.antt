@@ -17,7 +17,7 @@ use Rattle.invariant_check.specs.declared.types.Candidate.{Candidate}
 use Rattle.invariant_check.specs.declared.types.Part.{Part}
 use Rattle.invariant_check.specs.Extensions.{is_changing, arity_of, changing, is_counted, left_by, countings, without, orders, part_at, with_one, one_predicate, parts_counting, parts_of, put_in, renamed, rising_places, in_form, with_part, has_predicate, extensions}
 use Rattle.invariant_check.specs.WellFormed.{used_places, is_part_for, is_named_by_first, is_well_formed}
-use Rattle.invariant_check.proofs.RisingLists.{rises_from, rises_behind, below_rising, once_rising, rising_filter, rising_range, same_rising}
+use Rattle.normal_task.proofs.RisingLists.{rises_from, rises_behind, below_rising, once_rising}
 use Rattle.invariant_check.proofs.FormedParts.{IsPartFor, AreFormed, predicates, formed_facts, formed_test}
 use Rattle.invariant_check.proofs.NamedAnew.{renamed_part, renamed_apart, first_rises, rising_is, in_rising, found_first, part_once, first_once}
 use Rattle.invariant_check.proofs.PartsOf.{parts_facts, once_parts, part_listed}

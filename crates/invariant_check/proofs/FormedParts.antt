@@ -12,7 +12,7 @@ use Rattle.invariant_check.specs.declared.types.Candidate.{Candidate}
 use Rattle.invariant_check.specs.declared.types.Part.{Part}
 use Rattle.invariant_check.specs.Extensions.{is_changing, arity_of}
 use Rattle.invariant_check.specs.WellFormed.{used_places, is_part_for, is_named_by_first, is_well_formed}
-use Rattle.invariant_check.proofs.RisingLists.{differ_once, once_differ}
+use Rattle.normal_task.proofs.RisingLists.{differ_once, once_differ}
 
 -- what `is_part_for` says
 pub record IsPartFor (task : Normal) (parameters : ℕ) (part : Part) : Type 0 where

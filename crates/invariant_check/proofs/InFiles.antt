@@ -21,9 +21,9 @@ use Rattle.invariant_check.specs.declared.types.Candidate.{Candidate}
 use Rattle.invariant_check.specs.declared.types.Part.{Part}
 use Rattle.invariant_check.specs.Candidates.{covers}
 use Rattle.invariant_check.specs.Soundness.{is_basic, InvariantsAreSoundInFiles}
-use Rattle.invariant_check.proofs.SamePlaces.{atom_itself}
 use Rattle.invariant_check.proofs.Covering.{covering}
 use Rattle.invariant_check.proofs.Sound.{invariants_are_sound}
+use Rattle.normal_task.proofs.OnceEach.{atom_same}
 
 module _ (domain : Domain) (problem : Problem) (candidate : Candidate) (basic : is_basic (normal domain problem) candidate ≡ true) (instance : List ℕ) where
   covered-basic : (x : pddl.GroundAtom) → is_known_atom domain problem x ≡ true → covers candidate instance (numbered_atom domain problem x) ≡ true → pddl.is_derived domain x.predicate ≡ false
@@ -40,4 +40,4 @@ sound_in_files domain problem spelled spelled_problem none candidate basic accep
     let shown-y = too.2 y known-y (covered-basic domain problem candidate basic instance y known-y is-y) in
     let same : numbered_atom domain problem x ≡ numbered_atom domain problem y =
     invariants_are_sound (normal domain problem) candidate (lawful-task domain problem none spelled spelled_problem) basic accepted instance most too.0 too.1 (numbered_atom domain problem x) (numbered_atom domain problem y) is-x is-y (shown-x ∙ in-x) (shown-y ∙ in-y) in
-    same_pddl_atom x y (sym (same-numbered domain problem x y known-x known-y) ∙ subst (λ z. is_same_atom (numbered_atom domain problem x) z ≡ true) same (atom_itself (numbered_atom domain problem x)))
+    same_pddl_atom x y (sym (same-numbered domain problem x y known-x known-y) ∙ subst (λ z. is_same_atom (numbered_atom domain problem x) z ≡ true) same (atom_same (numbered_atom domain problem x)))

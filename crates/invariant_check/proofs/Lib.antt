@@ -1,5 +1,4 @@
 -- laws, which other crates may cite
-pub mod RisingLists
 pub mod FormedParts
 pub mod Covering
 pub mod OnePredicate

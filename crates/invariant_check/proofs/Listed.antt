@@ -17,7 +17,7 @@ use Rattle.invariant_check.specs.Candidates.{at_positions}
 use Rattle.invariant_check.specs.Extensions.{changing, parts_of, part_at, put_in, renamed, rising_places, in_form, with_part, has_predicate, one_predicate, extensions}
 use Rattle.invariant_check.specs.Names.{of_parts, IsNaming, named, AreSame, with_one_more, HasOneMore, OnePredicateIsAll, ExtensionsAreAll, SameAreEqual}
 use Rattle.invariant_check.specs.WellFormed.{is_part_for, is_named_by_first, is_well_formed}
-use Rattle.invariant_check.proofs.RisingLists.{differ_once, once_differ, same_rising}
+use Rattle.normal_task.proofs.RisingLists.{differ_once, once_differ, same_rising}
 use Rattle.invariant_check.proofs.FormedParts.{IsPartFor, part_facts, part_test, AreFormed, predicates, formed_facts}
 use Rattle.invariant_check.proofs.PartsOf.{part_listed}
 use Rattle.invariant_check.proofs.OnePredicate.{among_changing, one_predicate_formed, one_part, one_listed}

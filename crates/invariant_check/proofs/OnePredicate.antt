@@ -18,7 +18,6 @@ use Rattle.invariant_check.specs.declared.types.Part.{Part}
 use Rattle.invariant_check.specs.Names.{of_parts}
 use Rattle.invariant_check.specs.Extensions.{is_changing, arity_of, changing, is_counted, left_by, countings, without, orders, part_at, with_one, one_predicate, parts_counting, parts_of, put_in, renamed, rising_places, in_form, with_part, has_predicate, extensions}
 use Rattle.invariant_check.specs.WellFormed.{used_places, is_part_for, is_named_by_first, is_well_formed}
-use Rattle.invariant_check.proofs.RisingLists.{rises_from, rises_behind, below_rising, once_rising, rising_filter, rising_range, same_rising}
 use Rattle.invariant_check.proofs.FormedParts.{IsPartFor, AreFormed, predicates, part_facts, part_test, formed_facts}
 use Rattle.invariant_check.proofs.PartsOf.{IsCounting, counting_part, once_left, rising_left, once_countings, counting_is, all_left}
 

@@ -21,8 +21,8 @@ use Rattle.planning.specs.Task.{Takes}
 use Rattle.normal_task.specs.Parts.{moved, moved_place}
 use Rattle.normal_task.specs.Within.{place_within, literal_within}
 use Rattle.normal_task.proofs.Alls.{all-weaker, all-both}
-use Rattle.normal_task.proofs.PartsMean.{all-met-kept, all-met-moved, moved-places}
-use Rattle.normal_task.proofs.Scopes.{append-assoc, length-append}
+use Rattle.normal_task.proofs.PartsMean.{all-met-kept, all-met-moved, moved-places, places-kept}
+use Rattle.normal_task.proofs.Scopes.{append-assoc, length-append, choice-append}
 use Rattle.normal_task.proofs.Steps.{choice-length, among-choice, choice-among}
 use Rattle.invariant_check.specs.declared.types.Candidate.{Candidate}
 use Rattle.invariant_check.specs.declared.types.Part.{Part}
@@ -30,12 +30,13 @@ use Rattle.invariant_check.specs.Accepted.{each_add, instance_of, denied, apart_
 use Rattle.invariant_check.specs.Candidates.{at_positions, part_covers, covers, IsAtMostOne}
 use Rattle.invariant_check.specs.Contradictory.{is_same_place, in_one_class, all_pairs, are_same_terms, is_contradictory}
 use Rattle.invariant_check.specs.Soundness.{is_basic}
-use Rattle.invariant_check.proofs.Bindings.{place-within, literal-within, literal-more, places-kept, places-given, all-met-given, listed-passes, choice-append, choice-typed, fittings-choose}
+use Rattle.invariant_check.proofs.Bindings.{place-within, literal-within, literal-more, places-given, all-met-given, listed-passes, choice-typed, fittings-choose}
 use Rattle.invariant_check.proofs.Contradiction.{equal_objects, never_contradictory}
 use Rattle.invariant_check.proofs.Covering.{Covering, covering, covered}
-use Rattle.invariant_check.proofs.SamePlaces.{true-false, same_places, same_atom, atom_itself, at_positions-map, zip_equal}
+use Rattle.invariant_check.proofs.SamePlaces.{true-false, same_places, at_positions-map, zip_equal}
 use Rattle.names.proofs.SameNames.{same_name}
 use Rattle.std.proofs.lemmas.Cmp.{nat_list_eq_equiv}
+use Rattle.normal_task.proofs.OnceEach.{same_atom, atom_same}
 
 -- ---- an effect that writes an atom
 
@@ -310,7 +311,7 @@ module _ (task : Normal) (candidate : Candidate) (instance : List ℕ) (full : S
           any_passes (row_writes full false objects deleted) d schema.effects in-d
           (and_from (answers false d.adds) (list_any (λ values. is_on full deleted d (objects ++ values)) (choices d.variables)) (not_from_false d.adds balance.deletes)
           (any_passes (λ values. is_on full deleted d (objects ++ values)) values (choices d.variables) (choice-among d.variables values values-typed)
-          (and_from (is_same_atom deleted deleted) (are_met full (objects ++ values) d.condition) (atom_itself deleted) condition-met)))
+          (and_from (is_same_atom deleted deleted) (are_met full (objects ++ values) d.condition) (atom_same deleted) condition-met)))
 
       never-restored : (x : GroundAtom) → deleted ≡ x → Fires full schema objects true x → ⊥
       never-restored x same fa =

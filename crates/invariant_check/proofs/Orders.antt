@@ -19,6 +19,7 @@ use Rattle.itertools.specs.Pool.{unranked, permutation_left, ClonesAt}
 use Rattle.invariant_check.specs.declared.types.Part.{Part}
 use Rattle.invariant_check.specs.Extensions.{is_counted, left_by, countings, without, orders, part_at, put_in}
 use Rattle.invariant_check.proofs.PartsOf.{once_left}
+use Rattle.std.proofs.Math.Seq.{get_or-append_seam}
 
 -- ---- the first place that passes
 
@@ -47,10 +48,6 @@ put_in-is part (other ∷ others) = by (nat_lt part.predicate other.predicate) (
 remove-at : (before : List ℕ) (x : ℕ) (rest : List ℕ) → remove (before ++ x ∷ rest) (length before) ≡ before ++ rest
 remove-at [] x rest = refl
 remove-at (y ∷ before) x rest = ap (λ l. y ∷ l) (remove-at before x rest)
-
-get_or-at : (before : List ℕ) (x : ℕ) (rest : List ℕ) → get_or (before ++ x ∷ rest) (length before) 0 ≡ x
-get_or-at [] x rest = refl
-get_or-at (y ∷ before) x rest = get_or-at before x rest
 
 -- ---- what holds of each item
 
@@ -158,7 +155,7 @@ module _ (at : ℕ → ℕ) where
       ∙ map-append at before rest
       ∙ sym (without-at (map at before) (at x) (map at rest) (subst Apart (ap (map at) (sym whole) ∙ split) apart))
       ∙ ap (without (at x)) (sym split ∙ ap (map at) whole) in
-      let here : at (get_or free (length before) 0) ≡ at x = ap (λ l. at (get_or l (length before) 0)) (sym whole) ∙ ap at (get_or-at before x rest) in
+      let here : at (get_or free (length before) 0) ≡ at x = ap (λ l. at (get_or l (length before) 0)) (sym whole) ∙ ap at (get_or-append_seam before x rest 0) in
       let first : F (length before) ≡ H (at x) (without (at x) (map at free)) =
       same (length before) within ∙ ap (λ y. H y (map at (remove free (length before)))) here ∙ ap (H (at x)) left in
       let more : length before + 1 ≡ length (before ++ x ∷ []) = omega (arith, length-append before (x ∷ [])) in
@@ -189,7 +186,7 @@ at_all : (before rest : List ℕ) → map (λ d. get_or (before ++ rest) d 0) (n
 at_all before [] = refl
 at_all before (x ∷ rest) =
     let more : length before + 1 ≡ length (before ++ x ∷ []) = omega (arith, length-append before (x ∷ [])) in
-    ap (λ y. y ∷ map (λ d. get_or (before ++ x ∷ rest) d 0) (numbers (length before + 1) (length rest))) (get_or-at before x rest)
+    ap (λ y. y ∷ map (λ d. get_or (before ++ x ∷ rest) d 0) (numbers (length before + 1) (length rest))) (get_or-append_seam before x rest 0)
     ∙ ap (λ n. x ∷ map (λ d. get_or (before ++ x ∷ rest) d 0) (numbers n (length rest))) more
     ∙ ap (λ l. x ∷ map (λ d. get_or l d 0) (numbers (length (before ++ x ∷ [])) (length rest))) (sym (append_assoc before (x ∷ []) rest))
     ∙ ap (λ l. x ∷ l) (at_all (before ++ x ∷ []) rest)

@@ -17,7 +17,7 @@ use Rattle.invariant_check.specs.declared.types.Candidate.{Candidate}
 use Rattle.invariant_check.specs.declared.types.Part.{Part}
 use Rattle.invariant_check.specs.Extensions.{is_changing, arity_of, changing, is_counted, left_by, countings, without, orders, part_at, with_one, one_predicate, parts_counting, parts_of, put_in, renamed, rising_places, in_form, with_part, has_predicate, extensions}
 use Rattle.invariant_check.specs.WellFormed.{used_places, is_part_for, is_named_by_first, is_well_formed}
-use Rattle.invariant_check.proofs.RisingLists.{rises_from, rises_behind, below_rising, once_rising, rising_filter, rising_range, same_rising}
+use Rattle.normal_task.proofs.RisingLists.{rising_filter, rising_range, same_rising}
 use Rattle.invariant_check.proofs.FormedParts.{IsPartFor, part_facts, part_test}
 
 -- ---- orders of places

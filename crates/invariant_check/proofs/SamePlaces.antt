@@ -1,18 +1,13 @@
 -- Tests that tell equality, images of what stands at places, and loops that ask whether all items pass.
 use Rattle.std.proofs.Common.{◌≡◌, ℕ, zero, suc, ◌+◌, ◌<◌, Bool, true, false, ◌&&◌, List, [], ◌∷◌, map, length, get_or, drop, inl, inr, refl, sym, ap, ◌∙◌, subst, arith}
-use Rattle.std.specs.Prelude.{nat_eq}
 use Rattle.std.specs.Cmp.{nat_eq_equiv}
 use Rattle.std.specs.List.{list_all, zip}
 use Rattle.std.specs.Cmp.Lexicographic.{pointwise, pointwise_decides}
-use Rattle.std.proofs.lemmas.Bool.{true≢false, eqb-true, and_parts, and_from}
+use Rattle.std.proofs.lemmas.Bool.{true≢false, eqb-true}
 use Rattle.std.proofs.Math.Seq.{drop-cons}
-use Rattle.std.proofs.lemmas.Cmp.{nat_list_eq_equiv}
 use Rattle.lists.proofs.Items.{Among}
-use Rattle.names.proofs.SameNames.{same_name}
-use Rattle.normal_task.specs.declared.task.GroundAtom.{GroundAtom}
 use Rattle.normal_task.specs.declared.task.Place.{Place}
 use Rattle.normal_task.specs.declared.task.Place.TheVariants.{Variable, Object}
-use Rattle.normal_task.specs.Meaning.{atom_of, is_same_atom}
 use Rattle.invariant_check.specs.Candidates.{at_positions}
 use Rattle.invariant_check.specs.Contradictory.{is_same_place}
 
@@ -33,14 +28,6 @@ place_itself (Object o) = nat_eq_equiv.refl o
 
 pub same_places : (xs ys : List Place) → pointwise is_same_place xs ys ≡ true → xs ≡ ys
 same_places xs ys is = (pointwise_decides (λ x y. (same_place x y, λ e. subst (λ z. is_same_place x z ≡ true) e (place_itself x))) xs ys).0 is
-
-pub same_atom : (a b : GroundAtom) → is_same_atom a b ≡ true → a ≡ b
-same_atom a b is =
-    let parts = and_parts (nat_eq a.predicate b.predicate) (pointwise nat_eq a.objects b.objects) is in
-    ap (λ (p : ℕ). atom_of p a.objects) (eqb-true a.predicate b.predicate parts.0) ∙ ap (atom_of b.predicate) (same_name a.objects b.objects parts.1)
-
-pub atom_itself : (a : GroundAtom) → is_same_atom a a ≡ true
-atom_itself a = and_from (nat_eq a.predicate a.predicate) (pointwise nat_eq a.objects a.objects) (nat_eq_equiv.refl a.predicate) (nat_list_eq_equiv.refl a.objects)
 
 -- ---- images
 

@@ -1,11 +1,9 @@
 -- What is tried for a variable, and for one variable more.
-use Rattle.std.proofs.Common.{◌≡◌, ℕ, suc, ◌+◌, ◌<◌, List, [], ◌∷◌, ◌++◌, map, length, get_or, drop, Some, None, sym, ap, ◌∙◌, append_assoc, arith}
+use Rattle.std.proofs.Common.{◌≡◌, ℕ, suc, ◌+◌, ◌<◌, List, [], ◌∷◌, ◌++◌, length, get_or, drop, Some, None, sym, ap, ◌∙◌, append_assoc, arith}
 use Rattle.std.specs.Prelude.{Option}
-use Rattle.std.specs.List.{flat_map, range_with_len, position}
+use Rattle.std.specs.List.{flat_map, position}
 use Rattle.std.specs.Option.{option_map_or}
 use Rattle.std.proofs.Math.Seq.{drop-cons}
-use Rattle.std.proofs.lemmas.List.{map-append}
-use Rattle.lists.proofs.LoopSteps.{range_next}
 use Rattle.normal_task.specs.declared.task.EffectRow.{EffectRow}
 use Rattle.normal_task.specs.declared.task.Literal.{Literal}
 use Rattle.normal_task.specs.declared.task.Normal.{Normal}
@@ -13,11 +11,6 @@ use Rattle.normal_task.specs.declared.task.Place.{Place}
 use Rattle.normal_task.specs.declared.task.Place.TheVariants.{Variable}
 use Rattle.invariant_check.specs.Contradictory.{is_same_place, terms_of}
 use Rattle.invariant_check.specs.Attempts.{stated_at, some_terms, tried_for, tried}
-
-pub numbers_next : {X : Type 0} (f : ℕ → X) (n : ℕ) → map f (range_with_len 0 (n + 1)) ≡ map f (range_with_len 0 n) ++ f n ∷ []
-numbers_next f n =
-    let same : 0 + n ≡ n = omega arith in
-    ap (map f) (range_next 0 n) ∙ map-append f (range_with_len 0 n) ((0 + n) ∷ []) ∙ ap (λ m. map f (range_with_len 0 n) ++ f m ∷ []) same
 
 module _ (task : Normal) (ranges : List (List ℕ)) (required : List Literal) where
   module _ (predicate : ℕ) (places : List Place) (variable : Place) (range : List ℕ) where

@@ -7,8 +7,9 @@ use Rattle.normal_task.specs.Meaning.{State, initial, is_same_atom}
 use Rattle.invariant_check.specs.declared.types.Candidate.{Candidate}
 use Rattle.invariant_check.specs.Candidates.{covers, IsAtMostOne, HasWeight}
 use Rattle.invariant_check.specs.Soundness.{WeightsStayAtMostOne}
-use Rattle.invariant_check.proofs.SamePlaces.{true-false, atom_itself}
+use Rattle.invariant_check.proofs.SamePlaces.{true-false}
 use Rattle.invariant_check.proofs.Sound.{invariants_are_sound}
+use Rattle.normal_task.proofs.OnceEach.{atom_same}
 
 pub only-one : {X : Type 0} (xs : List X) (x y : X) → length xs ≤ 1 → Among x xs → Among y xs → x ≡ y
 only-one [] x y few none other = absurd none
@@ -33,7 +34,7 @@ few-atoms state candidate instance (x ∷ y ∷ atoms) most those once =
     let one = those x (inl refl) in
     let other = those y (inr (inl refl)) in
     let same : x ≡ y = most x y one.0 other.0 one.1 other.1 in
-    absurd (true-false (is_same_atom x y) (subst (λ (z : GroundAtom). is_same_atom x z ≡ true) same (atom_itself x)) (differ x y atoms once))
+    absurd (true-false (is_same_atom x y) (subst (λ (z : GroundAtom). is_same_atom x z ≡ true) same (atom_same x)) (differ x y atoms once))
 
 pub weights_stay : WeightsStayAtMostOne
 weights_stay task candidate lawful basic accepted instance weight has few state reachable later has' =

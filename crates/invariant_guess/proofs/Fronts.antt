@@ -1,6 +1,5 @@
 -- Fronts of lists, reads of them, and tests that keep the same items.
 use Rattle.std.proofs.Common.{◌≡◌, ℕ, zero, suc, ◌<◌, ◌≤◌, Bool, cond, inl, inr, List, [], ◌∷◌, ◌++◌, length, get_or, take, refl, ap, ◌∙◌, arith}
-use Rattle.std.specs.Prelude.{Some, None, slice_get}
 use Rattle.std.specs.List.{filter}
 use Rattle.lists.proofs.Items.{Among}
 
@@ -9,11 +8,6 @@ pub same_filter : {X : Type 0} (test other : X → Bool) (xs : List X) → ((x :
 same_filter test other [] same = refl
 same_filter test other (x ∷ xs) same =
     ap (λ b. cond b (x ∷ filter test xs) (filter test xs)) (same x (inl refl)) ∙ ap (λ l. cond (other x) (x ∷ l) l) (same_filter test other xs (λ y there. same y (inr there)))
-
-pub slice_among : {X : Type 0} (xs : List X) (i : ℕ) (x : X) → slice_get xs i ≡ Some x → Among x xs
-slice_among [] i x at = let no : None ≡ Some x = at in absurd (let none : ⊥ = cc no in none)
-slice_among (y ∷ ys) zero x at = let is : y ≡ x = cc at in inl is
-slice_among (y ∷ ys) (suc i) x at = inr (slice_among ys i x at)
 
 -- what stands before a place
 pub before_place : {X : Type 0} (xs : List X) (n : ℕ) (other x : X) → Among x (take n xs) → (i : ℕ) × (i < n) × (i < length xs) × (get_or xs i other ≡ x)

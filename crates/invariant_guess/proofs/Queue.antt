@@ -8,7 +8,7 @@ use Rattle.std.proofs.lemmas.Option.{slice_get-get_or, slice_get_past}
 use Rattle.std.proofs.Math.Seq.{take-append_seam}
 use Rattle.lists.specs.Members.{is_among}
 use Rattle.lists.proofs.NoRepeats.{Once, once_append, once_filter, no_longer, range_among}
-use Rattle.lists.proofs.Items.{Among, among_contains, contains_among, among_which, among_left, among_right, filter_among, among_filter, among_flat_map, each_passes, all_passes, any_passes}
+use Rattle.lists.proofs.Items.{Among, among_contains, contains_among, among_which, among_left, among_right, filter_among, among_filter, among_flat_map, each_passes, all_passes, any_passes, slice_among}
 use Rattle.normal_task.specs.declared.task.Normal.{Normal}
 use Rattle.normal_task.specs.Lawful.{differ}
 use Rattle.invariant_check.specs.declared.types.Candidate.{Candidate}
@@ -17,10 +17,10 @@ use Rattle.invariant_check.specs.Extensions.{one_predicate, extensions}
 use Rattle.invariant_check.specs.WellFormed.{is_well_formed}
 use Rattle.invariant_check.proofs.OnePredicate.{one_predicate_formed, once_one_predicate, one_part}
 use Rattle.invariant_check.proofs.Extended.{one_part_more, few_parts}
-use Rattle.invariant_check.proofs.RisingLists.{differ_once, among_if}
+use Rattle.normal_task.proofs.RisingLists.{differ_once, among_if}
 use Rattle.invariant_guess.specs.declared.types.Found.{Found}
 use Rattle.invariant_guess.specs.Trial.{repairs, is_same, after_trial, turn, AreTried, IsFound, IsTrialOrder}
-use Rattle.invariant_guess.proofs.Fronts.{slice_among, before_place, among_take}
+use Rattle.invariant_guess.proofs.Fronts.{before_place, among_take}
 use Rattle.invariant_guess.proofs.SameCandidates.{same_candidate, candidate-itself}
 use Rattle.invariant_guess.proofs.Repairs.{repair_formed, once_repairs, repair_extends}
 

@@ -1,29 +1,20 @@
 -- Candidates that are told to be the same are equal.
-use Rattle.std.proofs.Common.{◌≡◌, ℕ, Bool, true, ◌&&◌, List, Option, Some, None, refl, sym, ap, ◌∙◌}
+use Rattle.std.proofs.Common.{◌≡◌, Bool, true, ◌&&◌, List, refl, sym, ap, ◌∙◌}
 use Rattle.std.specs.Prelude.{nat_eq}
 use Rattle.std.specs.Cmp.{nat_eq_equiv}
-use Rattle.std.specs.Cmp.Lexicographic.{pointwise, pointwise_decides, bytes_decides}
+use Rattle.std.specs.Cmp.Lexicographic.{pointwise, pointwise_decides, bytes_decides, options_equiv}
 use Rattle.std.specs.Option.{option_eq}
-use Rattle.std.proofs.lemmas.Bool.{true≢false, eqb-true, and_parts, and_from}
+use Rattle.std.proofs.lemmas.Bool.{eqb-true, and_parts, and_from}
 use Rattle.invariant_check.specs.declared.types.Candidate.{Candidate}
 use Rattle.invariant_check.specs.declared.types.Part.{Part}
 use Rattle.invariant_check.specs.Names.{of_parts}
 use Rattle.invariant_check.specs.Extensions.{part_at}
 use Rattle.invariant_check.specs.contracts.types.PartPartialEq.TheImpl.{eq-value as equality}
 use Rattle.invariant_guess.specs.Trial.{is_same}
+use Rattle.lists.proofs.Exact.{same_option}
 
 abbrev is_same_part : Part → Part → Bool
 is_same_part = equality.it
-
-same_counted : (a b : Option ℕ) → option_eq nat_eq a b ≡ true → a ≡ b
-same_counted None None is = refl
-same_counted None (Some place) is = absurd (true≢false (sym is))
-same_counted (Some place) None is = absurd (true≢false (sym is))
-same_counted (Some place) (Some other) is = ap (λ (n : ℕ). Some n) (eqb-true place other is)
-
-counted-itself : (a : Option ℕ) → option_eq nat_eq a a ≡ true
-counted-itself None = refl
-counted-itself (Some place) = nat_eq_equiv.refl place
 
 same_part : (a b : Part) → is_same_part a b ≡ true → a ≡ b
 same_part a b is =
@@ -31,12 +22,12 @@ same_part a b is =
     let back = and_parts (pointwise nat_eq a.places b.places) (option_eq nat_eq a.counted b.counted) halves.1 in
     ap (λ p. part_at p a.counted a.places) (eqb-true a.predicate b.predicate halves.0)
     ∙ ap (part_at b.predicate a.counted) ((bytes_decides a.places b.places).0 back.0)
-    ∙ ap (λ c. part_at b.predicate c b.places) (same_counted a.counted b.counted back.1)
+    ∙ ap (λ c. part_at b.predicate c b.places) (same_option a.counted b.counted back.1)
 
 part-itself : (a : Part) → is_same_part a a ≡ true
 part-itself a =
     and_from (nat_eq a.predicate a.predicate) (pointwise nat_eq a.places a.places && option_eq nat_eq a.counted a.counted) (nat_eq_equiv.refl a.predicate)
-    (and_from (pointwise nat_eq a.places a.places) (option_eq nat_eq a.counted a.counted) ((bytes_decides a.places a.places).1 refl) (counted-itself a.counted))
+    (and_from (pointwise nat_eq a.places a.places) (option_eq nat_eq a.counted a.counted) ((bytes_decides a.places a.places).1 refl) ((options_equiv nat_eq_equiv).refl a.counted))
 
 parts_decided : (xs ys : List Part) → (pointwise is_same_part xs ys ≡ true → xs ≡ ys) × (xs ≡ ys → pointwise is_same_part xs ys ≡ true)
 parts_decided = pointwise_decides (λ a b. (same_part a b, λ same. ap (is_same_part a) (sym same) ∙ part-itself a))

@@ -1,12 +1,13 @@
 -- Items of lists: where they stand, and what passes a test.
-use Rattle.std.proofs.Common.{◌≡◌, ℕ, zero, suc, ◌<◌, Bool, true, false, ◌&&◌, ◌||◌, cond, ◌⊎◌, inl, inr, List, [], ◌∷◌, ◌++◌, map, length, get_or, refl, sym, ap, ◌∙◌, subst, arith}
+use Rattle.std.proofs.Common.{◌≡◌, ℕ, zero, suc, ◌<◌, Bool, true, false, ◌&&◌, ◌||◌, cond, ◌⊎◌, inl, inr, List, [], ◌∷◌, ◌++◌, map, length, get_or, Some, None, refl, sym, ap, ◌∙◌, subst, arith}
 use Rattle.std.specs.Cmp.{both_ways}
-use Rattle.std.specs.List.{list_any, list_all, flat_map, filter, Contains}
+use Rattle.std.specs.List.{list_any, list_all, flat_map, filter, slice_get, Contains}
 use Rattle.std.proofs.lemmas.Bool.{or_cases, or_left, or_right, and_parts, and_from, cases_Bool, true≢false, false_from_ne_true}
 use Rattle.std.proofs.lemmas.List.{map-append}
 use Rattle.std.proofs.lemmas.List.Folds.{list_all-append, list_any-append}
 use Rattle.std.proofs.lemmas.Map.Views.{Contains-from_any}
 use Rattle.lists.specs.Members.{is_among}
+use Rattle.std.proofs.Math.Bool.{and_assoc}
 
 -- The item stands in the list: std's `Contains` in its form for induction, which stands in proofs alone.
 abbrev pub Among : {X : Type 0} → X → List X → Type 0
@@ -164,10 +165,6 @@ swap true c r = refl
 swap false true r = refl
 swap false false r = refl
 
-join : (f c r : Bool) → (f && (c && r)) ≡ ((f && c) && r)
-join true c r = refl
-join false c r = refl
-
 -- of all items, those that aren't kept pass as `value` says, and the others under new names
 pub all_kept : {X Y : Type 0} (keeps : X → Bool) (named : X → Y) (value : X → Bool) (test : X → Bool) (test' : Y → Bool) →
     ((x : X) → keeps x ≡ true → test' (named x) ≡ test x) → ((x : X) → keeps x ≡ false → test x ≡ value x) → (xs : List X) →
@@ -187,7 +184,7 @@ all_kept keeps named value test test' same settled (x ∷ xs) =
       | inr not ↦
           let here = settled x not in
           let list = ap (λ l. list_all test' (map named l)) (filter_no keeps x xs not) in
-          let goes = join (value x) open' left in
+          let goes = sym (and_assoc (value x) open' left) in
           let some = ap (λ b. b || value x) not in
           cc (here, rest, list, goes, some)
     ]
@@ -341,3 +338,57 @@ same_flat_map f g (x ∷ xs) same =
     let here = same x (inl refl) in
     let rest = same_flat_map f g xs (λ y there. same y (inr there)) in
     cc (here, rest)
+
+-- ---- items at places
+
+pub slice_among : {X : Type 0} (xs : List X) (i : ℕ) (x : X) → slice_get xs i ≡ Some x → Among x xs
+slice_among [] i x at = let no : None ≡ Some x = at in absurd (let none : ⊥ = cc no in none)
+slice_among (y ∷ ys) zero x at = let is : y ≡ x = cc at in inl is
+slice_among (y ∷ ys) (suc i) x at = inr (slice_among ys i x at)
+
+pub at_seam : {X : Type 0} (xs : List X) (y : X) (ys : List X) → slice_get (xs ++ y ∷ ys) (length xs) ≡ Some y
+at_seam [] y ys = refl
+at_seam (x ∷ xs) y ys = at_seam xs y ys
+
+pub within_left : {X : Type 0} (xs ys : List X) (i : ℕ) → i < length xs → slice_get (xs ++ ys) i ≡ slice_get xs i
+within_left [] ys i below = absurd (omega (arith, below))
+within_left (x ∷ xs) ys zero below = refl
+within_left (x ∷ xs) ys (suc i) below = within_left xs ys i (omega (arith, below))
+
+-- ---- there and back, tests on pieces, and either of two tests
+
+pub map_back : {X Y : Type 0} (f : X → Y) (g : Y → X) → ((x : X) → g (f x) ≡ x) → (xs : List X) → map g (map f xs) ≡ xs
+map_back f g back [] = refl
+map_back f g back (x ∷ xs) =
+    let here = back x in
+    let rest = map_back f g back xs in
+    cc (here, rest)
+
+pub all_flat_map : {X Y : Type 0} (test : Y → Bool) (piece : X → List Y) (xs : List X) → list_all test (flat_map piece xs) ≡ list_all (λ x. list_all test (piece x)) xs
+all_flat_map test piece [] = refl
+all_flat_map test piece (x ∷ xs) = list_all-append test (piece x) (flat_map piece xs) ∙ ap (λ b. list_all test (piece x) && b) (all_flat_map test piece xs)
+
+or_cross : (a b c d : Bool) → ((a || b) || (c || d)) ≡ ((a || c) || (b || d))
+or_cross true b c d = refl
+or_cross false true true d = refl
+or_cross false true false d = refl
+or_cross false false c d = refl
+
+pub any_or : {X : Type 0} (test other : X → Bool) (xs : List X) → list_any (λ x. test x || other x) xs ≡ (list_any test xs || list_any other xs)
+any_or test other [] = refl
+any_or test other (x ∷ xs) =
+    ap (λ r. (test x || other x) || r) (any_or test other xs) ∙ or_cross (test x) (other x) (list_any test xs) (list_any other xs)
+
+-- the test of one item more at the end
+pub or_last : (a b : Bool) → (a || (b || false)) ≡ (b || a)
+or_last true true = refl
+or_last true false = refl
+or_last false true = refl
+or_last false false = refl
+
+-- the same, where the item is asked first
+pub last_of : (a b : Bool) → cond a true b ≡ (b || (a || false))
+last_of true true = refl
+last_of true false = refl
+last_of false true = refl
+last_of false false = refl

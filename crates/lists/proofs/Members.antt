@@ -1,8 +1,8 @@
 -- Members of lists, by std's word for them, `Contains`: what `Items` proves of `Among`, said again.
 use Rattle.std.proofs.Common.{◌≡◌, ℕ, ◌+◌, ◌<◌, Bool, true, false, cond, Some, None, List, [], ◌∷◌, map, filter, get_or, ◌⊎◌, refl, sym, ap, ◌∙◌, subst, inl, inr, arith}
-use Rattle.std.specs.List.{Contains, All, flat_map, range_with_len, list_any, list_all, find}
+use Rattle.std.specs.List.{Contains, All, AllZip, flat_map, range_with_len, list_any, list_all, find, slice_get}
 use Rattle.std.proofs.lemmas.Bool.{cases_Bool}
-use Rattle.std.proofs.lemmas.Option.{same_Some, none-some}
+use Rattle.std.proofs.lemmas.Option.{same_Some, none-some, slice_get_within, get_or_from_slice_get}
 use Rattle.std.proofs.lemmas.List.Elements.{Contains-append_right, Contains-get_or}
 use Rattle.std.proofs.lemmas.List.FromFn.{length-range_with_len, get_or-range_with_len}
 use Rattle.lists.proofs.Items.{among_contains, contains_among, among_map, map_source, among_filter, filter_among, filter_yes, filter_no, among_flat_map, flat_map_piece, any_passes, passing}
@@ -121,3 +121,18 @@ find_same p q [] same = refl
 find_same p q (x ∷ xs) same =
     ap (λ b. cond b (Some x) (find p xs)) (same x (member_first x xs))
     ∙ ap (λ o. cond (q x) (Some x) o) (find_same p q xs (λ y in'. same y (member_later x y xs in')))
+
+-- ---- an item at a place, and lists that agree place by place
+
+pub got_member : {X : Type 0} (xs : List X) (i : ℕ) (x : X) → slice_get xs i ≡ Some x → Contains xs x
+got_member xs i x at = (i, slice_get_within xs i x at, get_or_from_slice_get xs i x x at)
+
+pub zip_source : {A B : Type 0} (R : A → B → Type 0) (xs : List A) (ys : List B) (y : B) → AllZip R xs ys → Contains ys y → (x : A) × Contains xs x × R x y
+zip_source R [] [] y all in' = absurd (no_member y in')
+zip_source R [] (z ∷ ys) y all in' = absurd all
+zip_source R (x ∷ xs) [] y all in' = absurd all
+zip_source R (x ∷ xs) (z ∷ ys) y all in' =
+    elim (member_cases z y ys in') [
+      | inl same ↦ (x, member_first x xs, subst (R x) same all.0)
+      | inr later ↦ let r = zip_source R xs ys y all.1 later in (r.0, member_later x r.0 xs r.1, r.2)
+    ]

@@ -1,11 +1,12 @@
 -- Lists of which each item stands to each later one as it should: such a list is known by its members.
-use Rattle.std.proofs.Common.{◌≡◌, suc, ◌<◌, List, [], ◌∷◌, length, refl, sym, ap, ◌∙◌, subst, inl, inr, arith}
-use Rattle.std.specs.List.{Contains, AllPairs}
-use Rattle.std.specs.List.Sorted.{IsStrictlySortedBy}
+use Rattle.std.proofs.Common.{◌≡◌, ℕ, suc, ◌+◌, ◌<◌, List, [], ◌∷◌, length, refl, sym, ap, ◌∙◌, subst, inl, inr, arith}
+use Rattle.std.specs.List.{Contains, AllPairs, range_with_len}
+use Rattle.std.specs.List.Sorted.{IsStrictlySortedBy, IsStrictlyIncreasing}
 use Rattle.std.specs.declared.cmp.Ordering.{Ordering}
 use Rattle.std.specs.declared.cmp.Ordering.TheVariants.{Less}
 use Rattle.std.proofs.lemmas.List.Kept.{AllPairs-cons}
 use Rattle.std.proofs.lemmas.List.Elements.{All-from_recursion}
+use Rattle.std.proofs.lemmas.List.FromFn.{length-range_with_len, get_or-range_with_len}
 use Rattle.lists.proofs.Members.{no_member, member_first, member_later, member_cases}
 
 -- what holds of all pairs, of the first item and each later one, and of the later ones
@@ -51,3 +52,11 @@ pub strictly_ordered : {X : Type 0} (cmp : X → X → Ordering) (xs : List X) �
 unfolding IsStrictlySortedBy
 strictly_ordered cmp [] strict = λ i j d lt below. absurd (omega arith)
 strictly_ordered cmp (x ∷ xs) strict = AllPairs-cons (λ a b. cmp a b ≡ Less) x xs (All-from_recursion (λ y. cmp x y ≡ Less) xs strict.0) (strictly_ordered cmp xs strict.1)
+
+-- the numbers below n rise
+pub range_increasing : (n : ℕ) → IsStrictlyIncreasing (range_with_len 0 n)
+range_increasing n k below =
+    let in-range : k + 1 < n = subst (λ m. k + 1 < m) (length-range_with_len 0 n) below in
+    let at = get_or-range_with_len 0 n k 0 (omega arith) in
+    let next = get_or-range_with_len 0 n (k + 1) 0 in-range in
+    omega (arith, at, next)

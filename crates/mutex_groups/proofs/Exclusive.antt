@@ -19,7 +19,6 @@ use Rattle.static_matcher.specs.GroundTask.{ground_task, is_fixed}
 use Rattle.static_matcher.specs.Ranked.{IsRanked}
 use Rattle.static_matcher.proofs.GroundMeaning as ground_law
 use Rattle.static_matcher.proofs.LawfulNormal.{keeps_statics, instances_ranked}
-use Rattle.static_matcher.proofs.Atoms.{same_atom, atom_same}
 use Rattle.relaxed_reach.specs.declared.types.Fact.{Fact}
 use Rattle.relaxed_reach.specs.declared.types.Reached.{Reached}
 use Rattle.relaxed_reach.specs.ReachedTask.{atoms_of}
@@ -40,6 +39,7 @@ use Rattle.invariant_check.proofs.Weights.{most_of_weight}
 use Rattle.mutex_groups.specs.Groups.{covers_fact, IsMutexGroup}
 use Rattle.relaxed_reach.specs.Exclusive.{IsExclusive}
 use Rattle.mutex_groups.specs.Laws.{IsReachedOf, GroupsAreExclusive, GroupsAreSorted, GroupsAreFacts, GroupsAreBasic}
+use Rattle.normal_task.proofs.OnceEach.{same_atom, atom_same}
 
 -- ---- predicates that effects change
 

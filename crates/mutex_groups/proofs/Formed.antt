@@ -8,7 +8,7 @@ use Rattle.normal_task.specs.Lawful.{differ, is_rising}
 use Rattle.invariant_check.specs.declared.types.Candidate.{Candidate}
 use Rattle.invariant_check.specs.declared.types.Part.{Part}
 use Rattle.invariant_check.specs.WellFormed.{is_well_formed}
-use Rattle.invariant_check.proofs.RisingLists.{rises_behind, below_rising}
+use Rattle.normal_task.proofs.RisingLists.{rises_behind, below_rising}
 use Rattle.invariant_check.proofs.FormedParts.{predicates, formed_facts}
 use Rattle.mutex_groups.specs.Found.{parts_differ}
 

@@ -10,8 +10,7 @@ use Rattle.normal_task.specs.declared.task.GroundAtom.{GroundAtom}
 use Rattle.normal_task.specs.declared.task.Normal.{Normal}
 use Rattle.normal_task.specs.Lawful.{IsLawful, differ}
 use Rattle.normal_task.specs.Meaning.{is_same_atom, initial}
-use Rattle.normal_task.proofs.OnceEach.{same_atom-swap}
-use Rattle.static_matcher.proofs.Atoms.{same_atom, atom_same}
+use Rattle.normal_task.proofs.OnceEach.{same_atom-swap, same_atom, atom_same}
 use Rattle.static_matcher.proofs.LawfulGround.{differ_filter}
 use Rattle.invariant_check.specs.declared.types.Candidate.{Candidate}
 use Rattle.invariant_check.specs.Candidates.{covers, HasWeight}

@@ -5,9 +5,9 @@ use Rattle.std.specs.List.{list_any}
 use Rattle.std.specs.Cmp.Lexicographic.{pointwise}
 use Rattle.std.specs.Cmp.{nat_eq_equiv}
 use Rattle.std.proofs.lemmas.Bool.{eqb-true}
-use Rattle.std.proofs.Math.Bool.{or-false}
+use Rattle.std.proofs.Math.Bool.{or-false, and_assoc}
 use Rattle.normal_task.specs.Meaning.{choices}
-use Rattle.normal_task.proofs.Anys.{any-map, any-flat_map, any-same, any-none, any-and_left, and_assoc}
+use Rattle.normal_task.proofs.Anys.{any-map, any-flat_map, any-same, any-none, any-and_left}
 
 -- the objects are one of each list
 abbrev pub is_choice : List (List ℕ) → List ℕ → Bool
@@ -84,14 +84,14 @@ any-choices_shown test (x ∷ xs) ys (g ∷ given) =
     ∙ any-same (λ object. list_any (λ others. pointwise nat_eq (take (length (x ∷ xs)) (object ∷ others)) (g ∷ given) && test (object ∷ others)) (choices (xs ++ ys)))
     (λ object. nat_eq object g && (is_choice xs given && list_any (λ ps. test (object ∷ (given ++ ps))) (choices ys))) (λ object. one object (any-choices_shown (λ others. test (object ∷ others)) xs ys given)) x
     ∙ any-equal g (λ object. is_choice xs given && list_any (λ ps. test (object ∷ (given ++ ps))) (choices ys)) x
-    ∙ and_assoc (list_any (nat_eq g) x) (is_choice xs given) (list_any (λ ps. test (g ∷ (given ++ ps))) (choices ys))
+    ∙ sym (and_assoc (list_any (nat_eq g) x) (is_choice xs given) (list_any (λ ps. test (g ∷ (given ++ ps))) (choices ys)))
   where
     one : (object : ℕ) → list_any (λ others. pointwise nat_eq (take (length xs) others) given && test (object ∷ others)) (choices (xs ++ ys)) ≡ (is_choice xs given && list_any (λ ps. test (object ∷ (given ++ ps))) (choices ys)) → list_any (λ others. pointwise nat_eq (take (length (x ∷ xs)) (object ∷ others)) (g ∷ given) && test (object ∷ others)) (choices (xs ++ ys))
         ≡ (nat_eq object g && (is_choice xs given && list_any (λ ps. test (object ∷ (given ++ ps))) (choices ys)))
     one object rest =
         any-same (λ others. pointwise nat_eq (take (length (x ∷ xs)) (object ∷ others)) (g ∷ given) && test (object ∷ others))
         (λ others. nat_eq object g && (pointwise nat_eq (take (length xs) others) given && test (object ∷ others)))
-        (λ others. sym (and_assoc (nat_eq object g) (pointwise nat_eq (take (length xs) others) given) (test (object ∷ others)))) (choices (xs ++ ys))
+        (λ others. and_assoc (nat_eq object g) (pointwise nat_eq (take (length xs) others) given) (test (object ∷ others))) (choices (xs ++ ys))
         ∙ any-and_left (nat_eq object g) (λ others. pointwise nat_eq (take (length xs) others) given && test (object ∷ others)) (choices (xs ++ ys))
         ∙ ap (λ b. nat_eq object g && b) rest
 

@@ -31,10 +31,12 @@ use Rattle.normal_task.specs.Same.{is_known_atom}
 use Rattle.normal_task.proofs.Anys.{any-map, all-map, any-not, all-not}
 use Rattle.normal_task.proofs.Alls.{all-left, all-right}
 use Rattle.normal_task.proofs.Mentioned.{is_known_mention, is_known_term, is_declared, AreKnown}
-use Rattle.normal_task.proofs.Scopes.{length-append, length-map, same-itself, Stands, number, is_known, inside-stands, values, slots-stand, slots-typed}
+use Rattle.normal_task.proofs.Scopes.{length-append, length-map, Stands, number, is_known, inside-stands, values, slots-stand, slots-typed}
 use Rattle.normal_task.proofs.Fits.{FitsFrom, Fit, members-fit, cuts, InScopes, asked_in, condition-fits}
 use Rattle.normal_task.proofs.PartsMean.{some_part, with_variables-met, GivenIn, MeansFrom, EachMeans, in_turn-means, all_of-means}
 use Rattle.normal_task.proofs.ThreeFolds.{by_folds}
+use Rattle.std.proofs.lemmas.Simd.{map-map}
+use Rattle.pddl_parser.proofs.Steps.{name_same}
 
 -- ---- numbers of names
 
@@ -59,10 +61,6 @@ same-number (first ∷ names) a b known_a known_b = by (is_same a first) (is_sam
     by true y here_a here_b known_a known_b later = let same = nat_list_eq_equiv.congr a first b here_a in let swap = nat_list_eq_equiv.symm first b in first_only y (number_in names b) ∙ cc
     by false true here_a here_b known_a known_b later = let same = nat_list_eq_equiv.congr b first a here_b in let swap = nat_list_eq_equiv.symm first a in let swap2 = nat_list_eq_equiv.symm a b in second_only (number_in names a) ∙ cc
     by false false here_a here_b known_a known_b later = one_later (number_in names a) (number_in names b) ∙ later known_a known_b
-
-map-map : {X Y Z : Type 0} (f : Y → Z) (g : X → Y) (xs : List X) → map f (map g xs) ≡ map (λ x. f (g x)) xs
-map-map f g [] = refl
-map-map f g (x ∷ xs) = ap (λ l. f (g x) ∷ l) (map-map f g xs)
 
 flat_map-map : {X Y Z : Type 0} (f : Y → List Z) (g : X → Y) (xs : List X) → flat_map f (map g xs) ≡ flat_map (λ x. f (g x)) xs
 flat_map-map f g [] = refl
@@ -93,7 +91,7 @@ module _ (domain : Domain) (problem : Problem) where
   pub term-object : (scope : Scope) (named : pddl.Binding) (binding : Binding) (term : Term) → is_known_term domain problem term ≡ true → ((name : Name) → is_term_of name term ≡ true → Stands domain problem scope named binding name) →
       (object_at binding (place_of domain problem scope term) ≡ number domain problem (holds.object_of named term)) × (is_known domain problem (holds.object_of named term) ≡ true)
   term-object scope named binding (terms.Variable variable) is stand =
-      let here = stand variable.name (same-itself variable.name) in
+      let here = stand variable.name (name_same variable.name) in
       (ap (λ (o : Option Slot). get_or binding (unwrap_or (option_map (λ (slot : Slot). slot.place) o) 0) 0) here.found ∙ here.value, here.known)
   term-object scope named binding (terms.Object object) is stand = (refl, is)
 

@@ -5,7 +5,7 @@ use Rattle.std.specs.List.{list_all, list_any, flat_map}
 use Rattle.std.specs.Cmp.Lexicographic.{pointwise}
 use Rattle.std.proofs.lemmas.Bool.{and_parts, and_from}
 use Rattle.std.proofs.lemmas.List.Folds.{list_any-append, list_all-append}
-use Rattle.std.proofs.Math.Bool.{and-false, and-true}
+use Rattle.std.proofs.Math.Bool.{and-false, and-true, and_assoc}
 use Rattle.pddl_lexer.specs.declared.position.At.{At}
 use Rattle.pddl_parser.specs.declared.types.Atom.{Atom}
 use Rattle.pddl_parser.specs.declared.types.Condition.{Condition}
@@ -30,7 +30,7 @@ use Rattle.normal_task.specs.Meaning.{atom_of, State, Binding, objects_at, choic
 use Rattle.normal_task.specs.Parts.{Scope, scope_inside, Part, Made, in_turn, all_of, place_of, known, parts}
 use Rattle.normal_task.specs.Normalised.{Rows, effect_row, written, row_with_variables, row_step, rows_of, numbered_atom}
 use Rattle.normal_task.specs.Same.{is_known_atom}
-use Rattle.normal_task.proofs.Anys.{any-map, any-same, any-swap, any-and_left, and_assoc}
+use Rattle.normal_task.proofs.Anys.{any-map, any-same, any-swap, any-and_left}
 use Rattle.normal_task.proofs.Alls.{all-left, all-right}
 use Rattle.normal_task.proofs.Chosen.{any-choices_append}
 use Rattle.normal_task.proofs.Mentioned.{is_known_mention, is_known_term, is_declared, AreKnown}
@@ -239,7 +239,7 @@ module _ (domain : Domain) (problem : Problem) where
           (λ name free. longer domain problem scope named binding more name (stand name (free-bound domain problem condition names here_bound name free)))))
           next given atom known_atom
           ∙ ap (λ b. b && change inside named atom) (list_all-append (λ truth. truth) truths (holds.holds domain problem full condition named ∷ []) ∙ ap (λ b. all_true truths && b) (and-true (holds.holds domain problem full condition named)))
-          ∙ sym (and_assoc (all_true truths) (holds.holds domain problem full condition named) (change inside named atom))
+          ∙ and_assoc (all_true truths) (holds.holds domain problem full condition named) (change inside named atom)
         where
           here_bound : scopes.in_condition condition names ≡ []
           here_bound = left_empty (scopes.in_condition condition names) (scopes.in_effect inside names) unbound

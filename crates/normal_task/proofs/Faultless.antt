@@ -4,7 +4,7 @@ use Rattle.std.specs.Prelude.{if◌then◌else◌}
 use Rattle.std.specs.List.{list_all, list_any, filter, flat_map}
 use Rattle.std.proofs.lemmas.Bool.{and_parts, and_from, false≢true}
 use Rattle.std.proofs.lemmas.Cmp.{nat_list_eq_equiv}
-use Rattle.std.proofs.lemmas.List.Folds.{list_all-append, list_all-map}
+use Rattle.std.proofs.lemmas.List.Folds.{list_all-map}
 use Rattle.lists.specs.Members.{is_among}
 use Rattle.pddl_lexer.specs.declared.fault.Kind.TheVariants as kinds
 use Rattle.pddl_parser.specs.declared.types.Action.{Action}
@@ -27,7 +27,7 @@ use Rattle.type_checker.specs.Mentions.{Mention, Use, Written, written_predicate
 use Rattle.type_checker.specs.Names as names
 use Rattle.type_checker.specs.Scopes as scopes
 use Rattle.type_checker.proofs.NoFaults.{map_empty, left_empty, right_empty, row_empty}
-use Rattle.lists.proofs.Items.{Among, all_passes, piece_empty}
+use Rattle.lists.proofs.Items.{Among, all_passes, piece_empty, all_flat_map}
 use Rattle.normal_task.specs.Numbers.{head_names}
 use Rattle.normal_task.specs.Parts.{is_listed, known}
 use Rattle.normal_task.specs.Normalised.{parameter_scope, axiom_rows, schemas, precondition_parts, effect_rows, goal_parts, made_schemas, made_axioms, after_schemas, after_axioms}
@@ -52,10 +52,6 @@ none_fails fails test opposite (x ∷ xs) none = by_test (none_fails fails test 
     by_test : (filter fails xs ≡ [] → list_all test xs ≡ true) → (b : Bool) → test x ≡ b → fails x ≡ not (test x) → list_all test (x ∷ xs) ≡ true
     by_test rest true passes other = let later = rest (cc (none, passes, other)) in cc (passes, later)
     by_test rest false fails other = absurd (cc (none, fails, other))
-
-pub all_flat_map : {X Y : Type 0} (test : Y → Bool) (piece : X → List Y) (xs : List X) → list_all test (flat_map piece xs) ≡ list_all (λ x. list_all test (piece x)) xs
-all_flat_map test piece [] = refl
-all_flat_map test piece (x ∷ xs) = list_all-append test (piece x) (flat_map piece xs) ∙ ap (λ b. list_all test (piece x) && b) (all_flat_map test piece xs)
 
 -- one of the heads has the name
 pub declared_among : (heads : List Head) (name : Name) → names.is_declared heads name ≡ is_among is_same (head_names heads) name

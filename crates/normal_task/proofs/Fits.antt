@@ -23,8 +23,9 @@ use Rattle.normal_task.specs.Numbers.{number_in, head_names, predicate_number, r
 use Rattle.normal_task.specs.Parts.{Slot, Scope, slots_for, renumbered, scope_inside, is_listed, Part, Fresh, Made, in_turn, all_of, moved_place, moved, joined, paired, with_variables, Known, is_term_of, variable_at, place_of, fresh_number, free_slots, exists_inside, none_inside, known_step, known}
 use Rattle.normal_task.proofs.Alls.{all-both, all-left, all-right, all-images, all-weaker, all-pieces}
 use Rattle.normal_task.proofs.Mentioned.{is_known_mention, is_known_term, is_declared, AreKnown}
-use Rattle.normal_task.proofs.Scopes.{InScope, slot-here, slot-behind, same-slot, map-append, length-append, length-map, slots-in_scope, inside-in_scope, hides, slots_behind, same-itself}
+use Rattle.normal_task.proofs.Scopes.{InScope, slot-here, slot-behind, same-slot, map-append, length-append, length-map, slots-in_scope, inside-in_scope, hides, slots_behind}
 use Rattle.normal_task.proofs.ThreeFolds.{by_folds}
+use Rattle.pddl_parser.proofs.Steps.{name_same}
 
 -- ---- places and literals
 
@@ -206,7 +207,7 @@ module _ (domain : Domain) (problem : Problem) where
       ap (λ (o : Option Slot). nat_lt (unwrap_or (option_map (λ (slot : Slot). slot.place) o) 0) around) is.found ∙ lt-ltb is.slot.place around is.within
 
   term-within : (scope : Scope) (around : ℕ) (term : Term) → ((name : Name) → is_term_of name term ≡ true → InScope scope around name) → place_within around (place_of domain problem scope term) ≡ true
-  term-within scope around (terms.Variable variable) in_scope = variable-within scope around variable.name (in_scope variable.name (same-itself variable.name))
+  term-within scope around (terms.Variable variable) in_scope = variable-within scope around variable.name (in_scope variable.name (name_same variable.name))
   term-within scope around (terms.Object object) in_scope = refl
 
   pub terms-within : (scope : Scope) (around : ℕ) (list : List Term) → ((name : Name) → list_any (is_term_of name) list ≡ true → InScope scope around name) → list_all (place_within around) (map (place_of domain problem scope) list) ≡ true
@@ -265,7 +266,7 @@ module _ (domain : Domain) (problem : Problem) where
           list_all (place_within around) (map (λ (slot : Slot). Variable slot.place) (slots_behind asks slot outer ++ (if a then slot ∷ [] else []))) ≡ true
       by true asked rest =
           let is = in_scope slot.variable asked in
-          let there = same-slot is.slot slot (sym is.found ∙ slot-here slot outer slot.variable (same-itself slot.variable)) in
+          let there = same-slot is.slot slot (sym is.found ∙ slot-here slot outer slot.variable (name_same slot.variable)) in
           let one = lt-ltb slot.place around (subst (λ (s : Slot). s.place < around) there is.within) in
           ap (list_all (place_within around)) (map-append (λ (slot : Slot). Variable slot.place) (slots_behind asks slot outer) (slot ∷ []))
           ∙ all-both (place_within around) (map (λ (slot : Slot). Variable slot.place) (slots_behind asks slot outer)) (Variable slot.place ∷ []) rest (and_from (nat_lt slot.place around) true one refl)

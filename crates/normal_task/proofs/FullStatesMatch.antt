@@ -8,7 +8,7 @@ use Rattle.std.proofs.lemmas.Bool.{and_parts, and_from, or_cases, eqb-true, ltb-
 use Rattle.std.proofs.lemmas.Option.{slice_get_past}
 use Rattle.std.proofs.lemmas.Cmp.{nat_list_eq_equiv}
 use Rattle.std.proofs.lemmas.List.Folds.{list_any-append}
-use Rattle.std.proofs.Math.Bool.{and-false, or-false}
+use Rattle.std.proofs.Math.Bool.{and-false, or-false, and_assoc}
 use Rattle.lists.specs.Members.{is_among}
 use Rattle.pddl_parser.specs.declared.types.Derived.{Derived}
 use Rattle.pddl_parser.specs.declared.types.Domain.{Domain}
@@ -23,7 +23,7 @@ use Rattle.pddl_parser.specs.Plan.{pddl_task}
 use Rattle.pddl_parser.proofs.SameAtoms.{same_name}
 use Rattle.pddl_parser.proofs.ConditionCases.{Each}
 use Rattle.type_checker.specs.Mentions.{in_condition, in_axiom}
-use Rattle.lists.proofs.Items.{Among, passing, same_any, map_source, flat_map_piece}
+use Rattle.lists.proofs.Items.{Among, passing, same_any, map_source, flat_map_piece, within_left}
 use Rattle.normal_task.specs.declared.task.AxiomRow.{AxiomRow}
 use Rattle.normal_task.specs.declared.task.GroundAtom.{GroundAtom}
 use Rattle.normal_task.specs.declared.task.Normal.{Normal}
@@ -35,7 +35,7 @@ use Rattle.normal_task.proofs.Chosen.{is_choice}
 use Rattle.normal_task.specs.Parts.{is_listed, Part, Fresh, in_turn, fresh_number, known}
 use Rattle.normal_task.specs.Normalised.{numbered_atom, parameter_scope, axiom_row, body_parts, axiom_rows, fresh_rows, fresh_predicates, declared_row, made_schemas, made_axioms, after_schemas, made_goal, all_fresh, normal}
 use Rattle.normal_task.specs.Same.{is_known_atom, Shows}
-use Rattle.normal_task.proofs.Anys.{any-map, any-same, any-and_left, any-and_right, and_assoc}
+use Rattle.normal_task.proofs.Anys.{any-map, any-same, any-and_left, any-and_right}
 use Rattle.normal_task.proofs.Chosen.{any-choices_shown, choice-any, eq-itself}
 use Rattle.normal_task.proofs.Mentioned.{is_declared, AreKnown}
 use Rattle.normal_task.proofs.Scopes.{length-map, length-append, number, is_known, inside-stands, range-known}
@@ -51,11 +51,6 @@ other-number m n apart = by (nat_eq m n) refl
     by false e = refl
 
 -- ---- lists of predicates
-
-pub within-left : {X : Type 0} (xs ys : List X) (i : ℕ) → i < length xs → slice_get (xs ++ ys) i ≡ slice_get xs i
-within-left [] ys i below = absurd (omega (arith, below))
-within-left (x ∷ xs) ys zero below = refl
-within-left (x ∷ xs) ys (suc i) below = within-left xs ys i (omega (arith, below))
 
 within-right : {X : Type 0} (xs ys : List X) (i : ℕ) → slice_get (xs ++ ys) (length xs + i) ≡ slice_get ys i
 within-right [] ys i = ap (slice_get ys) (let same : 0 + i ≡ i = omega arith in same)
@@ -185,7 +180,7 @@ module _ (domain : Domain) (problem : Problem) where
   pub derived-declared : (name : Name) → is_declared domain problem name ≡ true → task.is_derived planning (predicate_number domain name) ≡ holds.is_derived domain name
   derived-declared name known =
       ap (λ (o : Option PredicateRow). unwrap_or (option_map (λ (row : PredicateRow). row.derived) o) false)
-      (within-left all_heads (fresh_predicates domain problem 0 fresh_all) (predicate_number domain name) (omega (arith, heads-length, number-below name known)))
+      (within_left all_heads (fresh_predicates domain problem 0 fresh_all) (predicate_number domain name) (omega (arith, heads-length, number-below name known)))
       ∙ head-derived domain.predicates name known
 
   fresh-row-derived : (next : ℕ) (fresh : List Fresh) (i : ℕ) → i < length fresh → derived_in (fresh_predicates domain problem next fresh) i ≡ true
@@ -345,7 +340,7 @@ module _ (domain : Domain) (problem : Problem) where
       (same_any (λ names. pointwise nat_eq (map num names) (map num atom.objects) && rule_holds full rule names) (λ names. pointwise is_same atom.objects names && rule_holds full rule atom.objects) (pddl.choices domain problem variables)
       (λ names among. one names (same-numbers names atom.objects (choices-known variables names among) parts.1) (pointwise is_same atom.objects names) refl)
       ∙ any-and_right (rule_holds full rule atom.objects) (pointwise is_same atom.objects) (pddl.choices domain problem variables))
-      ∙ and_assoc (is_same rule.head.name.name atom.predicate) (pddl.is_choice domain problem variables atom.objects) (rule_holds full rule atom.objects)
+      ∙ sym (and_assoc (is_same rule.head.name.name atom.predicate) (pddl.is_choice domain problem variables atom.objects) (rule_holds full rule atom.objects))
     where
       one : (names : List Name) → pointwise nat_eq (map num names) (map num atom.objects) ≡ pointwise is_same atom.objects names → (b : Bool) → pointwise is_same atom.objects names ≡ b →
           (pointwise nat_eq (map num names) (map num atom.objects) && rule_holds full rule names) ≡ (pointwise is_same atom.objects names && rule_holds full rule atom.objects)

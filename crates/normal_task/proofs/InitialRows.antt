@@ -24,7 +24,7 @@ use Rattle.type_checker.proofs.Basic.{written_basic}
 use Rattle.type_checker.proofs.Bound.{entry_bound}
 use Rattle.type_checker.proofs.Declared.{predicates_declared, objects_known, object_among}
 use Rattle.type_checker.proofs.EachPart.{in_each_entry}
-use Rattle.lists.proofs.Items.{Among, contains_among, each_passes}
+use Rattle.lists.proofs.Items.{Among, contains_among, each_passes, all_flat_map}
 use Rattle.normal_task.specs.declared.task.Normal.{Normal}
 use Rattle.normal_task.specs.declared.task.ValueRow.{ValueRow}
 use Rattle.normal_task.specs.Lawful as lawful
@@ -32,7 +32,6 @@ use Rattle.normal_task.specs.Lawful.{most, is_object, is_predicate, is_init, is_
 use Rattle.normal_task.specs.Meaning.{is_same_atom, is_same_value}
 use Rattle.normal_task.specs.Normalised.{numbered_atom, stated, value_row, normal}
 use Rattle.normal_task.specs.Numbers.{object_number, predicate_number, function_number}
-use Rattle.normal_task.proofs.Faultless.{all_flat_map}
 use Rattle.normal_task.proofs.OnceEach.{once-passes}
 use Rattle.normal_task.proofs.PredicateTable.{declared-basic}
 use Rattle.normal_task.proofs.RisingRanges.{object-is}

@@ -27,8 +27,9 @@ use Rattle.normal_task.proofs.FullStatesMatch.{RuleSound, body-mentioned}
 use Rattle.normal_task.proofs.KnownParts.{all-by_both, literal_known, literal-lawful, part_known, fresh_known, MadeKnown, ranges-known, inside-known, well_mentioned, condition-known}
 use Rattle.normal_task.proofs.PredicateTable.{HaveRows, declared-derived}
 use Rattle.normal_task.proofs.Ranks.{each-among}
-use Rattle.normal_task.proofs.Scopes.{length-append, length-map, same-itself}
+use Rattle.normal_task.proofs.Scopes.{length-append, length-map}
 use Rattle.normal_task.proofs.WellMentioned.{parameters-in_scope, tables, rule-well}
+use Rattle.pddl_parser.proofs.Steps.{name_same}
 
 -- ---- variables below their bounds, wherever new predicates begin
 
@@ -127,7 +128,7 @@ module _ (domain : Domain) (problem : Problem) where
     head-row : HasDerivedRow (length (ranges_of domain problem rule.head.variables)) (predicate_number domain rule.head.name.name)
     head-row =
         let declared = (and_parts (names.has_arity domain.predicates (head_use rule.head)) true (and_parts (has_predicate domain (Derives rule.head)) (has_objects domain problem (Derives rule.head)) told.0).0).0 in
-        let derived = any_passes (λ (other : Derived). is_same other.head.name.name rule.head.name.name) rule domain.axioms among (same-itself rule.head.name.name) in
+        let derived = any_passes (λ (other : Derived). is_same other.head.name.name rule.head.name.name) rule domain.axioms among (name_same rule.head.name.name) in
         subst (λ (n : ℕ). HasDerivedRow n (predicate_number domain rule.head.name.name)) same-count (declared-derived domain problem none (head_use rule.head) derived declared)
 
     pub rule-lawful : (next : ℕ) → HaveRows task base next (axiom_rows domain problem rule next).fresh →

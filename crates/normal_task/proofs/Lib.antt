@@ -25,6 +25,7 @@ mod Asks
 pub mod Ranks
 mod NameWords
 pub mod OnceEach
+pub mod RisingLists
 mod PredicateTable
 mod InitialRows
 mod RanksFall

@@ -1,9 +1,9 @@
 -- A list of items each once: no two of them are the same.
-use Rattle.std.proofs.Common.{append-nil, ◌≡◌, Bool, true, false, not, ◌&&◌, ◌||◌, List, [], ◌∷◌, ◌++◌, inl, inr, refl, sym, ap, ◌∙◌, subst}
+use Rattle.std.proofs.Common.{append-nil, ◌≡◌, ℕ, Bool, true, false, not, ◌&&◌, ◌||◌, List, [], ◌∷◌, ◌++◌, inl, inr, refl, sym, ap, ◌∙◌, subst}
 use Rattle.std.specs.Prelude.{nat_eq, if◌then◌else◌}
 use Rattle.std.specs.Cmp.Lexicographic.{pointwise}
 use Rattle.std.specs.List.{list_all, list_any}
-use Rattle.std.proofs.lemmas.Bool.{and_parts, and_from, or_parts, true≢false}
+use Rattle.std.proofs.lemmas.Bool.{and_parts, and_from, or_parts, true≢false, eqb-true}
 use Rattle.std.proofs.lemmas.List.Folds.{list_any-append}
 use Rattle.std.proofs.lemmas.Cmp.{nat_eq_equiv, lists_equiv}
 use Rattle.pddl_parser.specs.declared.types.Domain.{Domain}
@@ -12,7 +12,8 @@ use Rattle.lists.proofs.Items.{Among, any_passes, none_passes, passing}
 use Rattle.normal_task.specs.declared.task.GroundAtom.{GroundAtom}
 use Rattle.normal_task.specs.declared.task.ValueRow.{ValueRow}
 use Rattle.normal_task.specs.Lawful.{differ}
-use Rattle.normal_task.specs.Meaning.{is_same_atom, is_same_value}
+use Rattle.names.proofs.SameNames.{same_name}
+use Rattle.normal_task.specs.Meaning.{atom_of, is_same_atom, is_same_value}
 use Rattle.normal_task.specs.Normalised.{once_after}
 
 module _ (domain : Domain) (problem : Problem) {A : Type 0} (same : A → A → Bool) where
@@ -130,6 +131,14 @@ module _ (domain : Domain) (problem : Problem) {A : Type 0} (same : A → A → 
       behind : (b : Bool) (list : List A) → with_one b list item ≡ list ++ (if b then [] else item ∷ [])
       behind true list = sym (append-nil list)
       behind false list = refl
+
+pub same_atom : (a b : GroundAtom) → is_same_atom a b ≡ true → a ≡ b
+same_atom a b is =
+    let parts = and_parts (nat_eq a.predicate b.predicate) (pointwise nat_eq a.objects b.objects) is in
+    ap (λ (p : ℕ). atom_of p a.objects) (eqb-true a.predicate b.predicate parts.0) ∙ ap (atom_of b.predicate) (same_name a.objects b.objects parts.1)
+
+pub atom_same : (a : GroundAtom) → is_same_atom a a ≡ true
+atom_same a = and_from (nat_eq a.predicate a.predicate) (pointwise nat_eq a.objects a.objects) (nat_eq_equiv.refl a.predicate) ((lists_equiv nat_eq_equiv).refl a.objects)
 
 pub same_atom-swap : (a b : GroundAtom) → is_same_atom a b ≡ is_same_atom b a
 same_atom-swap a b =

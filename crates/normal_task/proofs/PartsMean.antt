@@ -31,11 +31,11 @@ choice-length (range ∷ lists) objects there =
     let rest = map_source (λ (others : List ℕ). piece.source ∷ others) (choices lists) objects piece.inside in
     ap (λ (l : List ℕ). length l) (sym rest.gives) ∙ ap (λ (n : ℕ). suc n) (choice-length lists rest.source rest.among)
 
-place-kept : (binding more : Binding) (place : Place) → place_within (length binding) place ≡ true → object_at (binding ++ more) place ≡ object_at binding place
+pub place-kept : (binding more : Binding) (place : Place) → place_within (length binding) place ≡ true → object_at (binding ++ more) place ≡ object_at binding place
 place-kept binding more (Variable number) within = get_or_append_left binding more 0 number (ltb-true number (length binding) within)
 place-kept binding more (Object object) within = refl
 
-places-kept : (binding more : Binding) (places : List Place) → list_all (place_within (length binding)) places ≡ true → objects_at (binding ++ more) places ≡ objects_at binding places
+pub places-kept : (binding more : Binding) (places : List Place) → list_all (place_within (length binding)) places ≡ true → objects_at (binding ++ more) places ≡ objects_at binding places
 places-kept binding more [] within = refl
 places-kept binding more (place ∷ places) within =
     let parts = and_parts (place_within (length binding) place) (list_all (place_within (length binding)) places) within in

@@ -1,5 +1,5 @@
 -- The rows of predicates: at the number of a predicate stands its row, with the number of its arguments.
-use Rattle.std.proofs.Common.{◌≡◌, ℕ, suc, ◌+◌, Bool, true, false, not, ◌&&◌, List, [], ◌∷◌, ◌++◌, map, length, Some, nat_eq, inl, inr, ◌⊎◌, refl, sym, ap, ◌∙◌, subst, arith, append_assoc}
+use Rattle.std.proofs.Common.{◌≡◌, ℕ, suc, ◌+◌, Bool, true, false, not, ◌&&◌, List, [], ◌∷◌, ◌++◌, map, length, nat_eq, inl, inr, ◌⊎◌, refl, sym, ap, ◌∙◌, subst, arith, append_assoc}
 use Rattle.std.specs.Prelude.{slice_get, codes, ◌==◌}
 use Rattle.std.specs.Fmt.{decimal}
 use Rattle.std.specs.List.{list_all, AllByRecursion, IsDistinct}
@@ -18,7 +18,7 @@ use Rattle.type_checker.specs.Mentions.{Use}
 use Rattle.type_checker.specs.Names as names
 use Rattle.type_checker.proofs.Declared.{declared_with_arity, declared_among}
 use Rattle.type_checker.proofs.Once.{predicates_once}
-use Rattle.lists.proofs.Items.{Among, among_map, passing}
+use Rattle.lists.proofs.Items.{Among, among_map, passing, at_seam, within_left}
 use Rattle.normal_task.specs.declared.task.Normal.{Normal}
 use Rattle.normal_task.specs.declared.task.PredicateRow.{PredicateRow}
 use Rattle.normal_task.specs.Lawful.{is_word, has_row, is_predicate, has_arity}
@@ -27,14 +27,10 @@ use Rattle.normal_task.specs.Numbers.{number_in, head_names, predicate_number}
 use Rattle.normal_task.specs.Parts.{Fresh}
 use Rattle.normal_task.proofs.Alls.{all-both, all-images}
 use Rattle.normal_task.proofs.Chosen.{eq-itself}
-use Rattle.normal_task.proofs.FullStatesMatch.{within-left, heads-length, number-below}
+use Rattle.normal_task.proofs.FullStatesMatch.{heads-length, number-below}
 use Rattle.normal_task.proofs.NameWords.{spelled-word, fresh-word, all-tested}
 use Rattle.normal_task.proofs.RisingRanges.{number-first, number-behind}
 use Rattle.normal_task.proofs.Scopes.{length-append}
-
-at-seam : {X : Type 0} (before : List X) (item : X) (behind : List X) → slice_get (before ++ item ∷ behind) (length before) ≡ Some item
-at-seam [] item behind = refl
-at-seam (first ∷ before) item behind = at-seam before item behind
 
 apart-among : (name other : Name) (list : List Name) → AllByRecursion (λ known. is_same name known ≡ false) list → Among other list → is_same name other ≡ false
 apart-among name other [] apart among = absurd among
@@ -83,7 +79,7 @@ module _ (domain : Domain) (problem : Problem) where
       here =
           ap (λ (rows : List PredicateRow). has_row task (is_fresh_row (length first.arguments)) (slice_get rows (base + next))) is
           ∙ ap (λ (n : ℕ). has_row task (is_fresh_row (length first.arguments)) (slice_get (before ++ row ∷ behind) n)) (sym long)
-          ∙ ap (has_row task (is_fresh_row (length first.arguments))) (at-seam before row behind)
+          ∙ ap (has_row task (is_fresh_row (length first.arguments))) (at_seam before row behind)
           ∙ and_from (length first.arguments == length first.arguments) true (eq-itself (length first.arguments)) refl
 
   pub all-rows : HaveRows task base 0 (all_fresh domain problem)
@@ -134,7 +130,7 @@ module _ (domain : Domain) (problem : Problem) where
     pub declared-passes : (test : PredicateRow → Bool) (usage : Use) → Passes test usage → names.has_arity domain.predicates usage ≡ true → is_predicate task test (predicate_number domain usage.name.name) ≡ true
     declared-passes test usage passes declared =
         let known = sym (declared_among domain.predicates usage.name.name) ∙ declared_with_arity domain.predicates usage declared in
-        ap (has_row task test) (within-left (map (declared_row domain problem) domain.predicates) (fresh_predicates domain problem 0 (all_fresh domain problem)) (predicate_number domain usage.name.name) (omega (arith, heads-length domain problem, number-below domain problem usage.name.name known)))
+        ap (has_row task test) (within_left (map (declared_row domain problem) domain.predicates) (fresh_predicates domain problem 0 (all_fresh domain problem)) (predicate_number domain usage.name.name) (omega (arith, heads-length domain problem, number-below domain problem usage.name.name known)))
         ∙ row-among test usage passes domain.predicates (predicates_once domain problem none) declared
 
     same-arity : (arity : ℕ) (head : Head) → length head.variables ≡ arity → has_arity task arity (declared_row domain problem head) ≡ true

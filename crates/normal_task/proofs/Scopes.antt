@@ -3,7 +3,6 @@ use Rattle.std.proofs.Common.{◌≡◌, ℕ, suc, ◌+◌, ◌<◌, ◌≤◌, 
 use Rattle.std.specs.Prelude.{nat_eq, if◌then◌else◌}
 use Rattle.std.specs.List.{list_any, filter}
 use Rattle.std.proofs.lemmas.Bool.{and_parts, and_from, not-true}
-use Rattle.std.proofs.lemmas.Cmp.{nat_list_eq_equiv}
 use Rattle.std.proofs.lemmas.List.{get_or_append_left}
 use Rattle.std.proofs.Math.Seq.{get_or-append_seam}
 pub use Rattle.std.proofs.lemmas.List.{length-append, map-append, append_assoc as append-assoc}
@@ -20,9 +19,7 @@ use Rattle.normal_task.specs.Meaning.{Binding}
 use Rattle.normal_task.proofs.Chosen.{is_choice}
 use Rattle.normal_task.specs.Parts.{Slot, Scope, slot_of, with_slot, scope_inside, slots_for, renumbered, is_listed}
 use Rattle.normal_task.proofs.Chosen.{eq-itself}
-
-pub same-itself : (name : Name) → is_same name name ≡ true
-same-itself name = nat_list_eq_equiv.refl name
+use Rattle.pddl_parser.proofs.Steps.{name_same}
 
 pub length-map : {X Y : Type 0} (f : X → Y) (xs : List X) → length (map f xs) ≡ length xs
 length-map f [] = refl
@@ -200,7 +197,7 @@ module _ (domain : Domain) (problem : Problem) where
       let declared = among_filter (pddl.has_listed_type domain.types variable.types) origin.source (pddl.objects domain problem) origin.among in
       any_passes (is_same object) object (object_names domain problem)
       (subst (λ (n : Name). Among n (object_names domain problem)) origin.gives (among_map (λ (o : Typed). o.name.name) origin.source (pddl.objects domain problem) declared))
-      (same-itself object)
+      (name_same object)
 
   pub range-typed : (variable : Typed) (object : Name) → Among object (pddl.range domain problem variable) → list_any (nat_eq (number object)) (range_of domain problem variable) ≡ true
   range-typed variable object there =
@@ -299,7 +296,7 @@ module _ (domain : Domain) (problem : Problem) where
           is_choice (map (λ (slot : Slot). slot.range) (slots_with a (slots_behind asks slot outer) slot)) (values binding (slots_with a (slots_behind asks slot outer) slot)) ≡ true
       by true asked rest =
           let is = stand slot.variable asked in
-          let there = same-slot is.slot slot (sym is.found ∙ slot-here slot outer slot.variable (same-itself slot.variable)) in
+          let there = same-slot is.slot slot (sym is.found ∙ slot-here slot outer slot.variable (name_same slot.variable)) in
           let one = subst (λ (s : Slot). list_any (nat_eq (get_or binding s.place 0)) s.range ≡ true) there is.typed in
           let ranges = map-append (λ (slot : Slot). slot.range) (slots_behind asks slot outer) (slot ∷ []) in
           let objects = map-append (λ (slot : Slot). get_or binding slot.place 0) (slots_behind asks slot outer) (slot ∷ []) in

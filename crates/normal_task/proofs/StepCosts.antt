@@ -30,8 +30,9 @@ use Rattle.normal_task.proofs.CutNames.{cut_name}
 use Rattle.normal_task.proofs.FullStatesMatch.{planning, num, choices-known}
 use Rattle.normal_task.proofs.MadeInTurn.{maker}
 use Rattle.normal_task.proofs.NameWords.{spelled-word, objects-words}
-use Rattle.normal_task.proofs.Scopes.{is_known, length-map, same-itself}
+use Rattle.normal_task.proofs.Scopes.{is_known, length-map}
 use Rattle.normal_task.proofs.Steps.{split-choice, choice-length, is_normal_step, names-choice, shown-names}
+use Rattle.pddl_parser.proofs.Steps.{name_same}
 
 -- ---- items that their names tell apart
 
@@ -41,7 +42,7 @@ passes_all P name_of (y ∷ xs) x all (inl here) = subst (λ z. P (name_of z)) h
 passes_all P name_of (y ∷ xs) x all (inr there) = passes_all P name_of xs x all.1 there
 
 same_told : (a b : Name) → a ≡ b → is_same a b ≡ false → ⊥
-same_told a b same apart = false≢true (sym apart ∙ subst (λ (n : Name). is_same a n ≡ true) same (same-itself a))
+same_told a b same apart = false≢true (sym apart ∙ subst (λ (n : Name). is_same a n ≡ true) same (name_same a))
 
 one_of_a_name : {X : Type 0} (name_of : X → Name) (xs : List X) (a b : X) → IsDistinct is_same (map name_of xs) → Among a xs → Among b xs → name_of a ≡ name_of b → a ≡ b
 one_of_a_name name_of [] a b distinct in-a in-b same = absurd in-a

@@ -40,7 +40,7 @@ use Rattle.normal_task.proofs.Anys.{any-map, any-same}
 use Rattle.normal_task.proofs.Alls.{all-left, all-right}
 use Rattle.normal_task.proofs.Chosen.{choice-any}
 use Rattle.normal_task.proofs.Mentioned.{is_known_mention, AreKnown}
-use Rattle.normal_task.proofs.Scopes.{append-assoc, length-map, same-itself, choice-append, is_known, inside-stands}
+use Rattle.normal_task.proofs.Scopes.{append-assoc, length-map, choice-append, is_known, inside-stands}
 use Rattle.normal_task.proofs.Fits.{fresh_fit}
 use Rattle.normal_task.proofs.PartsMean.{some_part, part_met, GivenIn, given-left, given-right, all-met-moved, moved-places}
 use Rattle.normal_task.proofs.ConditionsMean.{choices-numbers, ShowsFull, condition-means, named-choice-length}
@@ -49,7 +49,7 @@ use Rattle.normal_task.proofs.EffectsMean.{StandAll, effect-means}
 use Rattle.normal_task.proofs.FullStatesMatch.{declared, planning, num, fresh_all, RuleSound, choices-known, chosen, files-full, full-given, given-of_all}
 use Rattle.normal_task.proofs.Filled.{GoalSound, first_fresh, task-full}
 use Rattle.lists.proofs.Items.{among_contains, contains_among, among_flat_map, flat_map_piece}
-use Rattle.pddl_parser.proofs.Steps.{is_step, in_steps}
+use Rattle.pddl_parser.proofs.Steps.{is_step, in_steps, name_same}
 use Rattle.normal_task.proofs.MadeInTurn.{turn, origin}
 
 -- a choice of two lists of lists falls into a choice of each
@@ -250,7 +250,7 @@ module _ (domain : Domain) (problem : Problem) where
 
   same-names : (names : List Name) → pointwise is_same names names ≡ true
   same-names [] = refl
-  same-names (name ∷ names) = and_from (is_same name name) (pointwise is_same names names) (same-itself name) (same-names names)
+  same-names (name ∷ names) = and_from (is_same name name) (pointwise is_same names names) (name_same name) (same-names names)
 
   module _ (sound : Sound) where
     pub given-actions : (state : State) → GivenIn (declared domain problem) state 0 (fresh_all domain problem) → GivenIn (declared domain problem) state 0 (made_schemas domain problem).fresh

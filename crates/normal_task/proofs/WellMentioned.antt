@@ -26,7 +26,8 @@ use Rattle.normal_task.proofs.KnownEffects.{is_change, AreChanges}
 use Rattle.normal_task.proofs.KnownParts.{all-by_both, HasTables, well_mentioned, AreWell}
 use Rattle.normal_task.proofs.PredicateTable.{declared-arity, declared-changed}
 use Rattle.normal_task.proofs.RisingRanges.{object-is, range-is}
-use Rattle.normal_task.proofs.Scopes.{InScope, inside-in_scope, same-itself}
+use Rattle.normal_task.proofs.Scopes.{InScope, inside-in_scope}
+use Rattle.pddl_parser.proofs.Steps.{name_same}
 
 module _ (domain : Domain) (problem : Problem) where
   abbrev task : Normal
@@ -76,4 +77,4 @@ module _ (domain : Domain) (problem : Problem) where
             (all_passes (λ (name : Named). not (is_derived domain name.name)) named (written_predicates mention) written (basic mention inside))
             (any_passes (λ (a : Action). list_any (λ mention. list_any (λ (other : Named). is_same other.name named.name) (written_predicates mention)) (in_effect a.effect)) action domain.actions among
             (any_passes (λ mention. list_any (λ (other : Named). is_same other.name named.name) (written_predicates mention)) mention (in_effect action.effect) inside
-            (any_passes (λ (other : Named). is_same other.name named.name) named (written_predicates mention) written (same-itself named.name))))
+            (any_passes (λ (other : Named). is_same other.name named.name) named (written_predicates mention) written (name_same named.name))))

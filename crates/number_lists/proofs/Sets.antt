@@ -1,15 +1,9 @@
 -- What a set of lists has with one list more.
 use Rattle.std.proofs.Common.{◌≡◌, ℕ, Bool, true, false, ◌||◌, List, [], ◌∷◌, ◌++◌, refl, ap, ◌∙◌, if◌then◌else◌}
-use Rattle.lists.proofs.Items.{any_append}
+use Rattle.lists.proofs.Items.{any_append, or_last}
 use Rattle.names.specs.Names.{is_same}
 use Rattle.names.proofs.SameNames.{same_name}
 use Rattle.number_lists.specs.Sets.{has_list, with_list}
-
-or_last : (a b : Bool) → (a || (b || false)) ≡ (b || a)
-or_last true true = refl
-or_last true false = refl
-or_last false true = refl
-or_last false false = refl
 
 -- it has this list and those of before
 pub has_with : (lists : List (List ℕ)) (list other : List ℕ) → has_list (with_list lists list) other ≡ (is_same other list || has_list lists other)

@@ -13,13 +13,7 @@ use Rattle.pddl_parser.specs.Words.{Name, is_same}
 use Rattle.pddl_parser.specs.Objects.{root, declares, some_supertype, leads}
 use Rattle.pddl_parser.proofs.TypeChains.{any_chain}
 use Rattle.numbering.specs.Below.{has, is_next, with_next, leads_to, AllLead, Grows, IsClosed, missing}
-
--- two tests are the same where each gives the other
-pub each_gives : (a b : Bool) → (a ≡ true → b ≡ true) → (b ≡ true → a ≡ true) → a ≡ b
-each_gives true true forth back = refl
-each_gives true false forth back = absurd (true≢false (sym (forth refl)))
-each_gives false true forth back = absurd (true≢false (sym (back refl)))
-each_gives false false forth back = refl
+use Rattle.std.specs.Cmp.{both_ways}
 
 is_in : (name : Name) → has (name ∷ []) name ≡ true
 is_in name = or_left (is_same name name) false (same_as name name refl)
@@ -116,7 +110,7 @@ module _ (entries : List Typed) where
   -- from the listed types on
   pub found_below : (listed : List Named) (start found : List Name) → ((name : Name) → has start name ≡ list_any (λ type. is_same name type.name) listed) →
       Grows entries start found → IsClosed entries found → (name : Name) → has found name ≡ leads_to entries listed name
-  found_below listed start found starts grows closed name = each_gives (has found name) (leads_to entries listed name) forth back
+  found_below listed start found starts grows closed name = both_ways (has found name) (leads_to entries listed name) forth back
     where
       start_leads : AllLead entries listed start
       start_leads name there =

@@ -1,8 +1,8 @@
 -- The objects of listed types, by the types that are found below these.
-use Rattle.std.proofs.Common.{◌≡◌, ℕ, ◌<◌, Bool, true, false, ◌||◌, inl, inr, List, [], ◌∷◌, ◌++◌, map, length, get_or, refl, sym, ap, ◌∙◌, subst}
+use Rattle.std.proofs.Common.{◌≡◌, ℕ, ◌<◌, Bool, false, ◌||◌, inl, inr, List, [], ◌∷◌, ◌++◌, map, length, get_or, refl, sym, ap, ◌∙◌, subst}
 use Rattle.std.specs.List.{list_any, filter}
 use Rattle.std.proofs.lemmas.List.{map-append}
-use Rattle.lists.proofs.Items.{Among, among_at, same_any}
+use Rattle.lists.proofs.Items.{Among, among_at, same_any, any_or}
 use Rattle.pddl_parser.specs.declared.types.Domain.{Domain}
 use Rattle.pddl_parser.specs.declared.types.Named.{Named}
 use Rattle.pddl_parser.specs.declared.types.Problem.{Problem}
@@ -13,17 +13,6 @@ use Rattle.numbering.specs.declared.numbering.OfType.{OfType}
 use Rattle.numbering.specs.Below.{has, leads_to, has_type_among, is_any, objects_of_type, range_of_types}
 use Rattle.normal_task.specs.Numbers.{object_number}
 use Rattle.numbering.proofs.Ranges.{ranged}
-
-four : (a b c d : Bool) → ((a || b) || (c || d)) ≡ ((a || c) || (b || d))
-four true b c d = refl
-four false true true d = refl
-four false true false d = refl
-four false false true d = refl
-four false false false d = refl
-
-any_or : {X : Type 0} (one other : X → Bool) (xs : List X) → list_any (λ x. one x || other x) xs ≡ (list_any one xs || list_any other xs)
-any_or one other [] = refl
-any_or one other (x ∷ xs) = ap (λ b. (one x || other x) || b) (any_or one other xs) ∙ four (one x) (other x) (list_any one xs) (list_any other xs)
 
 any_none : {X : Type 0} (xs : List X) → list_any (λ (x : X). false) xs ≡ false
 any_none [] = refl

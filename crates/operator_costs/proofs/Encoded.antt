@@ -4,7 +4,7 @@ use Rattle.std.specs.Prelude.{is_some, unwrap_or}
 use Rattle.std.specs.List.{Contains, flat_map}
 use Rattle.std.proofs.lemmas.Bool.{and_parts}
 use Rattle.std.proofs.lemmas.List.Sorted.{Contains-permutation, IsPermutation-sym}
-use Rattle.lists.proofs.Members.{map_member, member_map, filter_member, flat_map_member, member_flat_map}
+use Rattle.lists.proofs.Members.{map_member, member_map, filter_member, flat_map_member, member_flat_map, zip_source}
 use Rattle.pddl_parser.specs.Words.{Name}
 use Rattle.normal_task.specs.declared.task.GroundAtom.{GroundAtom}
 use Rattle.normal_task.specs.declared.task.Normal.{Normal}
@@ -34,7 +34,7 @@ use Rattle.sas_restriction.specs.Restriction.{new_operator, new_operators}
 use Rattle.task_simplifier.specs.Projection.{projected, nothing_twice, project_to, values_in}
 use Rattle.plan_backmap.specs.Solutions.{NamesTellCosts}
 use Rattle.operator_costs.specs.Laws.{InEncodings, InRestrictions, InProjections}
-use Rattle.operator_costs.proofs.Told.{Tells, IsFrom, tell_too, zip_source}
+use Rattle.operator_costs.proofs.Told.{Tells, IsFrom, tell_too}
 
 abbrev row_name : {A : Type 0} → ActionRow A → Name
 row_name row = row.name

@@ -1,7 +1,6 @@
 -- Where the names of some things tell their costs, those of things that come from them do too.
-use Rattle.std.proofs.Common.{◌≡◌, List, [], ◌∷◌, sym, ◌∙◌, subst, inl, inr}
-use Rattle.std.specs.List.{Contains, AllZip}
-use Rattle.lists.proofs.Members.{no_member, member_first, member_later, member_cases}
+use Rattle.std.proofs.Common.{◌≡◌, List, sym, ◌∙◌}
+use Rattle.std.specs.List.{Contains}
 use Rattle.pddl_parser.specs.Words.{Name}
 
 -- things of one name have one cost
@@ -18,14 +17,3 @@ tell_too name cost name' cost' xs ys from tells y z in-y in-z same =
     let one = from y in-y in
     let other = from z in-z in
     one.3 ∙ tells one.0 other.0 one.1 other.1 (sym one.2 ∙ same ∙ other.2) ∙ sym other.3
-
--- pairs of lists that agree place by place
-pub zip_source : {A B : Type 0} (R : A → B → Type 0) (xs : List A) (ys : List B) (y : B) → AllZip R xs ys → Contains ys y → (x : A) × Contains xs x × R x y
-zip_source R [] [] y all in' = absurd (no_member y in')
-zip_source R [] (z ∷ ys) y all in' = absurd all
-zip_source R (x ∷ xs) [] y all in' = absurd all
-zip_source R (x ∷ xs) (z ∷ ys) y all in' =
-    elim (member_cases z y ys in') [
-      | inl same ↦ (x, member_first x xs, subst (R x) same all.0)
-      | inr later ↦ let r = zip_source R xs ys y all.1 later in (r.0, member_later x r.0 xs r.1, r.2)
-    ]

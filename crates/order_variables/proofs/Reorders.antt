@@ -1,7 +1,7 @@
 -- The counted variables in order are the variables in order.
 use Rattle.std.proofs.Common.{◌≡◌, ℕ, Bool, true, List, map, length, get_or, refl, ap, ◌∙◌}
 use Rattle.std.specs.List.{range_with_len}
-use Rattle.lists.proofs.Items.{contains_among, same_map}
+use Rattle.lists.proofs.Items.{contains_among, same_map, map_back}
 use Rattle.sas_task.specs.declared.parts.Operator.{Operator}
 use Rattle.sas_task.specs.Task.{Task}
 use Rattle.sas_orders.specs.InOrder.{in_order}
@@ -14,7 +14,7 @@ use Rattle.order_variables.specs.declared.tallies.Tally.{Tally}
 use Rattle.order_variables.specs.declared.counted.Counted.{Counted}
 use Rattle.order_variables.specs.Tallies.{AreTallies}
 use Rattle.order_variables.specs.Counted.{no_tally, counted_cmp, counted_by}
-use Rattle.order_variables.proofs.CountedOrder.{order_mapped, map_back}
+use Rattle.order_variables.proofs.CountedOrder.{order_mapped}
 
 abbrev counted_of : ℕ → ℕ → Counted
 counted_of n v = record { operators = n; var = v }

@@ -16,9 +16,9 @@ use Rattle.sas_task.specs.Task.{Task}
 use Rattle.sas_restriction.specs.Choice.{Choice}
 use Rattle.sas_restriction.specs.Listed.{Listed, with_operators}
 use Rattle.sas_restriction.specs.Everything.{all_values}
-use Rattle.sas_restriction.proofs.AllValues.{range_increasing}
 use Rattle.pass_possible.specs.Possible.{Pairs, is_possible}
 use Rattle.pass_possible.specs.Pruned.{is_wanted, possible_alone}
+use Rattle.lists.proofs.Ordered.{range_increasing}
 
 module _ (T : Task) (pairs : Pairs) where
   abbrev pub wanted : ℕ → List ℕ

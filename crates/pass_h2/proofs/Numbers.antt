@@ -16,9 +16,7 @@ use Rattle.sas_task.proofs.States.{is_variable}
 use Rattle.sas_restriction.specs.Choice.{variable_at}
 use Rattle.sas_restriction.proofs.AllValues.{value_member}
 use Rattle.pass_h2.specs.Facts.{facts_at, facts_below, all_facts, starts, is_at, number}
-
-pair_is : (p q : Pair) → p.var ≡ q.var → p.val ≡ q.val → p ≡ q
-pair_is p q a b = let one : pair p.var p.val ≡ pair q.var q.val = ap (λ a. pair a p.val) a ∙ ap (pair q.var) b in one
+use Rattle.sas_task.proofs.RisingPairs.{pair_is}
 
 -- ---- the fact at a place
 

@@ -21,10 +21,11 @@ use Rattle.sas_restriction.specs.Everything.{all_values}
 use Rattle.sas_restriction.specs.MayStand.{MayStand, TellsAll}
 use Rattle.sas_restriction.proofs.Numbers as numbers
 use Rattle.sas_restriction.proofs.Told.{may_where_told}
-use Rattle.sas_restriction.proofs.AllValues.{range_increasing, range_once, value_member, member_value}
+use Rattle.sas_restriction.proofs.AllValues.{range_once, value_member, member_value}
 use Rattle.pass_possible.specs.Possible.{is_plain, Pairs, HasPossible, is_possible}
 use Rattle.pass_possible.specs.Pruned.{is_wanted, possible_alone}
 use Rattle.pass_possible.proofs.Reached.{Plain, plain_parts, plain_values, reachable_pairs, step_possible}
+use Rattle.lists.proofs.Ordered.{range_increasing}
 
 module _ (T : Task) (valid : IsValid T) (is-plain : is_plain T ≡ true) (pairs : Pairs) (closed : HasPossible T pairs) where
   plain : Plain T

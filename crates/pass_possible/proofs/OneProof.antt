@@ -5,12 +5,10 @@ use Rattle.sas_task.specs.Task.{Task}
 use Rattle.pass_possible.specs.Possible.{Pairs, ArePossible}
 use Rattle.pass_possible.specs.Pruned.{pruned, HasPossibleAlone, IsPruned}
 use Rattle.pass_possible.proofs.Pruned.{one_set}
+use Rattle.sas_restriction.proofs.OneProof.{same_prop}
 
 are_prop : (task : Task) (pairs : Pairs) → IsProp (ArePossible task pairs)
 are_prop task pairs = hlevel props
-
-same_prop : (a b : Task) → IsProp (a ≡ b)
-same_prop a b = hlevel props
 
 abbrev made : (task new : Task) (pairs : Pairs) → ArePossible task pairs → new ≡ pruned pairs task → HasPossibleAlone task new
 made task new pairs are same = record { pairs = pairs; are = are; same = same }

@@ -1,5 +1,5 @@
 -- The task without what no pair of facts allows is valid and may stand for the task.
-use Rattle.std.proofs.Common.{◌≡◌, ℕ, Bool, true, false, List, map, filter, refl, sym, ap, ◌∙◌, subst, inl, inr}
+use Rattle.std.proofs.Common.{◌≡◌, ℕ, true, List, map, filter, refl, sym, ap, ◌∙◌, subst, inl, inr}
 use Rattle.std.specs.Prelude.{◌↔◌}
 use Rattle.std.specs.List.{Contains}
 use Rattle.std.proofs.Math.Path.{fun_ext}
@@ -24,6 +24,7 @@ use Rattle.sas_restriction.proofs.Stands.{keeps}
 use Rattle.pass_possible.specs.Possible.{is_plain, Pairs, HasPossible, ArePossible}
 use Rattle.pass_possible.specs.Pruned.{possible_alone, groups_once, pruned, HasPossibleAlone, IsPruned}
 use Rattle.pass_possible.proofs.Alone.{choice, stepping, may}
+use Rattle.std.specs.Cmp.{both_ways}
 
 module _ (T : Task) (valid : IsValid T) (plain : is_plain T ≡ true) (pairs : Pairs) (closed : HasPossible T pairs) where
   abbrev C : Choice
@@ -90,15 +91,8 @@ pruned_costs T T' is o' in' =
         let from = map_member (new_operator groups_once C) (filter (operator_stays C) T.operators) o' (ordered_member operator_cmp (map (new_operator groups_once C) (filter (operator_stays C) T.operators)) o' (subst (λ (t : Task). Contains t.operators o') part.same in')) in
         (from.0, (filter_member (operator_stays C) T.operators from.0 from.1).0, ap (λ (o : Operator). o.name) from.2, ap (λ (o : Operator). o.cost) from.2)
 
--- there is one set of possible pairs
-same_answer : (x y : Bool) → (x ≡ true → y ≡ true) → (y ≡ true → x ≡ true) → x ≡ y
-same_answer true true to from = refl
-same_answer true false to from = sym (to refl)
-same_answer false true to from = from refl
-same_answer false false to from = refl
-
 pub one_set : (task : Task) (a b : Pairs) → ArePossible task a → ArePossible task b → a ≡ b
-one_set task a b are are' = fun_ext (λ p. fun_ext (λ q. same_answer (a p q) (b p q) (are.least b are'.closed p q) (are'.least a are.closed p q)))
+one_set task a b are are' = fun_ext (λ p. fun_ext (λ q. both_ways (a p q) (b p q) (are.least b are'.closed p q) (are'.least a are.closed p q)))
 
 -- so it is one task
 pub pruned_once : (T T' T'' : Task) → IsPruned T T' → IsPruned T T'' → T' ≡ T''

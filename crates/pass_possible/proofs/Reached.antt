@@ -2,7 +2,7 @@
 use Rattle.std.proofs.Common.{◌≡◌, ◌≢◌, ℕ, ◌<◌, Bool, true, false, not, ◌&&◌, ◌||◌, eqb, List, [], ◌∷◌, length, get_or, Option, Some, None, ◌⊎◌, refl, sym, ap, ◌∙◌, subst, inl, inr, arith}
 use Rattle.std.specs.Prelude.{IsNone, is_none}
 use Rattle.std.specs.List.{Contains, All, list_all, list_any}
-use Rattle.std.proofs.lemmas.Bool.{cases_Bool, cases_eq, false≢true, eq-eqb, ne_eqb, eqb-true, and_parts, and_from, or_left, or_right}
+use Rattle.std.proofs.lemmas.Bool.{cases_Bool, cases_eq, false≢true, eq-eqb, ne_eqb, eqb-true, and_parts, and_from, or_left, or_right, not-true}
 use Rattle.std.proofs.lemmas.List.Elements.{All-contains}
 use Rattle.runs.specs.Runs.{Leads}
 use Rattle.lists.proofs.Members.{all_pass, each_passes, all_from_members, any_member, member_any}
@@ -20,6 +20,7 @@ use Rattle.sas_task.proofs.Successors.{FiringOn, firing_or_none}
 use Rattle.sas_task.proofs.States.{is_variable, successor_agrees}
 use Rattle.sas_task.proofs.ValidParts.{operator_law}
 use Rattle.pass_possible.specs.Possible.{is_plain, is_mixed, names, fact_of, Pairs, all_pairs, is_possible, HasPossible, ArePossible}
+use Rattle.sas_task.proofs.RisingPairs.{pair_is}
 
 empty_list : {X : Type 0} (xs : List X) → eqb (length xs) 0 ≡ true → xs ≡ []
 empty_list [] e = refl
@@ -34,10 +35,6 @@ none_passes p xs none =
 
 nobody_passes : {X : Type 0} (p : X → Bool) (xs : List X) → list_any p xs ≡ false → (x : X) → Contains xs x → p x ≡ true → ⊥
 nobody_passes p xs none x in' is = false≢true (sym none ∙ member_any p xs x in' is)
-
-pub not_true : (b : Bool) → not b ≡ true → b ≡ false
-not_true true e = sym e
-not_true false e = refl
 
 -- ---- plain tasks
 
@@ -80,7 +77,7 @@ unmixed o none a b in-a in-b same =
     ]
 
 pub possible_parts : (pairs : Pairs) (o : Operator) → is_possible pairs o ≡ true → (is_mixed o ≡ false) × (all_pairs pairs o.conditions ≡ true)
-possible_parts pairs o is = let parts = and_parts (not (is_mixed o)) (all_pairs pairs o.conditions) is in (not_true (is_mixed o) parts.0, parts.1)
+possible_parts pairs o is = let parts = and_parts (not (is_mixed o)) (all_pairs pairs o.conditions) is in (not-true (is_mixed o) parts.0, parts.1)
 
 -- ---- two values of one variable
 
@@ -112,9 +109,6 @@ pub one_value : (T : Task) (pairs : Pairs) → ArePossible T pairs → (p q : Pa
 one_value T pairs are p q is same = one_of p q (are.least apart_or_one (one_values T) p q is) same
 
 -- ---- reachable states
-
-pair_is : (p q : Pair) → p.var ≡ q.var → p.val ≡ q.val → p ≡ q
-pair_is p q a b = let one : pair p.var p.val ≡ pair q.var q.val = ap (λ a. pair a p.val) a ∙ ap (pair q.var) b in one
 
 module _ (T : Task) (valid : IsValid T) (plain : Plain T) (has : Pairs) (closed : HasPossible T has) where
   abbrev fact : List ℕ → ℕ → Pair

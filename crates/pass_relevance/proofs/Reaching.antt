@@ -3,10 +3,10 @@ use Rattle.std.proofs.Common.{◌≡◌, ◌≢◌, ℕ, ◌+◌, ◌<◌, Bool,
 use Rattle.std.specs.List.{Contains, All, slice_get, flat_map, range_with_len}
 use Rattle.std.specs.Option.{option_map_or}
 use Rattle.std.proofs.lemmas.Bool.{lt-ltb, ltb-true}
-use Rattle.std.proofs.lemmas.Option.{same_Some, slice_get_within, get_or_from_slice_get, slice_get-get_or}
+use Rattle.std.proofs.lemmas.Option.{same_Some, slice_get_within, slice_get-get_or}
 use Rattle.std.proofs.lemmas.List.Elements.{All-contains, Contains-append_left, Contains-append_right, Contains-append_cases}
 use Rattle.std.proofs.lemmas.List.Kept.{IsStrictlyIncreasing-filter}
-use Rattle.lists.proofs.Members.{no_member, member_first, member_later, member_cases, member_map, map_member, member_filter, filter_member, member_flat_map, flat_map_member, member_range, all_from_members}
+use Rattle.lists.proofs.Members.{no_member, member_first, member_later, member_cases, member_map, map_member, member_filter, filter_member, member_flat_map, flat_map_member, member_range, all_from_members, got_member}
 use Rattle.sas_task.specs.declared.parts.Pair.{Pair}
 use Rattle.sas_task.specs.declared.parts.Effect.{Effect}
 use Rattle.sas_task.specs.declared.parts.Operator.{Operator}
@@ -21,9 +21,6 @@ use Rattle.graph_search.specs.declared.search.Arc.{Arc}
 use Rattle.graph_search.specs.Reached.{IsReached, First, Next, AreReached}
 use Rattle.pass_relevance.specs.Influences.{arc, arcs_to, arcs_of_effect, written, disagreements, arcs_of_operator, arcs_at, arcs_of_rule, influences}
 use Rattle.pass_relevance.proofs.Disagreeing.{disagreeing, some_arc}
-
-got_member : {X : Type 0} (xs : List X) (i : ℕ) (x : X) → slice_get xs i ≡ Some x → Contains xs x
-got_member xs i x at = (i, slice_get_within xs i x at, get_or_from_slice_get xs i x x at)
 
 member_got : {X : Type 0} (xs : List X) (x : X) → Contains xs x → (i : ℕ) × (slice_get xs i ≡ Some x)
 member_got xs x in' = (in'.0, slice_get-get_or xs in'.0 x in'.1 ∙ ap Some in'.2)

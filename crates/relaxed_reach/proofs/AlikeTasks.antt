@@ -1,7 +1,7 @@
 -- A ground task has one reached task, which doesn't depend on the order of actions and axioms but for its own. The layers don't depend on that order.
 use Rattle.std.proofs.Common.{◌≡◌, ℕ, Bool, true, ◌&&◌, List, map, filter, length, inl, inr, refl, sym, ap, ◌∙◌, subst}
 use Rattle.std.specs.List.{Contains}
-use Rattle.lists.proofs.Items.{among_contains, contains_among, any_passes, passing}
+use Rattle.lists.proofs.Items.{among_contains, contains_among, any_passes, passing, map_back}
 use Rattle.lists.proofs.Members.{map_member, member_map}
 use Rattle.planning.specs.Task.{State}
 use Rattle.normal_task.specs.declared.task.GroundAtom.{GroundAtom}
@@ -13,7 +13,6 @@ use Rattle.static_matcher.specs.Alike.{AreAlike as AreAlikeGround}
 use Rattle.static_matcher.specs.GroundTask.{ground_task}
 use Rattle.static_matcher.specs.Literals.{EffectRow, ActionRow, AxiomRow}
 use Rattle.static_matcher.specs.Settled.{Settling, is_open, kept_action, kept_actions, kept_axiom, kept_axioms, kept_goal}
-use Rattle.static_matcher.proofs.Atoms.{same_atom, atom_same}
 use Rattle.lists.specs.SameMembers.{SameMembers}
 use Rattle.lists.proofs.SameMembers.{turned_round, mapped, filtered}
 use Rattle.relaxed_reach.specs.declared.types.Fact.{Fact}
@@ -26,8 +25,8 @@ use Rattle.relaxed_reach.specs.Layers.{RestsOn, AreLayers}
 use Rattle.relaxed_reach.specs.Reachable.{IsClosed, is_among, AreReachable, number_of, numbering, fact_of, IsReachedBy, IsReachedTask}
 use Rattle.relaxed_reach.specs.ReachedTask.{is_derived, effect_row, action_row, axiom_row}
 use Rattle.relaxed_reach.proofs.OneLayers.{one_layers}
-use Rattle.relaxed_reach.proofs.OrderedFacts.{map_back}
 use Rattle.relaxed_reach.proofs.SameFacts.{same_facts}
+use Rattle.normal_task.proofs.OnceEach.{same_atom, atom_same}
 
 -- where the items are known by what they are mapped to
 module _ {X Y : Type 0} (f : X → Y) (g : Y → X) (back : (x : X) → g (f x) ≡ x) where

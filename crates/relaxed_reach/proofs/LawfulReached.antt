@@ -13,7 +13,7 @@ use Rattle.static_matcher.specs.declared.types.GroundAction.{GroundAction}
 use Rattle.static_matcher.specs.declared.types.GroundAxiom.{GroundAxiom}
 use Rattle.static_matcher.specs.declared.types.GroundEffect.{GroundEffect}
 use Rattle.static_matcher.specs.GroundTask.{is_derived, effect_row, action_row, axiom_row, ground_task}
-use Rattle.static_matcher.specs.Lawful.{is_name, is_object, is_predicate, is_atom, is_basic_atom, is_derived_atom, is_condition, is_effect, is_cost, is_action, is_axiom, IsLawful as IsLawfulGround}
+use Rattle.static_matcher.specs.Lawful.{is_object, is_predicate, is_atom, is_basic_atom, is_derived_atom, is_condition, is_effect, is_cost, is_action, is_axiom, IsLawful as IsLawfulGround}
 use Rattle.static_matcher.specs.Literals.{EffectRow, ActionRow, AxiomRow}
 use Rattle.static_matcher.proofs.AtomKinds.{HasKinds}
 use Rattle.static_matcher.proofs.LawfulRanks.{lawful_ranks}
@@ -23,6 +23,7 @@ use Rattle.relaxed_reach.specs.Lawful.{IsLawful}
 use Rattle.relaxed_reach.proofs.LawfulTask.{IsPaid, lawful_if}
 use Rattle.relaxed_reach.proofs.Sets.{from_in}
 use Rattle.relaxed_reach.proofs.ShownNames.{shown_is_name}
+use Rattle.lists.specs.Names.{is_name}
 
 -- the row of a predicate that passes a test
 record Row (predicates : List PredicateRow) (test : PredicateRow → Bool) (predicate : ℕ) : Type 0 where

@@ -16,16 +16,16 @@ use Rattle.static_matcher.specs.GroundTask.{ground_task}
 use Rattle.static_matcher.specs.Literals.{AxiomRow, LiteralTask, holds, gives, meaning}
 use Rattle.static_matcher.specs.Ranked.{IsRanked}
 use Rattle.static_matcher.specs.Settled.{is_open, IsSettled, Shows}
-use Rattle.lists.proofs.Items.{Among, contains_among, all_passes, each_passes, passing, none_passes}
+use Rattle.lists.proofs.Items.{Among, contains_among, all_passes, each_passes, passing, none_passes, map_back}
 use Rattle.static_matcher.proofs.Settling.{Names, Stays}
 use Rattle.static_matcher.proofs.Settling as settling
 use Rattle.relaxed_reach.specs.declared.types.Fact.{Fact}
 use Rattle.relaxed_reach.specs.declared.types.Reached.{Reached}
 use Rattle.relaxed_reach.specs.ReachedTask.{reached_task, atoms_of}
 use Rattle.relaxed_reach.specs.Reachable.{IsClosed, is_among, number_of, numbering, fact_of, IsReachedTask}
-use Rattle.static_matcher.proofs.Atoms.{same_atom, atom_same}
-use Rattle.relaxed_reach.proofs.OrderedFacts.{facts_apart, map_back}
+use Rattle.relaxed_reach.proofs.OrderedFacts.{facts_apart}
 use Rattle.relaxed_reach.proofs.Numbers as numbers
+use Rattle.normal_task.proofs.OnceEach.{same_atom, atom_same}
 
 -- ---- what a closed set holds
 

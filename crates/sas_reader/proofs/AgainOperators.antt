@@ -13,7 +13,7 @@ use Rattle.sas_task.specs.declared.parts.Operator.{Operator}
 use Rattle.sas_task.specs.Output.{Line, numeral, spaced, counted, pair_words, pair_lines, is_changed, prevail, required_value, effect_line, operator_lines, value_in}
 use Rattle.sas_task.specs.Output as output
 use Rattle.sas_task.specs.Task.{Task}
-use Rattle.sas_task.specs.Valid.{IsName, IsValue, IsFact, AreConditions, IsValidEffect, layer_of}
+use Rattle.sas_task.specs.Valid.{IsValue, IsFact, AreConditions, IsValidEffect, layer_of}
 use Rattle.sas_reader.specs.Contexts.{is_value}
 use Rattle.sas_reader.specs.Forms.{◌>>=◌, ◌>>◌, Form, passing, given, fixed, line, next_line, listed}
 use Rattle.sas_reader.specs.Numbers.{number, number_or_none, number_line}
@@ -30,6 +30,10 @@ use Rattle.sas_task.proofs.States.{is_variable}
 use Rattle.sas_reader.proofs.InTurn.{in_turn, in_turn_rises, in_turn_all, same_in_turn, pairs_in_turn, filter_in_turn}
 use Rattle.sas_reader.proofs.Tabled.{any_found}
 use Rattle.sas_reader.proofs.ToldEffects.{told_words, told_lines, pair_value, told_value}
+use Rattle.std.specs.Cmp.{nat_eq_equiv}
+use Rattle.std.specs.Cmp.Lexicographic.{options_equiv}
+use Rattle.lists.specs.Names.{IsName}
+use Rattle.lists.proofs.Names.{name_parts}
 
 abbrev told_of : Operator → List Told
 told_of o = map (λ e. (e, required_value o e.var)) o.effects
@@ -130,10 +134,6 @@ module _ (task : Task) (o : Operator) (are : AreConditions task o.conditions) wh
       some true v val is = is
       some false v val is = absurd cc
 
-same_option : (a : Option ℕ) → option_eq nat_eq a a ≡ true
-same_option None = refl
-same_option (Some x) = eq-eqb x x refl
-
 none_no_space : (r : Option ℕ) → NoSpace (output.number_or_none r)
 none_no_space None = All-cons (λ b. eqb b 32 ≡ false) 45 (49 ∷ []) refl (All-cons (λ b. eqb b 32 ≡ false) 49 [] refl (All-nil (λ b. eqb b 32 ≡ false)))
 none_no_space (Some n) = numeral_no_space n
@@ -176,7 +176,7 @@ told_alike o before t are is = from (told_before before t.0.var) refl
     from None at = refl
     from (Some r) at =
         let same : r ≡ t.1 = told_value (λ s. s.1 ≡ required_value o s.0.var) (λ q. q ≡ required_value o t.0.var) before t.0.var r are (λ s told on. told ∙ ap (required_value o) on) at ∙ sym is in
-        ap (λ q. option_eq nat_eq q t.1) same ∙ same_option t.1
+        ap (λ q. option_eq nat_eq q t.1) same ∙ (options_equiv nat_eq_equiv).refl t.1
 
 front_all : {X : Type 0} (P : X → Type 0) (before after : List X) → All P (before ++ after) → All P before
 front_all P [] after are = All-nil P
@@ -241,7 +241,7 @@ effects_of task o are valid short =
     })
 
 less_is : (n : Line) → IsName n → less_space n ≡ n
-less_is n is = ap (λ b. cond b (take (length n - 1) n) n) (ne_eqb (get_or n (length n - 1) 0) 32 is.last)
+less_is n is = ap (λ b. cond b (take (length n - 1) n) n) (ne_eqb (get_or n (length n - 1) 0) 32 (name_parts n is).last)
 
 again_name : (n : Line) → IsName n → Again name n (n ∷ [])
 unfolding name

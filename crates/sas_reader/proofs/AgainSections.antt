@@ -7,7 +7,7 @@ use Rattle.std.proofs.lemmas.List.FromFn.{length-enumerate_from}
 use Rattle.sas_task.specs.declared.parts.Variable.{Variable}
 use Rattle.sas_task.specs.Output.{Line, numeral, number_or_none, counted, version_lines, metric_lines, variable_lines, state_lines}
 use Rattle.sas_task.specs.Task.{Task}
-use Rattle.sas_task.specs.Valid.{IsName, IsValue, IsValidVariable}
+use Rattle.sas_task.specs.Valid.{IsValue, IsValidVariable}
 use Rattle.sas_reader.specs.Contexts.{is_value}
 use Rattle.sas_reader.specs.Forms.{◌>>=◌, ◌>>◌, Form, passing, given, fixed, next_line, listed}
 use Rattle.sas_reader.specs.Numbers.{number_line, at_least, number_or_none_line}
@@ -15,6 +15,8 @@ use Rattle.sas_reader.specs.Sections.{version, metric, variable_name, fact_name,
 use Rattle.sas_reader.specs.Words.{is_same, is_name}
 use Rattle.sas_reader.proofs.Again.{Again, again_then, again_next, again_given, again_passing, again_line, again_fixed, again_number, again_at_least, again_number_or_none, lines_from, again_listed}
 use Rattle.sas_reader.proofs.AgainPairs.{Fits, value_fits, in_all, at_place, same_lines}
+use Rattle.lists.specs.Names.{IsName}
+use Rattle.lists.proofs.Names.{name_parts}
 
 pub again_version : Again version tt version_lines
 unfolding version
@@ -44,7 +46,8 @@ again_metric m =
 
 pub name_passes : (bytes : Line) → IsName bytes → is_name bytes ≡ true
 name_passes bytes is =
-    (λ i. (lt-ltb 0 (length bytes) is.written i && not (ne_eqb (get_or bytes 0 0) 32 is.first i)) && not (ne_eqb (get_or bytes (length bytes - 1) 0) 32 is.last i))
+    let parts = name_parts bytes is in
+    (λ i. (lt-ltb 0 (length bytes) parts.written i && not (ne_eqb (get_or bytes 0 0) 32 parts.first i)) && not (ne_eqb (get_or bytes (length bytes - 1) 0) 32 parts.last i))
 
 pub again_fact_name : (name : Line) → IsName name → Again fact_name name (name ∷ [])
 unfolding fact_name

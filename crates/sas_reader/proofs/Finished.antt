@@ -14,7 +14,7 @@ use Rattle.sas_task.specs.declared.parts.Operator.{Operator}
 use Rattle.sas_task.specs.declared.parts.Rule.{Rule}
 use Rattle.sas_task.specs.Output.{Line, numeral, counted, pair_lines, effect_line, operator_lines, rule_line, rule_lines}
 use Rattle.sas_task.specs.Task.{Task}
-use Rattle.sas_task.specs.Valid.{IsName, IsValue, AreConditions, IsValidEffect, IsValidRule, IsBelow, SetAlike, layer_of, default_of}
+use Rattle.sas_task.specs.Valid.{IsValue, AreConditions, IsValidEffect, IsValidRule, IsBelow, SetAlike, layer_of, default_of}
 use Rattle.sas_reader.specs.Contexts.{so_far, is_below}
 use Rattle.sas_reader.specs.Forms.{◌>>=◌, ◌>>◌, Unread, Form, line, listed, fixed, passing, given}
 use Rattle.sas_reader.specs.Numbers.{number, number_line}
@@ -29,6 +29,7 @@ use Rattle.sas_reader.proofs.Conditions.{value_read, conditions_read, more_lines
 use Rattle.sas_reader.proofs.Sectioned.{around}
 use Rattle.sas_reader.proofs.Tabled.{found_push}
 use Rattle.sas_reader.proofs.ToldEffects.{IsTold, effects_read, name_read, cost_read, wanted_valid, prevail_is, lines_are}
+use Rattle.lists.specs.Names.{IsName}
 
 pub record IsGood (metric : Bool) (task : Task) (o : Operator) : Type 0 where
   pub name : IsName o.name

@@ -9,7 +9,6 @@ use Rattle.std.proofs.lemmas.List.Elements.{All-nil, All-cons, All-head, All-tai
 use Rattle.std.proofs.lemmas.List.Splits.{slice_split-cons_yes, slice_split-cons_no}
 use Rattle.sas_task.specs.Output.{Line, numeral}
 use Rattle.sas_task.specs.Output as output
-use Rattle.sas_task.specs.Valid.{IsName}
 use Rattle.sas_reader.specs.Words.{is_same, is_name, less_space}
 use Rattle.sas_reader.specs.Words as words
 use Rattle.sas_reader.specs.Forms.{Unread, Form, ◌>>=◌, ◌>>◌, pieces_of, passing, met, next_line, word, fixed, begin_words, line, end_words, given, with_words}
@@ -17,6 +16,8 @@ use Rattle.sas_reader.specs.Numbers.{number_line, at_least, number_or_none_line,
 use Rattle.sas_reader.proofs.Cuts.{some_piece}
 use Rattle.sas_reader.proofs.Kept.{parts, passed, was_met, TakesLines, TakesWords, line_taken, word_taken, words_ended, read_same}
 use Rattle.sas_reader.proofs.Numerals.{number_numeral}
+use Rattle.lists.specs.Names.{IsName}
+use Rattle.lists.proofs.Names.{name_from}
 
 pub same_bytes : (a b : List ℕ) → is_same a b ≡ true → a ≡ b
 same_bytes [] [] same = refl
@@ -184,7 +185,7 @@ pub name_is : (bytes : Line) → is_name bytes ≡ true → NoFeed bytes → IsN
 name_is bytes is clean =
     let parts = and_parts (ltb 0 (length bytes) && not (eqb (get_or bytes 0 0) 32)) (not (eqb (get_or bytes (length bytes - 1) 0) 32)) is in
     let front = and_parts (ltb 0 (length bytes)) (not (eqb (get_or bytes 0 0) 32)) parts.0 in
-    record { written = ltb-true 0 (length bytes) front.0; one_line = clean; first = differs (get_or bytes 0 0) front.1; last = differs (get_or bytes (length bytes - 1) 0) parts.1 }
+    name_from bytes record { written = ltb-true 0 (length bytes) front.0; one_line = clean; first = differs (get_or bytes 0 0) front.1; last = differs (get_or bytes (length bytes - 1) 0) parts.1 }
   where
     differs : (b : ℕ) → not (eqb b 32) ≡ true → b ≢ 32
     differs b other e = let yes : not (eqb b 32) ≡ false = ap not (eq-eqb b 32 e) in let both : true ≡ false = sym other ∙ yes in absurd cc

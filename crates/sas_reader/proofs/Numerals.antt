@@ -7,7 +7,8 @@ use Rattle.std.proofs.lemmas.Int.Digits.{digits_of_step, number_more, number_dig
 use Rattle.std.proofs.lemmas.List.{take_more, take_all, get_or-take, get_or_past, length-take, length-map}
 use Rattle.std.proofs.lemmas.Nat.{div-mul-add, div-add-mod'}
 use Rattle.sas_task.specs.Output.{Line, numeral}
-use Rattle.sas_reader.specs.Words.{is_digit, is_decimal, value_after, value_of, below_limit, number}
+use Rattle.lists.specs.Digits.{is_digit, value_after, value_of}
+use Rattle.sas_reader.specs.Words.{is_decimal, below_limit, number}
 
 numeral_is : (n : ℕ) → 0 < n → numeral n ≡ map (λ digit. 48 + digit) (digits_of 10 n)
 numeral_is zero above = absurd (omega arith)

@@ -11,7 +11,7 @@ use Rattle.sas_task.specs.declared.parts.Variable.{Variable}
 use Rattle.sas_task.specs.declared.parts.Group.{Group}
 use Rattle.sas_task.specs.Output.{Line, numeral, number_or_none, counted, pair_lines, version_lines, metric_lines, variable_lines, group_lines, state_lines, goal_lines}
 use Rattle.sas_task.specs.Task.{Task}
-use Rattle.sas_task.specs.Valid.{IsName, IsValue, AreConditions, IsValidVariable, IsValidGroup}
+use Rattle.sas_task.specs.Valid.{IsValue, AreConditions, IsValidVariable, IsValidGroup}
 use Rattle.sas_reader.specs.Contexts.{is_value}
 use Rattle.sas_reader.specs.Forms.{◌>>=◌, ◌>>◌, Unread, Form, line, listed, fixed, passing, given, next_line}
 use Rattle.sas_reader.specs.Numbers.{number_line, at_least, number_or_none_line}
@@ -21,6 +21,7 @@ use Rattle.sas_reader.specs.Words.{is_same, is_name}
 use Rattle.sas_reader.proofs.Kept.{parts, passed, read_same, kept, TakesLines, then_lines, line_taken}
 use Rattle.sas_reader.proofs.Lines.{IsClean, clean_after, clean_line, same_bytes, tested_line, fixed_is, number_line_is, at_least_is, number_or_none_line_is, name_is}
 use Rattle.sas_reader.proofs.Conditions.{value_holds, conditions_read, facts_read, more_lines}
+use Rattle.lists.specs.Names.{IsName}
 
 -- two fixed lines around others
 pub around : (first last : Line) (lines : List Line) (a b c d : Unread) → TakesLines a (first ∷ []) b → TakesLines b lines c → TakesLines c (last ∷ []) d → TakesLines a ((first ∷ lines) ++ last ∷ []) d

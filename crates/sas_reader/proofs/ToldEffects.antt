@@ -3,7 +3,7 @@ use Rattle.std.proofs.Common.{◌≡◌, ◌≢◌, ℕ, zero, suc, ◌+◌, ◌
 use Rattle.std.specs.Prelude.{filter, IsNone, IfSome, is_some, nat_eq, nat_le}
 use Rattle.std.specs.List.{All, find, list_any, flat_map}
 use Rattle.std.specs.Option.{option_map, option_map_or, option_eq}
-use Rattle.std.proofs.lemmas.Bool.{cases_Bool, cases_eq, eq-eqb, ne_eqb, eqb-true, leb-true, and_parts, false≢true}
+use Rattle.std.proofs.lemmas.Bool.{cases_Bool, cases_eq, eq-eqb, ne_eqb, eqb-true, leb-true, and_parts, false≢true, not-true}
 use Rattle.std.proofs.lemmas.Option.{same_Some}
 use Rattle.std.proofs.lemmas.List.Folds.{flat_map-map}
 use Rattle.std.proofs.lemmas.List.Elements.{All-nil, All-cons, All-head, All-tail, All-push, All-weaker}
@@ -13,7 +13,7 @@ use Rattle.sas_task.specs.declared.parts.Operator.{Operator}
 use Rattle.sas_task.specs.Output.{Line, numeral, spaced, pair_words, effect_line, value_in}
 use Rattle.sas_task.specs.Output as output
 use Rattle.sas_task.specs.Task.{Task}
-use Rattle.sas_task.specs.Valid.{IsName, IsValue, IsFact, AreConditions, IsValidEffect, layer_of}
+use Rattle.sas_task.specs.Valid.{IsValue, IsFact, AreConditions, IsValidEffect, layer_of}
 use Rattle.sas_reader.specs.Contexts.{is_value}
 use Rattle.sas_reader.specs.Forms.{◌>>=◌, Unread, line, listed, passing}
 use Rattle.sas_reader.specs.Numbers.{number, number_or_none, number_line}
@@ -29,6 +29,8 @@ use Rattle.sas_reader.proofs.Conditions.{value_holds, value_read, effect_conditi
 use Rattle.sas_reader.proofs.Tabled.{found_push, any_found}
 use Rattle.sas_task.proofs.States.{is_variable}
 use Rattle.sas_reader.proofs.InTurn.{in_turn_rises, in_turn_all, in_turn_value, same_in_turn, pairs_in_turn, filter_in_turn}
+use Rattle.lists.proofs.Exact.{same_option}
+use Rattle.lists.specs.Names.{IsName}
 
 abbrev pub told_words : Told → List Line
 told_words t = numeral (length t.0.conditions) ∷ (flat_map pair_words t.0.conditions ++ numeral t.0.var ∷ output.number_or_none t.1 ∷ numeral t.0.after ∷ [])
@@ -94,16 +96,6 @@ pub record AreTold (task : Task) (pairs : List Pair) (start : Unread) (told : Li
   pub first : All (IsFirst told) told
   pub taken : TakesLines start (flat_map told_lines told) now
 
-not_any : (b : Bool) → not b ≡ true → b ≡ false
-not_any true is = absurd cc
-not_any false is = refl
-
-same_option : (a b : Option ℕ) → option_eq nat_eq a b ≡ true → a ≡ b
-same_option None None is = refl
-same_option None (Some y) is = absurd cc
-same_option (Some x) None is = absurd cc
-same_option (Some x) (Some y) is = ap Some (eqb-true x y is)
-
 first_here : (before : Option (Option ℕ)) (b : Bool) (value : Option ℕ) → b ≡ true → option_map_or (λ r. option_eq nat_eq r value) before true ≡ true → first_of before (cond b (Some value) None) ≡ Some value
 first_here None b value here is = ap (λ t. cond t (Some value) None) here
 first_here (Some r) b value here is = ap Some (same_option r value is)
@@ -125,7 +117,7 @@ effects_read task pairs count now told after e =
     let lawful = and_parts (not (list_any (λ (p : Pair). eqb p.var t.0.var) pairs)) (option_map_or (λ r. option_eq nat_eq r t.1) (told_before before t.0.var) true) r.1.1 in
     record {
       are = All-push (IsTold task) before t holds.are r.1.0;
-      apart = All-push (IsApart pairs) before t holds.apart (not_any _ lawful.0);
+      apart = All-push (IsApart pairs) before t holds.apart (not-true _ lawful.0);
       first = first_more before t lawful.1 holds.first;
       taken = more_lines told_lines now at later before t holds.taken r.0;
     })

@@ -13,9 +13,11 @@ use Rattle.sas_task.specs.declared.parts.Operator.{Operator}
 use Rattle.sas_task.specs.declared.parts.Rule.{Rule}
 use Rattle.sas_task.specs.Output.{Line, numeral, number_or_none, spaced, counted, block, bytes_of, pair_words, pair_lines, version_lines, metric_lines, variable_lines, group_lines, state_lines, goal_lines, prevail, required_value, effect_line, operator_lines, rule_line, rule_lines, lines}
 use Rattle.sas_task.specs.Task.{Task}
-use Rattle.sas_task.specs.Valid.{IsName, IsValid, IsValidVariable, IsValidOperator}
+use Rattle.sas_task.specs.Valid.{IsValid, IsValidVariable, IsValidOperator}
 use Rattle.sas_reader.specs.Forms.{pieces_of}
 use Rattle.sas_reader.proofs.Lines.{NoFeed}
+use Rattle.lists.specs.Names.{IsName}
+use Rattle.lists.proofs.Names.{name_parts}
 
 letters : (bytes : List ℕ) → list_all (λ b. not (eqb b 10)) bytes ≡ true → NoFeed bytes
 letters [] pass = All-nil (λ b. b ≢ 10)
@@ -67,7 +69,7 @@ variable_clean : (v : ℕ × Variable) → IsValidVariable v.1 → All NoFeed (v
 variable_clean v valid =
     in_block (codes "variable") ((codes "var" ++ numeral v.0) ∷ number_or_none v.1.layer ∷ counted (λ fact. fact ∷ []) v.1.facts) (letters (codes "begin_variable") refl) (letters (codes "end_variable") refl)
     (All-cons NoFeed (codes "var" ++ numeral v.0) (number_or_none v.1.layer ∷ counted (λ fact. fact ∷ []) v.1.facts) (All-append (λ b. b ≢ 10) (codes "var") (numeral v.0) (letters (codes "var") refl) (number_clean v.0))
-    (All-cons NoFeed (number_or_none v.1.layer) (counted (λ fact. fact ∷ []) v.1.facts) (none_clean v.1.layer) (counted_clean IsName (λ fact. fact ∷ []) v.1.facts (λ fact is. one fact is.one_line) valid.names)))
+    (All-cons NoFeed (number_or_none v.1.layer) (counted (λ fact. fact ∷ []) v.1.facts) (none_clean v.1.layer) (counted_clean IsName (λ fact. fact ∷ []) v.1.facts (λ fact is. one fact (name_parts fact is).one_line) valid.names)))
 
 numbered_all : (n : ℕ) (vs : List Variable) → All IsValidVariable vs → All (λ (v : ℕ × Variable). IsValidVariable v.1) (enumerate_from n vs)
 numbered_all n [] are = All-nil (λ (v : ℕ × Variable). IsValidVariable v.1)
@@ -112,7 +114,7 @@ lines_clean t valid =
     (counted_clean (λ _. Unit {0}) group_lines t.groups (λ g is. in_block (codes "mutex_group") (counted pair_lines g.facts) (letters (codes "begin_mutex_group") refl) (letters (codes "end_mutex_group") refl) (pairs_clean g.facts)) (any t.groups)))
     (in_block (codes "state") (map numeral t.state) (letters (codes "begin_state") refl) (letters (codes "end_state") refl) (All-map NoFeed numeral t.state (λ k d within. number_clean (get_or t.state k d)))))
     (in_block (codes "goal") (counted pair_lines t.goal) (letters (codes "begin_goal") refl) (letters (codes "end_goal") refl) (pairs_clean t.goal)))
-    (counted_clean (IsValidOperator t) operator_lines t.operators (λ o good. operator_clean o good.name.one_line) valid.operators))
+    (counted_clean (IsValidOperator t) operator_lines t.operators (λ o good. operator_clean o (name_parts o.name good.name).one_line) valid.operators))
     (counted_clean (λ _. Unit {0}) rule_lines t.rules (λ r is. rule_clean r) (any t.rules))
 
 -- lines without a line feed are the pieces of their text, and then nothing

@@ -1,28 +1,18 @@
 -- Numbers and names as they are written.
-use Rattle.std.specs.Prelude.{ℕ, ◌+◌, ◌-◌, ◌*◌, ◌^◌, Bool, not, ◌&&◌, ◌||◌, ◌==◌, nat_le, nat_lt, nat_eq, [], ◌∷◌, length, take, codes, Option, Some, None, slice_index, if◌then◌else◌}
+use Rattle.std.specs.Prelude.{ℕ, ◌-◌, ◌^◌, Bool, not, ◌&&◌, ◌||◌, ◌==◌, nat_lt, nat_eq, length, take, codes, Option, Some, None, slice_index, if◌then◌else◌}
 use Rattle.std.specs.List.{list_all}
 use Rattle.std.specs.Cmp.Lexicographic.{pointwise}
 use Rattle.std.specs.Option.{option_map}
 use Rattle.sas_task.specs.Output.{Line}
+pub use Rattle.lists.specs.Digits.{is_digit, value_of}
 
 -- these bytes are those
 abbrev pub is_same : Line → Line → Bool
 is_same = pointwise nat_eq
 
-abbrev pub is_digit : ℕ → Bool
-is_digit byte = nat_le 48 byte && nat_le byte 57
-
 -- digits, at least one, and the first isn't 0 where there are more
 abbrev pub is_decimal : Line → Bool
 is_decimal word = nat_lt 0 (length word) && ((length word == 1) || not (slice_index word 0 == 48)) && list_all is_digit word
-
-abbrev pub value_after : ℕ → Line → ℕ
-value_after number [] = number
-value_after number (digit ∷ digits) = value_after (number * 10 + (digit - 48)) digits
-
--- the number that decimal digits write
-abbrev pub value_of : Line → ℕ
-value_of digits = value_after 0 digits
 
 -- a number is at most 18,446,744,073,709,551,615
 abbrev pub below_limit : ℕ → Option ℕ

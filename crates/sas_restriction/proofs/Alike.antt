@@ -26,8 +26,9 @@ use Rattle.sas_orders.proofs.Sorted.{sorted_member, member_sorted, sorted_ordere
 use Rattle.sas_restriction.specs.declared.chosen.Once.{Once}
 use Rattle.sas_restriction.specs.Choice.{Choice, is_shown, all_left, new_var, new_val, new_pairs, new_group, effect_stays, new_effect, operator_stays, rule_stays, new_rule}
 use Rattle.sas_restriction.specs.Restriction.{new_operator, new_groups, new_operators, new_rules, restriction}
-use Rattle.sas_restriction.proofs.Exact.{then_equal, nat_exact, group_exact, effect_exact, operator_exact, rule_exact}
+use Rattle.sas_restriction.proofs.Exact.{group_exact, effect_exact, operator_exact, rule_exact}
 use Rattle.sas_restriction.proofs.Numbers.{any_member, place_of}
+use Rattle.lists.proofs.Exact.{then_equal, nat_exact}
 
 -- ---- lists in order
 

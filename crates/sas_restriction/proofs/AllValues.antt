@@ -22,13 +22,7 @@ use Rattle.sas_restriction.specs.Listed.{chosen}
 use Rattle.sas_restriction.specs.Everything.{all_values, everything_of, everything}
 use Rattle.sas_restriction.proofs.Numbers.{member_any}
 use Rattle.sas_restriction.proofs.Rising.{pass_before}
-
-pub range_increasing : (n : ℕ) → IsStrictlyIncreasing (range_with_len 0 n)
-range_increasing n k below =
-    let in-range : k + 1 < n = subst (λ m. k + 1 < m) (length-range_with_len 0 n) below in
-    let at = get_or-range_with_len 0 n k 0 (omega arith) in
-    let next = get_or-range_with_len 0 n (k + 1) 0 in-range in
-    omega (arith, at, next)
+use Rattle.lists.proofs.Ordered.{range_increasing}
 
 pub range_once : (n : ℕ) → AllPairs (λ v w. v ≢ w) (range_with_len 0 n)
 range_once n i j d lt below =

@@ -17,9 +17,10 @@ use Rattle.sas_restriction.specs.Choice.{Choice, IsChoice, is_shown, all_left, n
 use Rattle.sas_restriction.specs.declared.chosen.Once.{Once}
 use Rattle.sas_restriction.specs.Restriction.{IsNewOperator, Restricts, new_operator, new_groups, new_operators, new_rules, restriction}
 use Rattle.sas_orders.proofs.Sorted.{arranged_member, member_arranged}
-use Rattle.sas_restriction.proofs.Exact.{then_equal, nat_exact, effect_exact, operator_exact, rule_exact}
+use Rattle.sas_restriction.proofs.Exact.{effect_exact, operator_exact, rule_exact}
 use Rattle.sas_restriction.proofs.Shown.{one_old}
 use Rattle.sas_restriction.proofs.Valid.{one_after}
+use Rattle.lists.proofs.Exact.{then_equal, nat_exact}
 
 pub new_operator_is : (once : Once) (C : Choice) (o : Operator) → IsNewOperator C o (new_operator once C o)
 new_operator_is once C o =

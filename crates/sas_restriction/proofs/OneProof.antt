@@ -9,7 +9,8 @@ use Rattle.sas_restriction.proofs.Relevance.{one_list}
 are_prop : (task : Task) (vars : List ℕ) → IsProp (AreRelevant task vars)
 are_prop task vars = hlevel props
 
-same_prop : (a b : Task) → IsProp (a ≡ b)
+-- that two tasks are equal has at most one proof
+pub same_prop : (a b : Task) → IsProp (a ≡ b)
 same_prop a b = hlevel props
 
 abbrev made : (task new : Task) (vars : List ℕ) → AreRelevant task vars → new ≡ reduced vars task → HasRelevantAlone task new

@@ -21,8 +21,9 @@ use Rattle.sas_orders.specs.InOrder.{sorted}
 use Rattle.sas_restriction.specs.Choice.{Choice, IsChoice, is_shown, is_left, all_left, new_val, new_pair, new_pairs, variable_at, new_variable, fact_stays, new_group, effect_stays, new_effect, rule_stays, new_rule}
 use Rattle.sas_restriction.specs.Everything.{all_values, everything}
 use Rattle.sas_restriction.specs.Reordered.{place_in, renumbered_pair, renumbered_pairs, renumbered_group, renumbered_effect, renumbered_rule}
-use Rattle.sas_restriction.proofs.AllValues.{range_increasing, value_member, member_value, value_left, facts_left, value_stays, all_closed}
+use Rattle.sas_restriction.proofs.AllValues.{value_member, member_value, value_left, facts_left, value_stays, all_closed}
 use Rattle.sas_restriction.proofs.Closed.{rule_has}
+use Rattle.lists.proofs.Ordered.{range_increasing}
 
 -- tests that agree at each item let the same items pass
 pub same_filter : {X : Type 0} (p q : X → Bool) (xs : List X) → ((x : X) → Contains xs x → p x ≡ q x) → filter p xs ≡ filter q xs

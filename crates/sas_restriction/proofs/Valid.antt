@@ -1,17 +1,17 @@
 -- A restriction of a valid task is valid.
-use Rattle.std.proofs.Common.{◌≡◌, ◌≢◌, ℕ, ◌+◌, ◌^◌, ◌<◌, ◌≤◌, true, not, ◌&&◌, eqb, List, [], ◌∷◌, map, filter, length, get_or, Option, Some, None, ◌⊎◌, refl, sym, ap, ◌∙◌, subst, inl, inr, arith}
+use Rattle.std.proofs.Common.{◌≡◌, ℕ, ◌+◌, ◌^◌, ◌<◌, ◌≤◌, true, ◌&&◌, List, [], ◌∷◌, map, filter, length, get_or, Option, Some, None, ◌⊎◌, refl, sym, ap, ◌∙◌, subst, inl, inr, arith}
 use Rattle.std.specs.Prelude.{IsSome, IsNone, IfSome, IsSomeAnd, codes}
-use Rattle.std.specs.List.{slice_get, Contains, All, AllPairs, list_all}
+use Rattle.std.specs.List.{slice_get, Contains, All, AllPairs}
 use Rattle.std.specs.List.Sorted.{IsStrictlyIncreasing}
 use Rattle.std.specs.Option.{option_map_or}
 use Rattle.std.specs.declared.cmp.Ordering.{Ordering}
 use Rattle.std.specs.declared.cmp.Ordering.TheVariants.{Less, Equal, Greater}
 use Rattle.std.specs.Ordering.{MatchOrdering, nat_cmp, ordering_then}
-use Rattle.std.proofs.lemmas.Bool.{cases_lt, false≢true, eq-eqb, and_parts}
+use Rattle.std.proofs.lemmas.Bool.{cases_lt, and_parts}
 use Rattle.std.proofs.lemmas.Cmp.{ranked}
 use Rattle.std.proofs.lemmas.Option.{slice_get_within, get_or_from_slice_get}
 use Rattle.std.proofs.lemmas.List.{length-map}
-use Rattle.std.proofs.lemmas.List.Elements.{All-contains, Contains-append_cases, Contains-get_or}
+use Rattle.std.proofs.lemmas.List.Elements.{All-contains, Contains-append_cases, Contains-get_or, All-cons, All-nil}
 use Rattle.std.proofs.lemmas.List.Kept.{AllPairs-from_increasing}
 use Rattle.sas_task.specs.declared.parts.Pair.{Pair}
 use Rattle.sas_task.specs.declared.parts.Variable.{Variable}
@@ -20,12 +20,11 @@ use Rattle.sas_task.specs.declared.parts.Effect.{Effect}
 use Rattle.sas_task.specs.declared.parts.Operator.{Operator}
 use Rattle.sas_task.specs.declared.parts.Rule.{Rule}
 use Rattle.sas_task.specs.Task.{Task}
-use Rattle.sas_task.specs.Valid.{IsValid, IsValue, IsFact, AreConditions, IsName, IsValidVariable, ComesBefore, IsValidGroup, IsValidEffect, IsValidOperator, IsBelow, IsValidRule, layer_of}
+use Rattle.sas_task.specs.Valid.{IsValid, IsValue, IsFact, AreConditions, IsValidVariable, ComesBefore, IsValidGroup, IsValidEffect, IsValidOperator, IsBelow, IsValidRule, layer_of}
 use Rattle.sas_task.specs.Orders.{pair_cmp}
 use Rattle.sas_task.proofs.Orders.{pair_total}
 use Rattle.sas_task.proofs.ValidParts.{operator_law, rule_law}
-use Rattle.lists.proofs.Members.{no_member, member_cases, all_pass, all_from_members, member_single, filter_member, map_member}
-use Rattle.sas_restriction.proofs.Exact.{nat_exact}
+use Rattle.lists.proofs.Members.{no_member, all_from_members, member_single, filter_member, map_member}
 use Rattle.sas_restriction.proofs.Pairs.{of_pairs, pairs_mapped, pairs_unmapped}
 use Rattle.sas_orders.specs.InOrder.{sorted}
 use Rattle.sas_restriction.specs.Choice.{Choice, IsChoice, is_shown, is_left, all_left, new_var, new_val, new_pair, new_pairs, variable_at, new_variable, fact_stays, new_group, effect_stays, new_effect, rule_stays, new_rule, holder_variable}
@@ -34,6 +33,8 @@ use Rattle.sas_orders.proofs.Sorted.{sorted_member, sorted_ordered}
 use Rattle.sas_restriction.proofs.Numbers.{count_some, any_member}
 use Rattle.sas_restriction.proofs.Shape.{variable_low, variable_last, layer_low, count_is, state_count, state_low, state_high}
 use Rattle.sas_restriction.proofs.Shown.{old, shown_at, shown_below, old_at, one_old, val_apart, good_of, pair_of}
+use Rattle.lists.proofs.Exact.{nat_exact}
+use Rattle.lists.specs.Names.{IsName}
 
 pub increasing : (xs : List ℕ) → AllPairs (λ x y. x < y) xs → IsStrictlyIncreasing xs
 increasing xs all k below = all k (k + 1) 0 (omega arith) below
@@ -73,20 +74,8 @@ one_condition T ps law p q in-p in-q same =
 -- the holder's facts have names
 names_of_holder : All IsName holder_variable.facts
 names_of_holder =
-    all_from_members IsName holder_variable.facts (λ name in'.
-    elim (member_cases (codes "Atom goal@holder()") name (codes "NegatedAtom goal@holder()" ∷ []) in') [
-      | inl same ↦ subst IsName same first
-      | inr later ↦ subst IsName (member_single (codes "NegatedAtom goal@holder()") name later) second
-    ])
-  where
-    no_feed : (bs : List ℕ) → list_all (λ b. not (eqb b 10)) bs ≡ true → All (λ b. b ≢ 10) bs
-    no_feed bs all = all_from_members (λ b. b ≢ 10) bs (λ b in' same. false≢true (sym (ap not (eq-eqb b 10 same)) ∙ all_pass (λ b. not (eqb b 10)) bs b all in'))
-
-    first : IsName (codes "Atom goal@holder()")
-    first = record { written = omega arith; one_line = no_feed (codes "Atom goal@holder()") refl; first = λ e. absurd (omega arith); last = λ e. absurd (omega arith) }
-
-    second : IsName (codes "NegatedAtom goal@holder()")
-    second = record { written = omega arith; one_line = no_feed (codes "NegatedAtom goal@holder()") refl; first = λ e. absurd (omega arith); last = λ e. absurd (omega arith) }
+    All-cons IsName (codes "Atom goal@holder()") (codes "NegatedAtom goal@holder()" ∷ []) refl
+    (All-cons IsName (codes "NegatedAtom goal@holder()") [] refl (All-nil IsName))
 
 -- the rules of one variable have one new value
 pub one_after : (T : Task) → IsValid T → (r q : Rule) → Contains T.rules r → Contains T.rules q → r.var ≡ q.var → r.after ≡ q.after

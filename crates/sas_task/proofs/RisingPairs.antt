@@ -34,3 +34,7 @@ later_above p (q ∷ ps) rises =
     let first : p.var < q.var = rises 0 (omega arith) in
     let rest = later_above q ps (later_rise p (q ∷ ps) rises) in
     All-cons (λ (r : Pair). p.var < r.var) q ps first (All-weaker (λ (r : Pair). q.var < r.var) (λ r. p.var < r.var) (λ r above. omega (arith, first, above)) ps rest)
+
+-- pairs of one variable and one value are equal
+pub pair_is : (p q : Pair) → p.var ≡ q.var → p.val ≡ q.val → p ≡ q
+pair_is p q a b = let one : pair p.var p.val ≡ pair q.var q.val = ap (λ a. pair a p.val) a ∙ ap (pair q.var) b in one

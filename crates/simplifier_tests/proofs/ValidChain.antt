@@ -13,17 +13,12 @@ use Rattle.sas_task.specs.declared.parts.Operator.{Operator}
 use Rattle.sas_task.specs.declared.parts.Rule.{Rule}
 use Rattle.sas_task.specs.Task.{Task}
 use Rattle.sas_task.specs.Pairs.{pair}
-use Rattle.sas_task.specs.Valid.{IsValid, IsValue, IsFact, AreConditions, IsName, IsValidVariable, IsValidGroup, IsValidEffect, IsValidOperator, IsValidRule}
+use Rattle.sas_task.specs.Valid.{IsValid, IsValue, IsFact, AreConditions, IsValidVariable, IsValidGroup, IsValidEffect, IsValidOperator, IsValidRule}
 use Rattle.simplifier_tests.specs.Chain.{name, place, step, IsStep, chain}
+use Rattle.lists.specs.Names.{IsName}
 
 is_name : IsName name
-is_name =
-    record {
-      written = omega arith;
-      one_line = All-cons (λ b. b ≡ 10 → ⊥) 120 [] (λ e. absurd (omega (arith, e))) (All-nil (λ b. b ≡ 10 → ⊥));
-      first = λ e. absurd (omega (arith, e));
-      last = λ e. absurd (omega (arith, e));
-    }
+is_name = refl
 
 module _ (count : ℕ) (operators : List Operator) (many : 1 < count) (steps : All (IsStep count) operators) where
   abbrev task : Task

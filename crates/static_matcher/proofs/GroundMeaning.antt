@@ -23,13 +23,13 @@ use Rattle.static_matcher.specs.Ranked.{IsRanked}
 use Rattle.static_matcher.specs.Settled.{Settling, kept_actions, kept_axioms, IsSettled, Shows}
 use Rattle.static_matcher.specs.Instances.{effects_of, effect_of, all_fit, action_of, is_instance, actions_of, instance_task, static_settling, IsGroundTask}
 use Rattle.static_matcher.specs.Statics.{KeepsStatics}
-use Rattle.lists.proofs.Items.{Among, contains_among, map_source, flat_map_piece, map_itself}
+use Rattle.lists.proofs.Items.{Among, contains_among, map_source, flat_map_piece, map_itself, slice_among}
 use Rattle.lists.specs.SameMembers.{SameMembers}
-use Rattle.static_matcher.proofs.NormalSteps.{Equal_states, get_among}
+use Rattle.static_matcher.proofs.NormalSteps.{Equal_states}
 use Rattle.static_matcher.proofs.NormalSteps as instances
-use Rattle.static_matcher.proofs.Atoms.{same_atom}
 use Rattle.static_matcher.proofs.Settling.{Names, Stays}
 use Rattle.static_matcher.proofs.Settling as settling
+use Rattle.normal_task.proofs.OnceEach.{same_atom}
 
 module _ (task : Normal) (result : Ground) (statics : KeepsStatics task) (is : IsGroundTask task result) where
   abbrev by : Settling GroundAtom GroundAtom
@@ -60,7 +60,7 @@ module _ (task : Normal) (result : Ground) (statics : KeepsStatics task) (is : I
       by_row None e = ap (λ o. unwrap_or (option_map (λ (row : PredicateRow). row.derived) o) false) e
       by_row (Some row) e =
           ap (λ o. unwrap_or (option_map (λ (row : PredicateRow). row.derived) o) false) e
-          ∙ All-contains (λ (row : PredicateRow). row.fixed ≡ true → row.derived ≡ false) task.predicates row statics.basic (contains_among task.predicates row (get_among task.predicates predicate row e))
+          ∙ All-contains (λ (row : PredicateRow). row.fixed ≡ true → row.derived ≡ false) task.predicates row statics.basic (contains_among task.predicates row (slice_among task.predicates predicate row e))
           (ap (λ o. unwrap_or (option_map (λ (row : PredicateRow). row.fixed) o) false) (sym e) ∙ fixed)
 
   basic : (a : GroundAtom) → by.keeps a ≡ false → is_derived task.predicates a ≡ false

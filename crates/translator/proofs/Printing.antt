@@ -3,10 +3,7 @@ use Rattle.std.proofs.Common.{◌≡◌, ℕ, List, ◌++◌, OnOk, OnErr, Resul
 use Rattle.std.specs.declared.option.Option.{Option}
 use Rattle.std.specs.Io.KnownBytes.{append_known}
 use Rattle.tl_device.specs.Contents.{PrintedInPart}
-use Rattle.tl_device.proofs.Known.{append_more, part_of_first, part_of_second}
-
-pub summary_broke : (old new : Option (List ℕ)) (first second : List ℕ) → PrintedInPart old new first → PrintedInPart old new (first ++ second)
-summary_broke = part_of_first
+use Rattle.tl_device.proofs.Known.{append_more, part_of_second}
 
 -- the second as it was handed on
 module _ (old mid new : Option (List ℕ)) (first second handed : List ℕ) (same : handed ≡ second) where

@@ -1,5 +1,5 @@
 -- One more effect.
-use Rattle.std.proofs.Common.{◌≡◌, ◌==◌, ◌&&◌, ◌||◌, Bool, true, false, cond, [], ◌∷◌, take, refl, sym, ap, ◌∙◌, subst, take_all}
+use Rattle.std.proofs.Common.{◌==◌, ◌&&◌, true, false, cond, [], ◌∷◌, take, sym, ap, ◌∙◌, subst, take_all}
 use Rattle.std.specs.List.{list_any}
 use Rattle.std.proofs.lemmas.List.Folds.{list_any-append}
 use Rattle.lists.proofs.LoopSteps.{take_next}
@@ -7,12 +7,7 @@ use Rattle.sas_task.specs.declared.parts.Effect.{Effect}
 use Rattle.fdr_encoder.specs.Effects.{is_given}
 use Rattle.fdr_encoder.specs.GivenValues.{Know, is_same}
 use Rattle.fdr_encoder.proofs.simplify.table_of.Goals as goal
-
-last_of : (a b : Bool) → cond a true b ≡ (b || (a || false))
-last_of true true = refl
-last_of true false = refl
-last_of false true = refl
-last_of false false = refl
+use Rattle.lists.proofs.Items.{last_of}
 
 pub loop-effect-init : goal.loop-effect-init
 loop-effect-init c p = ap (list_any (is_same (p.var, p.val))) c.new-table.ensures.empty

@@ -7,7 +7,6 @@ use Rattle.std.proofs.lemmas.List.Elements.{All-nil, All-cons, All-contains}
 use Rattle.std.proofs.lemmas.Map.Keys.{sorted_from_all_adjacent}
 use Rattle.lists.proofs.Members.{no_member, member_first, member_single}
 use Rattle.static_matcher.specs.Examples.{on, light, all_of}
-use Rattle.static_matcher.specs.Lawful.{is_name}
 use Rattle.static_matcher.specs.Literals.{AxiomRow}
 use Rattle.relaxed_reach.specs.declared.types.Fact.{Fact}
 use Rattle.relaxed_reach.specs.declared.types.Reached.{Reached}
@@ -20,6 +19,7 @@ use Rattle.relaxed_reach.specs.Lawful.{NamesFacts, IsLawfulEffect, IsLawfulActio
 use Rattle.relaxed_reach.proofs.Order.{fact_total}
 use Rattle.relaxed_reach.proofs.OrderedFacts.{facts_apart}
 use Rattle.relaxed_reach.proofs.laws.lawful_examples.Goals as goal
+use Rattle.lists.specs.Names.{is_name}
 
 -- what all of a list have its first member has, and what its only member has all have
 first : {X : Type 0} (P : X → Type 0) (x : X) (xs : List X) → All P (x ∷ xs) → P x

@@ -7,8 +7,8 @@ use Rattle.relaxed_reach.specs.Lawful.{IsLawful}
 use Rattle.relaxed_reach.specs.Reachable.{IsReachedBy, fact_of}
 use Rattle.relaxed_reach.specs.Steps.{step_count}
 use Rattle.relaxed_reach.proofs.LawfulReached.{lawful_reached}
-use Rattle.relaxed_reach.proofs.OrderedFacts.{map_back}
 use Rattle.relaxed_reach.proofs.task.reach.Goals as goal
+use Rattle.lists.proofs.Items.{map_back}
 
 pub returns-clause-lawful : goal.returns-clause-lawful
 returns-clause-lawful g c =

@@ -1,8 +1,10 @@
 -- Each of these tasks breaks what its clause is named for.
-use Rattle.std.proofs.Common.{◌≡◌, ℕ, ◌^◌, ◌<◌, ◌≤◌, Bool, ◌⊎◌, List, [], ◌∷◌, Option, Some, None, codes, inl, inr, refl, arith}
+use Rattle.std.proofs.Common.{◌≡◌, ℕ, ◌^◌, ◌<◌, ◌≤◌, Bool, false, ◌⊎◌, List, [], ◌∷◌, Option, Some, None, codes, inl, inr, refl, sym, ◌∙◌, arith}
+use Rattle.std.proofs.lemmas.Bool.{false≢true}
+use Rattle.lists.specs.Names.{is_name, IsName}
 use Rattle.sas_task.specs.declared.parts.Pair.{Pair}
 use Rattle.sas_task.specs.declared.parts.Operator.{Operator}
-use Rattle.sas_task.specs.Valid.{IsValid, IsName, IsValidVariable, IsValidGroup, IsValidEffect, IsValidOperator, IsValidRule, ComesBefore}
+use Rattle.sas_task.specs.Valid.{IsValid, IsValidVariable, IsValidGroup, IsValidEffect, IsValidOperator, IsValidRule, ComesBefore}
 use Rattle.sas_task.specs.Pairs.{pair}
 use Rattle.sas_task.specs.Refused.{with_variable, with_group, with_operator, with_effect, with_rule}
 use Rattle.sas_task.proofs.laws.refused_tasks.Goals as goal
@@ -12,6 +14,9 @@ variable_of layer facts valid = valid.variables 4 (record { layer = layer; facts
 
 name_of : (name : List ℕ) → IsValid (with_variable None (name ∷ [])) → IsName name
 name_of name valid = (variable_of None (name ∷ []) valid).names 0 name (omega arith)
+
+no_name : (bytes : List ℕ) → is_name bytes ≡ false → IsName bytes → ⊥
+no_name bytes isnt is = false≢true (sym isnt ∙ is)
 
 group_of : (facts : List Pair) → IsValid (with_group facts) → IsValidGroup (with_group facts) (record { facts = facts })
 group_of facts valid = valid.groups 0 (record { facts = facts }) (omega arith)
@@ -42,10 +47,10 @@ returns c =
     record {
       layer = λ v. let law : 2 ^ 64 < 2 ^ 64 = (variable_of (Some (2 ^ 64)) (codes "a" ∷ []) v).layer in absurd (omega arith);
       has_value = λ v. let law : 0 < 0 = (variable_of None [] v).has_value in absurd (omega arith);
-      written = λ v. let law : 0 < 0 = (name_of [] v).written in absurd (omega arith);
-      one_line = λ v. (name_of (97 ∷ 10 ∷ 98 ∷ []) v).one_line 1 0 (omega arith) refl;
-      first_byte = λ v. (name_of (codes " a") v).first refl;
-      last_byte = λ v. (name_of (codes "a ") v).last refl;
+      written = λ v. no_name [] refl (name_of [] v);
+      one_line = λ v. no_name (97 ∷ 10 ∷ 98 ∷ []) refl (name_of (97 ∷ 10 ∷ 98 ∷ []) v);
+      first_byte = λ v. no_name (codes " a") refl (name_of (codes " a") v);
+      last_byte = λ v. no_name (codes "a ") refl (name_of (codes "a ") v);
       group_facts = λ v. let law : 2 < 2 = (group_of (pair 0 0 ∷ pair 0 2 ∷ []) v).facts 1 first_pair (omega arith) in absurd (omega arith);
       group_order = λ v. not_before (pair 0 1) (pair 0 0) (omega arith) (omega arith) ((group_of (pair 0 1 ∷ pair 0 0 ∷ []) v).sorted 0 1 first_pair (omega arith) (omega arith));
       group_repeats = λ v. not_before (pair 0 0) (pair 0 0) (omega arith) (omega arith) ((group_of (pair 0 0 ∷ pair 0 0 ∷ []) v).sorted 0 1 first_pair (omega arith) (omega arith));
@@ -55,7 +60,7 @@ returns c =
       goal_facts = λ v. let law : 2 < 2 = v.goal.facts 0 first_pair (omega arith) in absurd (omega arith);
       goal_order = λ v. let law : 3 < 0 = v.goal.sorted 0 (omega arith) in absurd (omega arith);
       goal_variables = λ v. let law : 3 < 3 = v.goal.sorted 0 (omega arith) in absurd (omega arith);
-      operator_name = λ v. let law : 0 < 0 = (operator_of _ _ v).name.written in absurd (omega arith);
+      operator_name = λ v. no_name [] refl (operator_of _ _ v).name;
       operator_conditions = λ v. let law : 2 < 2 = (operator_of _ _ v).conditions.facts 0 first_pair (omega arith) in absurd (omega arith);
       effect_conditions = λ v. let law : 2 < 2 = (effect_of (pair 0 2 ∷ []) 1 0 v).conditions.facts 0 first_pair (omega arith) in absurd (omega arith);
       effect_value = λ v. let law : 2 < 2 = (effect_of [] 0 2 v).value in absurd (omega arith);

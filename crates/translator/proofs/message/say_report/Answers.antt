@@ -1,11 +1,12 @@
 use Rattle.std.proofs.Common.{rules}
 use Rattle.translator.specs.Messages.{summary_lines}
-use Rattle.translator.proofs.Printing.{summary_broke, both_printed, plan_broke}
+use Rattle.translator.proofs.Printing.{both_printed, plan_broke}
 use Rattle.translator.proofs.message.say_report.Goals as goal
+use Rattle.tl_device.proofs.Known.{part_of_first}
 
 pub returns-in_err-say_summary-clause-err : goal.returns-in_err-say_summary-clause-err
 returns-in_err-say_summary-clause-err g c =
-    let broke = summary_broke (g.C.Console.printed c.args.console.now) (g.C.Console.printed c.say_summary.new.console) (summary_lines c.args.report.now.summary) c.args.report.now.plan.items c.in_err-say_summary.ensures.err in
+    let broke = part_of_first (g.C.Console.printed c.args.console.now) (g.C.Console.printed c.say_summary.new.console) (summary_lines c.args.report.now.summary) c.args.report.now.plan.items c.in_err-say_summary.ensures.err in
     search (rules, broke)
 
 pub returns-clause-ok : goal.returns-clause-ok
