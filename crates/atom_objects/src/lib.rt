@@ -4,6 +4,3 @@
 mod objects;
 
 pub use objects::Objects;
-
-#[cfg(test)]
-mod tests;

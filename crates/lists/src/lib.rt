@@ -10,6 +10,3 @@ pub use list::List;
 pub use rows::Rows;
 pub use sqlite_items::Boxed;
 pub use text::Text;
-
-#[cfg(test)]
-mod tests;

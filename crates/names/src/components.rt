@@ -12,27 +12,27 @@ use std::alloc::{AllocError, Global};
 
 /// How a search came to a number.
 #[derive(Clone, Copy)]
-pub(crate) struct Place {
+pub struct Place {
     /// Where it had begun.
-    pub(crate) root: usize,
+    pub root: usize,
     /// How many numbers it had found before.
-    pub(crate) order: usize,
+    pub order: usize,
     /// The position of the arc that it took.
-    pub(crate) arc: usize,
+    pub arc: usize,
 }
 
 // ---- the searches
 
 /// The places of the numbers in the two searches.
 #[derive(Drop)]
-pub(crate) struct Searches {
-    pub(crate) along: Vec<Option<Place>>,
-    pub(crate) against: Vec<Option<Place>>,
+pub struct Searches {
+    pub along: Vec<Option<Place>>,
+    pub against: Vec<Option<Place>>,
 }
 
 impl Searches {
-    /// Searches all numbers below `count`.
-    pub(crate) fn new(alloc: Global, count: usize, arcs: &[Arc]) -> Result<Searches, AllocError> {
+    /// Searches all numbers below `count`. What they find is right; no contract says so, and `are_right` tells.
+    pub fn new(alloc: Global, count: usize, arcs: &[Arc]) -> Result<Searches, AllocError> {
         let mut along = Search::new(alloc, count, arcs)?;
         for start in 0..count {
             along.search_from(start)?;
@@ -237,7 +237,7 @@ fn are_joined(
 
 impl Searches {
     /// Whether they show which numbers reach each other, as searches of these arcs do.
-    pub(crate) fn are_right(&self, count: usize, arcs: &[Arc]) -> bool
+    pub fn are_right(&self, count: usize, arcs: &[Arc]) -> bool
         ensures { result ≡ true → spec.IsShown count arcs.now self.now.against.items self.now.along.items }
     {
         let against = self.against.as_slice();
@@ -245,7 +245,7 @@ impl Searches {
     }
 
     /// Of each arc, whether it stays in one component.
-    pub(crate) fn stay(&self, alloc: Global, arcs: &[Arc]) -> Result<Vec<bool>, AllocError>
+    pub fn stay(&self, alloc: Global, arcs: &[Arc]) -> Result<Vec<bool>, AllocError>
         ensures { IfOk result (λ answers. answers.items ≡ map (λ arc. spec.has_one_root self.now.against.items arc.from arc.to) arcs.now) }
     {
         let against = self.against.as_slice();
@@ -254,6 +254,3 @@ impl Searches {
             .collect(alloc)
     }
 }
-
-#[cfg(test)]
-mod tests;

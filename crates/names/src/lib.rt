@@ -9,5 +9,6 @@ mod links;
 mod table;
 
 pub use arcs::{Arc, ArcsBySource};
+pub use components::{Place, Searches};
 pub use links::Links;
 pub use table::Names;

@@ -57,6 +57,3 @@ impl<'a> Links<'a> {
         on_cycles(alloc, self.pairs.as_slice())
     }
 }
-
-#[cfg(test)]
-mod tests;

@@ -1,10 +1,14 @@
-//! Tests of the reading and the checks of the two files, over texts.
+//! Tests of the reading and the checks of the two files, over texts, and of links between names.
 //!
 //! They stand apart from the crates that they test, since each proof of a test counts, and those crates are large.
 #![tactic(auto)]
 
 #[cfg(test)]
 mod checks;
+#[cfg(test)]
+mod components;
+#[cfg(test)]
+mod links;
 #[cfg(test)]
 mod meaning;
 #[cfg(test)]

@@ -1,4 +1,5 @@
-use super::*;
+use names::{Arc, Searches};
+use std::alloc::{AllocError, Global};
 use std::test::*;
 
 /// Whether the searches of these arcs are right, as they always should be. No contract says so.

@@ -1,4 +1,5 @@
-use super::*;
+use names::Links;
+use std::alloc::AllocError;
 use std::test::*;
 
 /// A number as the four bytes of a name.

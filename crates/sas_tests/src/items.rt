@@ -1,4 +1,4 @@
-use super::*;
+use lists::{List, Text};
 use std::alloc::AllocError;
 use std::test::*;
 

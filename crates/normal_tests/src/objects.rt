@@ -1,4 +1,4 @@
-use super::*;
+use atom_objects::Objects;
 use std::alloc::AllocError;
 use std::test::*;
 
