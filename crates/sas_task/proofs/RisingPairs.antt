@@ -7,6 +7,7 @@ use Rattle.std.proofs.lemmas.Bool.{eq-eqb, ne_eqb}
 use Rattle.std.proofs.lemmas.List.Elements.{All-nil, All-cons, All-head, All-tail, All-weaker}
 use Rattle.sas_task.specs.declared.parts.Pair.{Pair}
 use Rattle.sas_task.specs.Output.{value_in}
+use Rattle.sas_task.specs.Pairs.{pair}
 
 abbrev pub Rise : List Pair → Type 0
 Rise pairs = IsStrictlyIncreasing (map (λ p. p.var) pairs)
