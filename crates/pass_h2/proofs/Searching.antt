@@ -1,7 +1,7 @@
 -- The search for the possible pairs: what is found is possible, and what was looked at leads to nothing else.
 use Rattle.std.proofs.Common.{◌≡◌, ℕ, ◌<◌, Bool, true, false, not, cond, ◌&&◌, List, map, filter, length, Some, refl, sym, ap, ◌∙◌, subst, inl, inr}
 use Rattle.std.specs.List.{Contains, slice_get, list_all}
-use Rattle.std.proofs.lemmas.Bool.{and_parts, and_from, false≢true}
+use Rattle.std.proofs.lemmas.Bool.{and_parts, and_from, false≢true, not-true}
 use Rattle.std.proofs.lemmas.Option.{slice_get_within, get_or_from_slice_get}
 use Rattle.lists.proofs.Members.{all_pass, each_passes, map_member, member_map, filter_member, member_filter}
 use Rattle.sas_task.specs.declared.parts.Pair.{Pair}
@@ -11,7 +11,6 @@ use Rattle.sas_task.specs.Task.{Task}
 use Rattle.sas_task.specs.Valid.{IsValid, IsFact}
 use Rattle.sas_task.proofs.ValidParts.{effect_law}
 use Rattle.pass_possible.specs.Possible.{is_mixed, names, fact_of, Pairs, all_pairs, is_possible, HasPossible}
-use Rattle.pass_possible.proofs.Reached.{not_true}
 use Rattle.pass_h2.specs.Facts.{all_facts, starts}
 use Rattle.pass_h2.specs.Search.{Finds, number_in, found, with_all, led_to, looked, stays_beside}
 use Rattle.pass_h2.proofs.Numbers.{has_number, numbered}
@@ -94,7 +93,7 @@ module _ (T : Task) (valid : IsValid T) where
     beside_parts p is =
         let one = and_parts (found f p p) (not (names o p.var) && list_all (λ q. found f p q) o.conditions) is in
         let two = and_parts (not (names o p.var)) (list_all (λ q. found f p q) o.conditions) one.1 in
-        (one.0, not_true (names o p.var) two.0, two.1)
+        (one.0, not-true (names o p.var) two.0, two.1)
 
     -- what an operator that is possible leads to
     module _ (is : is_possible (found f) o ≡ true) where
