@@ -1,3 +1,5 @@
+//! The nested list of a text, its first fault, and the number and the text of each kind of fault.
+
 use pddl_lexer::{At, Fault, Kind, ShapePlace, TreeEnd, read_tree};
 use std::test::*;
 
