@@ -1,4 +1,5 @@
-//! Tests of the check of invariant candidates, over texts: verdicts, repairs, and the candidates with one part.
+//! Tests of the check of invariant candidates and of the search for invariants, over texts: verdicts, repairs, the
+//! candidates with one part, and which candidates are tried and accepted.
 //!
 //! They stand apart from the crates that they test, since each proof of a test counts, and those crates are large.
 #![tactic(auto)]
@@ -7,5 +8,7 @@
 mod candidates;
 #[cfg(test)]
 mod listed;
+#[cfg(test)]
+mod searches;
 #[cfg(test)]
 mod verdicts;

@@ -6,7 +6,7 @@ use normal_task::Normal;
 use std::alloc::Global;
 use std::process::Abort;
 use std::test::*;
-use worked_tasks::normal_task;
+use worked_tasks::{BACK, BLOCKS, GRIPPER, SWITCH, normal_task};
 
 /// What is said of a candidate. One that isn't balanced has the schema and the row of its first add effect that isn't,
 /// and its repairs in their order.
@@ -18,34 +18,6 @@ enum Said {
 
 /// A domain, the objects of a problem, a candidate, and what is said of it.
 type Row = (&'static str, &'static str, &'static [PartRow], Said);
-
-const SWITCH: &str = "(define (domain d) (:predicates (on) (off))
- (:action flip :precondition (off) :effect (and (on) (not (off)))))";
-
-const BACK: &str = "(define (domain d) (:predicates (p ?x) (q ?x))
- (:action act :parameters (?x ?y) :precondition (q ?x) :effect (and (p ?x) (not (q ?x)) (q ?y))))";
-
-const BLOCKS: &str = "(define (domain d)
- (:predicates (on ?x ?y) (ontable ?x) (clear ?x) (handempty) (holding ?x))
- (:action pick-up :parameters (?x) :precondition (and (clear ?x) (ontable ?x) (handempty))
-  :effect (and (not (ontable ?x)) (not (clear ?x)) (not (handempty)) (holding ?x)))
- (:action put-down :parameters (?x) :precondition (holding ?x)
-  :effect (and (not (holding ?x)) (clear ?x) (handempty) (ontable ?x)))
- (:action stack :parameters (?x ?y) :precondition (and (holding ?x) (clear ?y))
-  :effect (and (not (holding ?x)) (not (clear ?y)) (clear ?x) (handempty) (on ?x ?y)))
- (:action unstack :parameters (?x ?y) :precondition (and (on ?x ?y) (clear ?x) (handempty))
-  :effect (and (holding ?x) (clear ?y) (not (clear ?x)) (not (handempty)) (not (on ?x ?y)))))";
-
-const GRIPPER: &str = "(define (domain d) (:types room ball gripper)
- (:predicates (at-robby ?r - room) (at ?b - ball ?r - room) (free ?g - gripper) (carry ?b - ball ?g - gripper))
- (:action move :parameters (?from ?to - room) :precondition (at-robby ?from)
-  :effect (and (at-robby ?to) (not (at-robby ?from))))
- (:action pick :parameters (?b - ball ?r - room ?g - gripper)
-  :precondition (and (at ?b ?r) (at-robby ?r) (free ?g))
-  :effect (and (carry ?b ?g) (not (at ?b ?r)) (not (free ?g))))
- (:action drop :parameters (?b - ball ?r - room ?g - gripper)
-  :precondition (and (carry ?b ?g) (at-robby ?r))
-  :effect (and (at ?b ?r) (free ?g) (not (carry ?b ?g)))))";
 
 const ROOMS: &str = "a b - room c d - ball e f - gripper";
 
@@ -122,6 +94,9 @@ static WORKED: &[Row] = &[
     ),
 ];
 
+const SPARE: &str = "(define (domain d) (:types spare) (:predicates (on) (off))
+ (:action flip :precondition (off) :effect (and (on) (forall (?l - spare) (not (off))))))";
+
 /// Effects with variables and conditions.
 static EFFECTS: &[Row] = &[
     // The delete's variable is given ?from: the atom and its condition are then required. It comes back only where ?to
@@ -189,15 +164,13 @@ static EFFECTS: &[Row] = &[
     ),
     // The variable stands nowhere. Some object has to fit all the same: where there is no spare one nothing is deleted.
     (
-        "(define (domain d) (:types spare) (:predicates (on) (off))
- (:action flip :precondition (off) :effect (and (on) (forall (?l - spare) (not (off))))))",
+        SPARE,
         "a - spare b",
         &[("on", &[], None), ("off", &[], None)],
         Said::Accepted,
     ),
     (
-        "(define (domain d) (:types spare) (:predicates (on) (off))
- (:action flip :precondition (off) :effect (and (on) (forall (?l - spare) (not (off))))))",
+        SPARE,
         "a b",
         &[("on", &[], None), ("off", &[], None)],
         Said::Dropped,
@@ -250,6 +223,10 @@ static EFFECTS: &[Row] = &[
         Said::Accepted,
     ),
 ];
+
+const SWAP: &str = "(define (domain d) (:constants hall yard) (:predicates (here ?l) (gone ?l))
+ (:action swap :precondition (and (gone hall) (gone yard))
+  :effect (and (here hall) (here yard) (not (gone hall)) (not (gone yard)))))";
 
 /// Lists of literals that are contradictory, and others.
 static CONTRADICTIONS: &[Row] = &[
@@ -339,18 +316,14 @@ static CONTRADICTIONS: &[Row] = &[
     ),
     // hall and yard are two objects, so here(hall) and here(yard) are of two instances.
     (
-        "(define (domain d) (:constants hall yard) (:predicates (here ?l) (gone ?l))
- (:action swap :precondition (and (gone hall) (gone yard))
-  :effect (and (here hall) (here yard) (not (gone hall)) (not (gone yard)))))",
+        SWAP,
         "",
         &[("here", &[0], None), ("gone", &[0], None)],
         Said::Accepted,
     ),
     // Where the place is counted they are two atoms of one instance.
     (
-        "(define (domain d) (:constants hall yard) (:predicates (here ?l) (gone ?l))
- (:action swap :precondition (and (gone hall) (gone yard))
-  :effect (and (here hall) (here yard) (not (gone hall)) (not (gone yard)))))",
+        SWAP,
         "",
         &[("here", &[], Some(0)), ("gone", &[], Some(0))],
         Said::Dropped,
