@@ -1,8 +1,10 @@
-//! Tests of groups and covers, over texts.
+//! Tests of covers, and of groups and their covers over texts, worked by hand.
 //!
 //! They stand apart from the crates that they test, since each proof of a test counts.
 #![tactic(auto)]
 
+#[cfg(test)]
+mod covers;
 #[cfg(test)]
 mod found;
 #[cfg(test)]

@@ -1,3 +1,5 @@
+//! Covers of facts that are numbers.
+
 use group_cover::{Groups, cover};
 use lists::List;
 use std::alloc::{AllocError, Global};

@@ -1,7 +1,0 @@
-//! Tests of covers, worked by hand.
-//!
-//! They stand apart from the crate that they test, which would otherwise be proved once more with them.
-#![tactic(auto)]
-
-#[cfg(test)]
-mod covers;
