@@ -1,341 +1,170 @@
-//! Tasks that are written out by hand: a gate, and others whose texts are those of small PDDL tasks.
+//! Tasks that are written out by hand: a gate, a hall, and others whose texts are those of small PDDL tasks.
 
+use pass_book::{Book, PassKind};
 use sas_reader::read_task;
 use sas_task::SasTask;
+use sas_writer::text_of;
 use std::alloc::{AllocError, Global};
 
-/// A lamp.
-pub(crate) const SWITCH: &[u8] = b"begin_version
-3
-end_version
-begin_metric
-0
-end_metric
-1
-begin_variable
-var0
--1
-2
-Atom on()
-Atom off()
-end_variable
-1
-begin_mutex_group
-2
-0 0
-0 1
-end_mutex_group
-begin_state
-1
-end_state
-begin_goal
-1
-0 0
-end_goal
-1
-begin_operator
-flip
-0
-1
-0 0 1 0
-1
-end_operator
-0
-";
+/// The text of a task. A row has the lines between the words that begin and end a variable, a mutex group, an operator or
+/// a rule, and the number before the rows is how many there are.
+macro_rules! task {
+    (
+        metric $metric:literal
+        variables $variables:literal $([$($variable:literal),*])*
+        groups $groups:literal $([$($group:literal),*])*
+        state $($value:literal)*
+        goal $goals:literal $($goal:literal)*
+        operators $operators:literal $([$($operator:literal),*])*
+        rules $rules:literal $([$($rule:literal),*])*
+    ) => {
+        concat!(
+            "begin_version\n3\nend_version\n",
+            "begin_metric\n", $metric, "\nend_metric\n",
+            $variables, "\n", $("begin_variable\n", $($variable, "\n",)* "end_variable\n",)*
+            $groups, "\n", $("begin_mutex_group\n", $($group, "\n",)* "end_mutex_group\n",)*
+            "begin_state\n", $($value, "\n",)* "end_state\n",
+            "begin_goal\n", $goals, "\n", $($goal, "\n",)* "end_goal\n",
+            $operators, "\n", $("begin_operator\n", $($operator, "\n",)* "end_operator\n",)*
+            $rules, "\n", $("begin_rule\n", $($rule, "\n",)* "end_rule\n",)*
+        )
+    };
+}
+
+pub(crate) use task;
 
 /// Whoever has `q` gets `p` and gives `q` to somebody, maybe to itself; `b` is to have `p`.
-pub(crate) const BACK: &[u8] = b"begin_version
-3
-end_version
-begin_metric
-0
-end_metric
-3
-begin_variable
-var0
--1
-2
-Atom q(a)
-Atom q(b)
-end_variable
-begin_variable
-var1
--1
-2
-Atom p(a)
-NegatedAtom p(a)
-end_variable
-begin_variable
-var2
--1
-2
-Atom p(b)
-NegatedAtom p(b)
-end_variable
-1
-begin_mutex_group
-2
-0 0
-0 1
-end_mutex_group
-begin_state
-0
-1
-1
-end_state
-begin_goal
-1
-2 0
-end_goal
-4
-begin_operator
-act a a
-1
-0 0
-1
-0 1 -1 0
-1
-end_operator
-begin_operator
-act a b
-0
-2
-0 0 0 1
-0 1 -1 0
-1
-end_operator
-begin_operator
-act b a
-0
-2
-0 0 1 0
-0 2 -1 0
-1
-end_operator
-begin_operator
-act b b
-1
-0 1
-1
-0 2 -1 0
-1
-end_operator
-0
-";
-
-/// Two things can be done, and the first is wanted. The operators aren't in order.
-pub(crate) const SHOP: &[u8] = b"begin_version
-3
-end_version
-begin_metric
-0
-end_metric
-2
-begin_variable
-var0
--1
-2
-Atom done(a)
-NegatedAtom done(a)
-end_variable
-begin_variable
-var1
--1
-2
-Atom done(b)
-NegatedAtom done(b)
-end_variable
-0
-begin_state
-1
-1
-end_state
-begin_goal
-1
-0 0
-end_goal
-2
-begin_operator
-go b
-0
-1
-0 1 -1 0
-1
-end_operator
-begin_operator
-go a
-0
-1
-0 0 -1 0
-1
-end_operator
-0
-";
-
-/// The same, where nothing is wanted.
-pub(crate) const IDLE_SHOP: &[u8] = b"begin_version
-3
-end_version
-begin_metric
-0
-end_metric
-2
-begin_variable
-var0
--1
-2
-Atom done(a)
-NegatedAtom done(a)
-end_variable
-begin_variable
-var1
--1
-2
-Atom done(b)
-NegatedAtom done(b)
-end_variable
-0
-begin_state
-1
-1
-end_state
-begin_goal
-0
-end_goal
-2
-begin_operator
-go b
-0
-1
-0 1 -1 0
-1
-end_operator
-begin_operator
-go a
-0
-1
-0 0 -1 0
-1
-end_operator
-0
-";
+pub(crate) const BACK: &str = task! {
+    metric 0
+    variables 3
+        ["var0", -1, 2, "Atom q(a)", "Atom q(b)"]
+        ["var1", -1, 2, "Atom p(a)", "NegatedAtom p(a)"]
+        ["var2", -1, 2, "Atom p(b)", "NegatedAtom p(b)"]
+    groups 1
+        [2, "0 0", "0 1"]
+    state 0 1 1
+    goal 1 "2 0"
+    operators 4
+        ["act a a", 1, "0 0", 1, "0 1 -1 0", 1]
+        ["act a b", 0, 2, "0 0 0 1", "0 1 -1 0", 1]
+        ["act b a", 0, 2, "0 0 1 0", "0 2 -1 0", 1]
+        ["act b b", 1, "0 1", 1, "0 2 -1 0", 1]
+    rules 0
+};
 
 /// Who is through the gate is safe. One goes through if the gate is open and one has the key; a bell rings and doesn't
 /// ring then, and dust may fall, which is of no account.
-pub(crate) const GATE: &[u8] = b"begin_version
-3
-end_version
-begin_metric
-0
-end_metric
-6
-begin_variable
-var0
--1
-2
-Atom open()
-NegatedAtom open()
-end_variable
-begin_variable
-var1
--1
-2
-Atom through()
-NegatedAtom through()
-end_variable
-begin_variable
-var2
--1
-2
-Atom key()
-NegatedAtom key()
-end_variable
-begin_variable
-var3
--1
-2
-Atom ringing()
-NegatedAtom ringing()
-end_variable
-begin_variable
-var4
--1
-2
-Atom dusty()
-NegatedAtom dusty()
-end_variable
-begin_variable
-var5
-0
-2
-Atom safe()
-NegatedAtom safe()
-end_variable
-0
-begin_state
-1
-1
-0
-1
-1
-1
-end_state
-begin_goal
-1
-5 0
-end_goal
-4
-begin_operator
-close
-0
-1
-0 0 -1 1
-1
-end_operator
-begin_operator
-go
-1
-0 0
-4
-1 2 0 1 -1 0
-0 3 -1 0
-1 2 0 3 -1 1
-0 4 -1 0
-1
-end_operator
-begin_operator
-go
-1
-0 0
-4
-1 2 0 1 -1 0
-0 3 -1 0
-1 2 0 3 -1 1
-0 4 -1 1
-1
-end_operator
-begin_operator
-open
-0
-1
-0 0 -1 0
-1
-end_operator
-1
-begin_rule
-1
-1 0
-5 1 0
-end_rule
-";
+pub(crate) const GATE: &str = task! {
+    metric 0
+    variables 6
+        ["var0", -1, 2, "Atom open()", "NegatedAtom open()"]
+        ["var1", -1, 2, "Atom through()", "NegatedAtom through()"]
+        ["var2", -1, 2, "Atom key()", "NegatedAtom key()"]
+        ["var3", -1, 2, "Atom ringing()", "NegatedAtom ringing()"]
+        ["var4", -1, 2, "Atom dusty()", "NegatedAtom dusty()"]
+        ["var5", 0, 2, "Atom safe()", "NegatedAtom safe()"]
+    groups 0
+    state 1 1 0 1 1 1
+    goal 1 "5 0"
+    operators 4
+        ["close", 0, 1, "0 0 -1 1", 1]
+        ["go", 1, "0 0", 4, "1 2 0 1 -1 0", "0 3 -1 0", "1 2 0 3 -1 1", "0 4 -1 0", 1]
+        ["go", 1, "0 0", 4, "1 2 0 1 -1 0", "0 3 -1 0", "1 2 0 3 -1 1", "0 4 -1 1", 1]
+        ["open", 0, 1, "0 0 -1 0", 1]
+    rules 1
+        [1, "1 0", "5 1 0"]
+};
+
+/// The hall, with one more variable, operator and rule, or none.
+macro_rules! hall {
+    (
+        variables $variables:literal $([$($variable:literal),*])*
+        state $($value:literal)*
+        operators $operators:literal $([$($operator:literal),*])*
+        rules $rules:literal $([$($rule:literal),*])*
+    ) => {
+        task! {
+            metric 0
+            variables $variables
+                ["var0", -1, 3, "Atom at(hall)", "Atom at(attic)", "Atom at(garden)"]
+                ["var1", -1, 2, "Atom wings()", "NegatedAtom wings()"]
+                $([$($variable),*])*
+            groups 1
+                [3, "0 0", "0 1", "0 2"]
+            state $($value)*
+            goal 1 "0 2"
+            operators $operators
+                ["fly", 1, "1 0", 1, "0 0 0 1", 1]
+                $([$($operator),*])*
+                ["walk", 0, 1, "0 0 0 2", 1]
+            rules $rules
+                $([$($rule),*])*
+        }
+    };
+}
+
+/// From the hall one walks to the garden, and with wings flies to the attic. Nothing gives wings.
+pub(crate) const HALL: &str = hall! {
+    variables 2
+    state 0 1
+    operators 2
+    rules 0
+};
+
+/// The hall, where who rests in the garden has no wings then: an effect with a condition.
+pub(crate) const RESTING: &str = hall! {
+    variables 2
+    state 0 1
+    operators 3
+        ["rest", 0, 1, "1 0 2 1 -1 1", 1]
+    rules 0
+};
+
+/// The hall, where a rule says who is safe.
+pub(crate) const SAFE: &str = hall! {
+    variables 3
+        ["var2", 0, 2, "Atom safe()", "NegatedAtom safe()"]
+    state 0 1 1
+    operators 2
+    rules 1
+        [1, "0 2", "2 1 0"]
+};
 
 /// The task of a short text. Another text gives none, as where memory is wanting.
-pub(crate) fn task_of(alloc: Global, text: &[u8]) -> Result<SasTask, AllocError> {
+pub(crate) fn task_of(alloc: Global, text: &str) -> Result<SasTask, AllocError> {
     if text.len() >= 10_000 {
         return Err(AllocError);
     }
-    match read_task(alloc, text) {
+    match read_task(alloc, text.as_bytes()) {
         Ok(task) => Ok(task),
         Err(_) => Err(AllocError),
+    }
+}
+
+/// Whether this is the text of the task.
+pub(crate) fn has_text(alloc: Global, task: &SasTask, wanted: &str) -> Result<bool, AllocError> {
+    Ok(text_of(alloc, task)?.as_slice() == wanted.as_bytes())
+}
+
+/// Whether both tasks have one text.
+pub(crate) fn have_one_text(
+    alloc: Global,
+    task: &SasTask,
+    other: &SasTask,
+) -> Result<bool, AllocError> {
+    Ok(text_of(alloc, task)?.as_slice() == text_of(alloc, other)?.as_slice())
+}
+
+/// Whether passes of these kinds make a task of this text of the given one.
+pub(crate) fn gives(
+    alloc: Global,
+    book: &Book,
+    kinds: &[PassKind],
+    task: SasTask,
+    wanted: &str,
+) -> Result<bool, AllocError> {
+    match book.apply(alloc, kinds, task) {
+        Ok(new) => has_text(alloc, &new, wanted),
+        Err(_) => Ok(false),
     }
 }

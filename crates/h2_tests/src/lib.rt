@@ -1,7 +1,0 @@
-//! Tests of the h2 pass, worked by hand.
-//!
-//! They stand apart from the crate that they test, which would otherwise be proved once more with them.
-#![tactic(auto)]
-
-#[cfg(test)]
-mod house;
