@@ -1,12 +1,22 @@
-//! Tests of planning tasks over variables, what they mean and their text, worked by hand, and of the lists that they are
-//! made of.
+//! Tests of planning tasks over variables, worked by hand: the lists that they are made of, what they mean, their text as it
+//! is written and read back, and plans that are mapped back to their operators.
 //!
 //! They stand apart from the crates that they test, which would otherwise be proved once more with them.
 #![tactic(auto)]
 
 #[cfg(test)]
+mod first_faults;
+#[cfg(test)]
 mod items;
 #[cfg(test)]
+mod line_rules;
+#[cfg(test)]
 mod meaning;
+#[cfg(test)]
+mod planner_texts;
+#[cfg(test)]
+mod plans;
+#[cfg(test)]
+mod reading;
 #[cfg(test)]
 mod text;

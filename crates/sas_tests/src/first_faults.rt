@@ -1,6 +1,6 @@
 //! The text of the switch, a task with one variable and one operator.
 
-use crate::texts::{Refused, assert_refused, first_lines, is_read_as, is_refused, with_line};
+use crate::reading::{Refused, assert_refused, first_lines, is_read_as, is_refused, with_line};
 use sas_reader::SasPlace;
 use std::alloc::{AllocError, Global};
 use std::test::*;

@@ -1,6 +1,6 @@
 //! A text as the planner's own translator writes it: an operator without objects has a space at the end of its name.
 
-use crate::texts::{Refused, assert_refused, is_read_as, with_line};
+use crate::reading::{Refused, assert_refused, is_read_as, with_line};
 use sas_reader::SasPlace;
 use std::alloc::AllocError;
 use std::test::*;

@@ -2,7 +2,7 @@
 
 ghost use Rattle.std.specs.Prelude.{◌<◌};
 
-use crate::texts::{Refused, assert_refused, first_lines, is_read_as, is_refused, with_line};
+use crate::reading::{Refused, assert_refused, first_lines, is_read_as, is_refused, with_line};
 use sas_reader::SasPlace;
 use std::alloc::{AllocError, Global};
 use std::process::Abort;
