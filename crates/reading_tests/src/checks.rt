@@ -3,7 +3,12 @@
 ghost use Rattle.pddl_parser.specs.Spelled.{IsWellSpelled, IsWellSpelledProblem};
 
 use crate::reading::{domain_of, problem_of};
-use pddl_lexer::{At, Fault, Kind};
+use pddl_lexer::Kind::{
+    self, CostForm, DerivedWritten, DuplicateName, InitConflict, RecursiveDerived, TooManyParts,
+    TypeCycle, UnboundVariable, UnknownFunction, UnknownObject, UnknownPredicate, UnknownType,
+    ValueConflict, WrongArity,
+};
+use pddl_lexer::{At, Fault};
 use pddl_parser::{Domain, Problem};
 use std::alloc::Global;
 use std::test::*;
@@ -73,25 +78,17 @@ const ASTRAY: &str = "(define (problem astray) (:domain stray)
 // An earlier kind comes first, whichever file has it, and of one kind the domain's faults come first.
 static FILES: &[(&str, &str, Answer)] = &[
     (SWITCH, LAMP, None),
-    (
-        STRAY,
-        ASTRAY,
-        Some((Side::Domain, Kind::UnknownType, 2, 23)),
-    ),
-    (
-        SWITCH,
-        ASTRAY,
-        Some((Side::Problem, Kind::UnknownType, 2, 15)),
-    ),
+    (STRAY, ASTRAY, Some((Side::Domain, UnknownType, 2, 23))),
+    (SWITCH, ASTRAY, Some((Side::Problem, UnknownType, 2, 15))),
     (
         "(define (domain d) (:predicates (p) (p)))",
         "(define (problem p) (:domain d) (:init)\n(:goal (exists (?x - t) ())))",
-        Some((Side::Problem, Kind::UnknownType, 2, 22)),
+        Some((Side::Problem, UnknownType, 2, 22)),
     ),
     (
         "(define (domain d) (:types a - object\nb - c\nc - b))",
         LAMP,
-        Some((Side::Domain, Kind::TypeCycle, 2, 1)),
+        Some((Side::Domain, TypeCycle, 2, 1)),
     ),
     (
         "(define (domain d) (:types object - a a - object) (:constants c - a))",
@@ -101,7 +98,7 @@ static FILES: &[(&str, &str, Answer)] = &[
     (
         "(define (domain d) (:constants a))",
         "(define (problem p) (:domain d)\n(:objects b\na) (:init) (:goal ()))",
-        Some((Side::Problem, Kind::DuplicateName, 3, 1)),
+        Some((Side::Problem, DuplicateName, 3, 1)),
     ),
 ];
 
@@ -126,82 +123,57 @@ const DEVICE: &str = "(define (domain device)
 
 /// A further section of the device, from line 7 on, and its fault.
 static SECTIONS: &[(&str, Kind, u64, u64)] = &[
-    ("(:action b :parameters (?y - e))", Kind::UnknownType, 7, 30),
-    ("(:action go)", Kind::DuplicateName, 7, 10),
-    (
-        "(:action b :parameters (?x\n?x))",
-        Kind::DuplicateName,
-        8,
-        1,
-    ),
-    ("(:derived (dim) (on))", Kind::UnknownPredicate, 7, 12),
+    ("(:action b :parameters (?y - e))", UnknownType, 7, 30),
+    ("(:action go)", DuplicateName, 7, 10),
+    ("(:action b :parameters (?x\n?x))", DuplicateName, 8, 1),
+    ("(:derived (dim) (on))", UnknownPredicate, 7, 12),
     (
         "(:action b :effect (increase (cost) 1))",
-        Kind::UnknownFunction,
+        UnknownFunction,
         7,
         31,
     ),
-    ("(:action b :effect (at))", Kind::WrongArity, 7, 21),
+    ("(:action b :effect (at))", WrongArity, 7, 21),
     (
         "(:action b :effect (increase (total-cost x) 1))",
-        Kind::WrongArity,
+        WrongArity,
         7,
         31,
     ),
-    (
-        "(:action b :precondition\n (at x))",
-        Kind::UnknownObject,
-        8,
-        6,
-    ),
-    (
-        "(:action b :precondition\n (at ?y))",
-        Kind::UnboundVariable,
-        8,
-        6,
-    ),
+    ("(:action b :precondition\n (at x))", UnknownObject, 8, 6),
+    ("(:action b :precondition\n (at ?y))", UnboundVariable, 8, 6),
     (
         "(:action b :precondition (exists (?y) (at ?y)) :effect\n (at ?y))",
-        Kind::UnboundVariable,
+        UnboundVariable,
         8,
         6,
     ),
-    ("(:action b :effect (lit))", Kind::DerivedWritten, 7, 21),
-    (
-        "(:action b :effect (not (lit)))",
-        Kind::DerivedWritten,
-        7,
-        26,
-    ),
-    ("(:derived (on)\n(not (on)))", Kind::DerivedWritten, 6, 66),
+    ("(:action b :effect (lit))", DerivedWritten, 7, 21),
+    ("(:action b :effect (not (lit)))", DerivedWritten, 7, 26),
+    ("(:derived (on)\n(not (on)))", DerivedWritten, 6, 66),
     (
         "(:derived (at ?x) (not (lit)))\n(:derived (lit) (exists (?x) (at ?x)))",
-        Kind::RecursiveDerived,
+        RecursiveDerived,
         5,
         1,
     ),
-    ("(:derived (at ?x) (at ?x))", Kind::RecursiveDerived, 7, 1),
+    ("(:derived (at ?x) (at ?x))", RecursiveDerived, 7, 1),
     (
         "(:action b :effect (and (increase (total-cost) 1)\n (increase (total-cost) 1)))",
-        Kind::CostForm,
+        CostForm,
         8,
         2,
     ),
-    (
-        "(:action b :effect (increase (price) 1))",
-        Kind::CostForm,
-        7,
-        20,
-    ),
+    ("(:action b :effect (increase (price) 1))", CostForm, 7, 20),
     (
         "(:action b :effect (when (on)\n(increase (total-cost) 1)))",
-        Kind::CostForm,
+        CostForm,
         8,
         1,
     ),
     (
         "(:action b :effect (increase (total-cost) (total-cost)))",
-        Kind::CostForm,
+        CostForm,
         7,
         20,
     ),
@@ -227,33 +199,29 @@ static PROBLEMS: &[(&str, &str, Option<(Kind, u64, u64)>)] = &[
     (
         "(off)",
         "(exists (?z - f) (on))",
-        Some((Kind::UnknownType, 3, 22)),
+        Some((UnknownType, 3, 22)),
     ),
     ("(off)", "(forall (?z) (at ?z))", None),
-    ("(up)", "(down)", Some((Kind::UnknownPredicate, 2, 9))),
-    (
-        "",
-        "(and (on)\n (down))",
-        Some((Kind::UnknownPredicate, 4, 3)),
-    ),
-    ("(= (cost) 1)", "(on)", Some((Kind::UnknownFunction, 2, 12))),
+    ("(up)", "(down)", Some((UnknownPredicate, 2, 9))),
+    ("", "(and (on)\n (down))", Some((UnknownPredicate, 4, 3))),
+    ("(= (cost) 1)", "(on)", Some((UnknownFunction, 2, 12))),
     ("(= (total-cost) 1)", "(on)", None),
-    ("(= (price x) 1)", "(on)", Some((Kind::WrongArity, 2, 12))),
-    ("(on x)", "(on)", Some((Kind::WrongArity, 2, 9))),
-    ("(at x)", "(= y y)", Some((Kind::UnknownObject, 2, 12))),
-    ("", "(= y y)", Some((Kind::UnknownObject, 3, 11))),
-    ("", "(at ?z)", Some((Kind::UnboundVariable, 3, 12))),
-    ("(lit)", "(on)", Some((Kind::DerivedWritten, 2, 9))),
-    ("(not (lit))", "(lit)", Some((Kind::DerivedWritten, 2, 14))),
+    ("(= (price x) 1)", "(on)", Some((WrongArity, 2, 12))),
+    ("(on x)", "(on)", Some((WrongArity, 2, 9))),
+    ("(at x)", "(= y y)", Some((UnknownObject, 2, 12))),
+    ("", "(= y y)", Some((UnknownObject, 3, 11))),
+    ("", "(at ?z)", Some((UnboundVariable, 3, 12))),
+    ("(lit)", "(on)", Some((DerivedWritten, 2, 9))),
+    ("(not (lit))", "(lit)", Some((DerivedWritten, 2, 14))),
     (
         "(on)\n(not (on)) (not (off))",
         "(on)",
-        Some((Kind::InitConflict, 3, 1)),
+        Some((InitConflict, 3, 1)),
     ),
     (
         "(= (price) 1)\n(= (price) 1)\n(= (price) 2)",
         "(on)",
-        Some((Kind::ValueConflict, 4, 1)),
+        Some((ValueConflict, 4, 1)),
     ),
 ];
 
@@ -268,10 +236,7 @@ fn faults_of_a_problem(rt: HostRuntime) {
             "(define (problem p) (:domain device)\n(:init {init})\n(:goal {goal}))"
         ).ok()
             .expect(&rt, "memory");
-        let expected = match fault {
-            Some((kind, line, column)) => Some((Side::Problem, kind, line, column)),
-            None => None,
-        };
+        let expected = fault.map(|(kind, line, column)| (Side::Problem, kind, line, column));
         assert!(rt;
             is_checked(rt.alloc(), &domain, &problem, expected),
             "{init} {goal}"
@@ -340,10 +305,7 @@ fn more_than_4096_parts_are_too_many(rt: HostRuntime) {
             "{DEVICE}\n{before}{EIGHT}{EIGHT}{EIGHT}{EIGHT}{after})"
         ).ok()
             .expect(&rt, "memory");
-        let expected = match fault {
-            Some((line, column)) => Some((Side::Domain, Kind::TooManyParts, line, column)),
-            None => None,
-        };
+        let expected = fault.map(|(line, column)| (Side::Domain, TooManyParts, line, column));
         assert!(rt;
             is_checked(rt.alloc(), &domain, LAMP, expected),
             "{before} {after}"
@@ -357,6 +319,6 @@ fn a_goal_of_too_many_parts(rt: HostRuntime) {
         "(define (problem p) (:domain d) (:init)\n(:goal (and (or (on) (on)) {EIGHT}{EIGHT}{EIGHT}{EIGHT})))"
     ).ok()
         .expect(&rt, "memory");
-    let expected = Some((Side::Problem, Kind::TooManyParts, 2, 8));
+    let expected = Some((Side::Problem, TooManyParts, 2, 8));
     assert!(rt; is_checked(rt.alloc(), SWITCH, &goal, expected));
 }
