@@ -3,6 +3,36 @@
 use command_line::{Accepted, Settings, Source, read_words};
 use std::alloc::{AllocError, Global};
 
+/// What the files `d` and `p` ask for, and nothing else.
+const PLAIN: Accepted<'static> = Accepted {
+    source: Source::Files {
+        domain: "d",
+        problem: "p",
+    },
+    settings: Settings {
+        max_candidates: 100_000,
+        full_encoding: false,
+    },
+    output: "output.sas",
+    plan: None,
+    passes: None,
+};
+
+/// The same with whole groups.
+const WHOLE: Accepted<'static> = Accepted {
+    settings: Settings {
+        max_candidates: 100_000,
+        full_encoding: true,
+    },
+    ..PLAIN
+};
+
+/// What the written task `t` asks for, and nothing else.
+const WRITTEN: Accepted<'static> = Accepted {
+    source: Source::WrittenTask { file: "t" },
+    ..PLAIN
+};
+
 /// Lines that are refused.
 static REFUSED: [&str; 70] = [
     // No word at all.
@@ -195,88 +225,76 @@ static ACCEPTED_PASSES: [(&str, &str); 6] = [
     ("translate d p --pass none", "none"),
 ];
 
-/// Lines that ask for whole groups, with the number of balls of the made texts.
-static ACCEPTED_WHOLE: [(&str, Option<u32>); 4] = [
-    ("translate d p --full-encoding", None),
-    ("translate --full-encoding d p", None),
-    ("translate --full-encoding -- d p", None),
-    ("translate --make 4 --full-encoding", Some(4)),
+/// Lines that ask for whole groups.
+static ACCEPTED_WHOLE: [(&str, Accepted<'static>); 4] = [
+    ("translate d p --full-encoding", WHOLE),
+    ("translate --full-encoding d p", WHOLE),
+    ("translate --full-encoding -- d p", WHOLE),
+    (
+        "translate --make 4 --full-encoding",
+        Accepted {
+            source: Source::Made { balls: 4 },
+            ..WHOLE
+        },
+    ),
 ];
 
-/// Lines with a written task that are accepted, with what they ask for but the source and whole groups: the task's file, the
-/// output, the plan file, the passes and the number of candidates.
-static ACCEPTED_TASKS: [(&str, &str, &str, Option<&str>, Option<&str>, u32); 9] = [
-    (
-        "translate --from-sas t",
-        "t",
-        "output.sas",
-        None,
-        None,
-        100_000,
-    ),
-    (
-        "translate --from-sas=t",
-        "t",
-        "output.sas",
-        None,
-        None,
-        100_000,
-    ),
+/// Lines with a written task that are accepted.
+static ACCEPTED_TASKS: [(&str, Accepted<'static>); 10] = [
+    ("translate --from-sas t", WRITTEN),
+    ("translate --from-sas=t", WRITTEN),
     (
         "translate --from-sas -",
-        "-",
-        "output.sas",
-        None,
-        None,
-        100_000,
+        Accepted {
+            source: Source::WrittenTask { file: "-" },
+            ..PLAIN
+        },
     ),
     (
         "translate --from-sas=",
-        "",
-        "output.sas",
-        None,
-        None,
-        100_000,
+        Accepted {
+            source: Source::WrittenTask { file: "" },
+            ..PLAIN
+        },
     ),
-    (
-        "translate --from-sas t --",
-        "t",
-        "output.sas",
-        None,
-        None,
-        100_000,
-    ),
+    ("translate --from-sas t --", WRITTEN),
     (
         "translate --sas-file t --from-sas t",
-        "t",
-        "t",
-        None,
-        None,
-        100_000,
+        Accepted {
+            output: "t",
+            ..WRITTEN
+        },
     ),
     (
         "translate --from-sas t --map-plan f",
-        "t",
-        "output.sas",
-        Some("f"),
-        None,
-        100_000,
+        Accepted {
+            plan: Some("f"),
+            ..WRITTEN
+        },
     ),
     (
         "translate --pass order --from-sas t",
-        "t",
-        "output.sas",
-        None,
-        Some("order"),
-        100_000,
+        Accepted {
+            passes: Some("order"),
+            ..WRITTEN
+        },
     ),
     (
         "translate --from-sas t --invariant-generation-max-candidates 7",
-        "t",
-        "output.sas",
-        None,
-        None,
-        7,
+        Accepted {
+            settings: Settings {
+                max_candidates: 7,
+                full_encoding: false,
+            },
+            ..WRITTEN
+        },
+    ),
+    (
+        "translate --from-sas t --full-encoding",
+        Accepted {
+            source: Source::WrittenTask { file: "t" },
+            ..WHOLE
+        },
     ),
 ];
 
@@ -304,13 +322,8 @@ fn accepts(rt: HostRuntime) -> Result<(), AllocError> {
     for (line, domain, problem, output) in ACCEPTED {
         let wanted = Accepted {
             source: Source::Files { domain, problem },
-            settings: Settings {
-                max_candidates: 100_000,
-                full_encoding: false,
-            },
             output,
-            plan: None,
-            passes: None,
+            ..PLAIN
         };
         assert!(rt; reads(rt.alloc(), line, Some(wanted))?, "{line}");
     }
@@ -320,19 +333,8 @@ fn accepts(rt: HostRuntime) -> Result<(), AllocError> {
 #[test]
 fn accepts_numbers(rt: HostRuntime) -> Result<(), AllocError> {
     for (digits, max_candidates) in ACCEPTED_NUMBERS {
-        let wanted = Accepted {
-            source: Source::Files {
-                domain: "d",
-                problem: "p",
-            },
-            settings: Settings {
-                max_candidates,
-                full_encoding: false,
-            },
-            output: "output.sas",
-            plan: None,
-            passes: None,
-        };
+        let mut wanted = PLAIN;
+        wanted.settings.max_candidates = max_candidates;
         assert!(rt;
             reads_number(rt.alloc(), &BEFORE_A_NUMBER, digits, Some(wanted))?,
             "{digits}"
@@ -341,38 +343,19 @@ fn accepts_numbers(rt: HostRuntime) -> Result<(), AllocError> {
     Ok(())
 }
 
-/// The made texts with this number of balls, or the files `d` and `p`, and this plan file.
-fn asked<'a>(balls: Option<u32>, plan: Option<&'a str>) -> Accepted<'a> {
-    let source = match balls {
-        Some(balls) => Source::Made { balls },
-        None => Source::Files {
-            domain: "d",
-            problem: "p",
-        },
-    };
-    Accepted {
-        source,
-        settings: Settings {
-            max_candidates: 100_000,
-            full_encoding: false,
-        },
-        output: "output.sas",
-        plan,
-        passes: None,
-    }
-}
-
 #[test]
 fn accepts_balls(rt: HostRuntime) -> Result<(), AllocError> {
+    let mut wanted = PLAIN;
     for (digits, balls) in ACCEPTED_BALLS {
-        let wanted = Some(asked(Some(balls), None));
+        wanted.source = Source::Made { balls };
         assert!(rt;
-            reads_number(rt.alloc(), &BEFORE_BALLS, digits, wanted)?,
+            reads_number(rt.alloc(), &BEFORE_BALLS, digits, Some(wanted))?,
             "{digits}"
         );
     }
-    let wanted = Some(asked(Some(4), Some("f")));
-    assert!(rt; reads(rt.alloc(), "translate --map-plan f --make 4", wanted)?);
+    wanted.source = Source::Made { balls: 4 };
+    wanted.plan = Some("f");
+    assert!(rt; reads(rt.alloc(), "translate --map-plan f --make 4", Some(wanted))?);
     Ok(())
 }
 
@@ -390,10 +373,9 @@ fn refuses_balls(rt: HostRuntime) -> Result<(), AllocError> {
 #[test]
 fn accepts_plans(rt: HostRuntime) -> Result<(), AllocError> {
     for (line, plan) in ACCEPTED_PLANS {
-        assert!(rt;
-            reads(rt.alloc(), line, Some(asked(None, Some(plan))))?,
-            "{line}"
-        );
+        let mut wanted = PLAIN;
+        wanted.plan = Some(plan);
+        assert!(rt; reads(rt.alloc(), line, Some(wanted))?, "{line}");
     }
     Ok(())
 }
@@ -401,7 +383,7 @@ fn accepts_plans(rt: HostRuntime) -> Result<(), AllocError> {
 #[test]
 fn accepts_passes(rt: HostRuntime) -> Result<(), AllocError> {
     for (line, passes) in ACCEPTED_PASSES {
-        let mut wanted = asked(None, None);
+        let mut wanted = PLAIN;
         wanted.passes = Some(passes);
         assert!(rt; reads(rt.alloc(), line, Some(wanted))?, "{line}");
     }
@@ -410,9 +392,7 @@ fn accepts_passes(rt: HostRuntime) -> Result<(), AllocError> {
 
 #[test]
 fn accepts_whole_groups(rt: HostRuntime) -> Result<(), AllocError> {
-    for (line, balls) in ACCEPTED_WHOLE {
-        let mut wanted = asked(balls, None);
-        wanted.settings.full_encoding = true;
+    for (line, wanted) in ACCEPTED_WHOLE {
         assert!(rt; reads(rt.alloc(), line, Some(wanted))?, "{line}");
     }
     Ok(())
@@ -420,29 +400,9 @@ fn accepts_whole_groups(rt: HostRuntime) -> Result<(), AllocError> {
 
 #[test]
 fn accepts_written_tasks(rt: HostRuntime) -> Result<(), AllocError> {
-    for (line, file, output, plan, passes, max_candidates) in ACCEPTED_TASKS {
-        let wanted = Accepted {
-            source: Source::WrittenTask { file },
-            settings: Settings {
-                max_candidates,
-                full_encoding: false,
-            },
-            output,
-            plan,
-            passes,
-        };
+    for (line, wanted) in ACCEPTED_TASKS {
         assert!(rt; reads(rt.alloc(), line, Some(wanted))?, "{line}");
     }
-    let mut whole = asked(None, None);
-    whole.source = Source::WrittenTask { file: "t" };
-    whole.settings.full_encoding = true;
-    assert!(rt;
-        reads(
-            rt.alloc(),
-            "translate --from-sas t --full-encoding",
-            Some(whole)
-        )?
-    );
     Ok(())
 }
 
