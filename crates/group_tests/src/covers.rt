@@ -3,6 +3,7 @@
 use group_cover::{Groups, cover};
 use lists::List;
 use std::alloc::{AllocError, Global};
+use std::process::Abort;
 use std::test::*;
 
 fn rows(alloc: Global, rows: &[&[u64]]) -> Result<List<List<u64>>, AllocError> {
@@ -12,6 +13,9 @@ fn rows(alloc: Global, rows: &[&[u64]]) -> Result<List<List<u64>>, AllocError> {
     }
     Ok(List::from_vec(lists))
 }
+
+/// How many facts there are, the groups, and the sets of the cover.
+type Row = (u64, &'static [&'static [u64]], &'static [&'static [u64]]);
 
 /// Whether these are the sets of the cover, or of that with whole groups.
 fn has_sets(
@@ -28,106 +32,99 @@ fn has_sets(
     Ok(cover.sets == rows(alloc, sets)?)
 }
 
-/// Whether these are the sets of the cover.
-fn are_sets(
-    alloc: Global,
-    facts: u64,
-    groups: &[&[u64]],
-    sets: &[&[u64]],
-) -> Result<bool, AllocError> {
-    has_sets(alloc, facts, groups, false, sets)
+fn assert_sets(rt: &impl Abort, alloc: Global, full: bool, rows: &[Row]) -> Result<(), AllocError> {
+    for row in rows {
+        let (facts, groups, sets) = *row;
+        assert!(rt;
+            has_sets(alloc, facts, groups, full, sets)?,
+            "{facts} {groups:?}"
+        );
+    }
+    Ok(())
 }
 
-/// Whether these are the sets of the cover with whole groups.
-fn are_whole_sets(
-    alloc: Global,
-    facts: u64,
-    groups: &[&[u64]],
-    sets: &[&[u64]],
-) -> Result<bool, AllocError> {
-    has_sets(alloc, facts, groups, true, sets)
-}
+const ALONE: &[&[u64]] = &[&[0], &[1], &[2]];
+
+static NO_GROUPS: [Row; 3] = [(0, &[], &[]), (3, &[], ALONE), (3, &[&[1]], ALONE)];
 
 #[test]
 fn facts_of_no_group_stand_alone(rt: HostRuntime) -> Result<(), AllocError> {
-    let alone: &[&[u64]] = &[&[0], &[1], &[2]];
-    assert!(rt; are_sets(rt.alloc(), 0, &[], &[])?);
-    assert!(rt; are_sets(rt.alloc(), 3, &[], alone)?);
-    assert!(rt; are_sets(rt.alloc(), 3, &[&[1]], alone)?);
-    Ok(())
+    assert_sets(&rt, rt.alloc(), false, &NO_GROUPS)
 }
+
+const OVERLAPPING: &[&[u64]] = &[&[0, 1, 2, 3], &[2, 3, 4, 5], &[1, 4, 5]];
+
+static LARGEST: [Row; 2] = [
+    (4, &[&[0, 1], &[1, 2, 3]], &[&[1, 2, 3], &[0]]),
+    // After the first group, the other two have the same two uncovered facts, and only one of them is taken.
+    (7, OVERLAPPING, &[&[0, 1, 2, 3], &[4, 5], &[6]]),
+];
 
 #[test]
 fn the_largest_uncovered_part_is_taken(rt: HostRuntime) -> Result<(), AllocError> {
-    let pair_and_three: &[&[u64]] = &[&[0, 1], &[1, 2, 3]];
-    assert!(rt; are_sets(rt.alloc(), 4, pair_and_three, &[&[1, 2, 3], &[0]])?);
-
-    // After the first group, the other two have the same two uncovered facts, and only one of them is taken.
-    let overlapping: &[&[u64]] = &[&[0, 1, 2, 3], &[2, 3, 4, 5], &[1, 4, 5]];
-    let taken: &[&[u64]] = &[&[0, 1, 2, 3], &[4, 5], &[6]];
-    assert!(rt; are_sets(rt.alloc(), 7, overlapping, taken)?);
-
-    let many: Vec<u64> = (0..12_000).collect(rt.alloc())?;
-    assert!(rt;
-        are_sets(
-            rt.alloc(),
-            12_001,
-            &[many.as_slice()],
-            &[many.as_slice(), &[12_000]]
-        )?
-    );
+    let alloc = rt.alloc();
+    assert_sets(&rt, alloc, false, &LARGEST)?;
+    let many: Vec<u64> = (0..12_000).collect(alloc)?;
+    let many = many.as_slice();
+    assert!(rt; has_sets(alloc, 12_001, &[many], false, &[many, &[12_000]])?);
     Ok(())
 }
+
+const TIED: &[&[u64]] = &[&[0, 1, 2], &[1, 4, 5], &[0, 6, 7]];
+
+static EQUAL: [Row; 2] = [
+    (6, &[&[2, 4], &[0, 5]], &[&[0, 5], &[2, 4], &[1], &[3]]),
+    // With as many uncovered facts, the whole lists are compared, covered facts and all.
+    (8, TIED, &[&[0, 1, 2], &[6, 7], &[4, 5], &[3]]),
+];
 
 #[test]
 fn of_equal_counts_the_first_list_is_taken(rt: HostRuntime) -> Result<(), AllocError> {
-    let apart: &[&[u64]] = &[&[2, 4], &[0, 5]];
-    assert!(rt; are_sets(rt.alloc(), 6, apart, &[&[0, 5], &[2, 4], &[1], &[3]])?);
-
-    // With as many uncovered facts, the whole lists are compared, covered facts and all.
-    let tied: &[&[u64]] = &[&[0, 1, 2], &[1, 4, 5], &[0, 6, 7]];
-    assert!(rt; are_sets(rt.alloc(), 8, tied, &[&[0, 1, 2], &[6, 7], &[4, 5], &[3]])?);
-    Ok(())
+    assert_sets(&rt, rt.alloc(), false, &EQUAL)
 }
+
+const THREE: &[&[u64]] = &[&[0, 1, 2], &[0, 3, 4], &[0, 5, 6]];
+
+static THREE_PARTS: [Row; 1] = [(7, THREE, &[&[0, 1, 2], &[3, 4], &[5, 6]])];
+
+static WHOLE: [Row; 2] = [
+    (7, THREE, THREE),
+    // The second group is as long as the first, but has fewer uncovered facts than the third.
+    (
+        10,
+        &[&[0, 1, 2, 3, 4], &[0, 1, 2, 5, 6], &[7, 8, 9]],
+        &[&[0, 1, 2, 3, 4], &[7, 8, 9], &[0, 1, 2, 5, 6]],
+    ),
+];
 
 #[test]
 fn a_fact_stands_in_each_whole_group_that_is_taken(rt: HostRuntime) -> Result<(), AllocError> {
-    let three: &[&[u64]] = &[&[0, 1, 2], &[0, 3, 4], &[0, 5, 6]];
-    assert!(rt; are_whole_sets(rt.alloc(), 7, three, three)?);
-    assert!(rt; are_sets(rt.alloc(), 7, three, &[&[0, 1, 2], &[3, 4], &[5, 6]])?);
-
-    // The second group is as long as the first, but has fewer uncovered facts than the third.
-    let shorter: &[&[u64]] = &[&[0, 1, 2, 3, 4], &[0, 1, 2, 5, 6], &[7, 8, 9]];
-    let taken: &[&[u64]] = &[&[0, 1, 2, 3, 4], &[7, 8, 9], &[0, 1, 2, 5, 6]];
-    assert!(rt; are_whole_sets(rt.alloc(), 10, shorter, taken)?);
-    Ok(())
+    assert_sets(&rt, rt.alloc(), true, &WHOLE)?;
+    assert_sets(&rt, rt.alloc(), false, &THREE_PARTS)
 }
+
+static EQUAL_WHOLE: [Row; 2] = [
+    (8, TIED, &[&[0, 1, 2], &[0, 6, 7], &[1, 4, 5], &[3]]),
+    // Two groups have the same two uncovered facts: the second of them has none when the first is taken.
+    (7, OVERLAPPING, &[&[0, 1, 2, 3], &[1, 4, 5], &[6]]),
+];
 
 #[test]
 fn of_equal_counts_the_first_whole_list_is_taken(rt: HostRuntime) -> Result<(), AllocError> {
-    let tied: &[&[u64]] = &[&[0, 1, 2], &[1, 4, 5], &[0, 6, 7]];
-    let taken: &[&[u64]] = &[&[0, 1, 2], &[0, 6, 7], &[1, 4, 5], &[3]];
-    assert!(rt; are_whole_sets(rt.alloc(), 8, tied, taken)?);
-
-    // Two groups have the same two uncovered facts: the second of them has none when the first is taken.
-    let overlapping: &[&[u64]] = &[&[0, 1, 2, 3], &[2, 3, 4, 5], &[1, 4, 5]];
-    let kept: &[&[u64]] = &[&[0, 1, 2, 3], &[1, 4, 5], &[6]];
-    assert!(rt; are_whole_sets(rt.alloc(), 7, overlapping, kept)?);
-    Ok(())
+    assert_sets(&rt, rt.alloc(), true, &EQUAL_WHOLE)
 }
+
+static FEW_UNCOVERED: [Row; 3] = [
+    // A group that stands there twice, or inside another, is taken once, and a last fact stands alone.
+    (2, &[&[0, 1], &[0, 1]], &[&[0, 1]]),
+    (3, &[&[1, 2], &[0, 1, 2]], &[&[0, 1, 2]]),
+    (4, &[&[0, 1, 2], &[2, 3]], &[&[0, 1, 2], &[3]]),
+];
 
 #[test]
 fn no_whole_group_is_taken_without_two_uncovered_facts(rt: HostRuntime) -> Result<(), AllocError> {
-    let alone: &[&[u64]] = &[&[0], &[1], &[2]];
-    assert!(rt; are_whole_sets(rt.alloc(), 0, &[], &[])?);
-    assert!(rt; are_whole_sets(rt.alloc(), 3, &[], alone)?);
-    assert!(rt; are_whole_sets(rt.alloc(), 3, &[&[1]], alone)?);
-
-    // A group that stands there twice, or inside another, is taken once, and a last fact stands alone.
-    assert!(rt; are_whole_sets(rt.alloc(), 2, &[&[0, 1], &[0, 1]], &[&[0, 1]])?);
-    assert!(rt; are_whole_sets(rt.alloc(), 3, &[&[1, 2], &[0, 1, 2]], &[&[0, 1, 2]])?);
-    assert!(rt; are_whole_sets(rt.alloc(), 4, &[&[0, 1, 2], &[2, 3]], &[&[0, 1, 2], &[3]])?);
-    Ok(())
+    assert_sets(&rt, rt.alloc(), true, &NO_GROUPS)?;
+    assert_sets(&rt, rt.alloc(), true, &FEW_UNCOVERED)
 }
 
 #[test]

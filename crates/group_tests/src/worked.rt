@@ -39,11 +39,9 @@ fn are_groups(grouped: &Grouped, rows: &[Names]) -> bool {
         && rows.iter().all(|names| is_among(grouped.reached.facts.as_slice(), groups, names))
 }
 
-fn has_groups(alloc: Global, domain: &str, problem: &str, rows: &[Names]) -> bool {
-    match grouped_of(alloc, domain, problem) {
-        Some(grouped) => are_groups(&grouped, rows),
-        None => false,
-    }
+fn has_groups(alloc: Global, row: &Row) -> Option<bool> {
+    let grouped = grouped_of(alloc, row.domain, row.problem)?;
+    Some(are_groups(&grouped, row.groups))
 }
 
 /// Whether the sets are those of the rows, in their order.
@@ -55,19 +53,15 @@ fn are_sets(facts: &[Fact], sets: &[List<u64>], rows: &[Names]) -> bool {
             .all(|(set, names)| has_names(facts, set.as_slice(), names))
 }
 
-fn has_cover(alloc: Global, domain: &str, problem: &str, rows: &[Names]) -> bool {
-    match grouped_of(alloc, domain, problem) {
-        Some(grouped) => is_covered(alloc, &grouped, rows),
-        None => false,
-    }
+fn is_covered(alloc: Global, grouped: &Grouped, rows: &[Names]) -> Option<bool> {
+    let facts = grouped.reached.facts.as_slice();
+    let cover = cover(alloc, facts.len() as u64, &grouped.groups, false).ok()?;
+    Some(are_sets(facts, cover.sets.as_slice(), rows))
 }
 
-fn is_covered(alloc: Global, grouped: &Grouped, rows: &[Names]) -> bool {
-    let facts = grouped.reached.facts.as_slice();
-    match cover(alloc, facts.len() as u64, &grouped.groups, false) {
-        Ok(cover) => are_sets(facts, cover.sets.as_slice(), rows),
-        Err(_) => false,
-    }
+fn has_cover(alloc: Global, domain: &str, problem: &str, rows: &[Names]) -> Option<bool> {
+    let grouped = grouped_of(alloc, domain, problem)?;
+    is_covered(alloc, &grouped, rows)
 }
 
 /// A pair of texts, and the groups of the candidates that are accepted.
@@ -76,6 +70,24 @@ struct Row {
     problem: &'static str,
     groups: &'static [Names],
 }
+
+/// The robot's room.
+const ROOM: Names = &["at-robby(rooma)", "at-robby(roomb)"];
+
+/// A ball's room or gripper.
+const FIRST_BALL: Names = &[
+    "at(ball1, rooma)",
+    "at(ball1, roomb)",
+    "carry(ball1, left)",
+    "carry(ball1, right)",
+];
+
+const SECOND_BALL: Names = &[
+    "at(ball2, rooma)",
+    "at(ball2, roomb)",
+    "carry(ball2, left)",
+    "carry(ball2, right)",
+];
 
 static ROWS: [Row; 6] = [
     // Accepted are off alone, which nothing adds, and on with off. Off is true at the start, so both weigh one.
@@ -143,19 +155,9 @@ static ROWS: [Row; 6] = [
         domain: GRIPPER,
         problem: BALLS,
         groups: &[
-            &["at-robby(rooma)", "at-robby(roomb)"],
-            &[
-                "at(ball1, rooma)",
-                "at(ball1, roomb)",
-                "carry(ball1, left)",
-                "carry(ball1, right)",
-            ],
-            &[
-                "at(ball2, rooma)",
-                "at(ball2, roomb)",
-                "carry(ball2, left)",
-                "carry(ball2, right)",
-            ],
+            ROOM,
+            FIRST_BALL,
+            SECOND_BALL,
             &["free(left)", "carry(ball1, left)", "carry(ball2, left)"],
             &["free(right)", "carry(ball1, right)", "carry(ball2, right)"],
         ],
@@ -165,39 +167,21 @@ static ROWS: [Row; 6] = [
 #[test]
 fn groups_are_those_of_instances_that_weigh_one(rt: HostRuntime) {
     for (number, row) in ROWS.iter().enumerate() {
-        assert!(rt;
-            has_groups(rt.alloc(), row.domain, row.problem, row.groups),
-            "row {number}"
-        );
+        assert!(rt; has_groups(rt.alloc(), row) == Some(true), "row {number}");
     }
 }
 
+/// The balls' groups have four facts, and that of ball1 comes first. Then each gripper's group has one fact left, so the
+/// room is next, and the free grippers stand alone.
+static COVER: [Names; 5] = [
+    FIRST_BALL,
+    SECOND_BALL,
+    ROOM,
+    &["free(left)"],
+    &["free(right)"],
+];
+
 #[test]
 fn a_cover_of_groups_takes_the_largest_first(rt: HostRuntime) {
-    // The balls' groups have four facts, and that of ball1 comes first. Then each gripper's group has one fact left, so the
-    // room is next, and the free grippers stand alone.
-    assert!(rt;
-        has_cover(
-            rt.alloc(),
-            GRIPPER,
-            BALLS,
-            &[
-                &[
-                    "at(ball1, rooma)",
-                    "at(ball1, roomb)",
-                    "carry(ball1, left)",
-                    "carry(ball1, right)"
-                ],
-                &[
-                    "at(ball2, rooma)",
-                    "at(ball2, roomb)",
-                    "carry(ball2, left)",
-                    "carry(ball2, right)"
-                ],
-                &["at-robby(rooma)", "at-robby(roomb)"],
-                &["free(left)"],
-                &["free(right)"],
-            ]
-        )
-    );
+    assert!(rt; has_cover(rt.alloc(), GRIPPER, BALLS, &COVER) == Some(true));
 }
