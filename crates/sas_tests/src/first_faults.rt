@@ -1,4 +1,4 @@
-//! The text of the switch, a task with one variable and one operator.
+//! The text of the switch, a task with one variable and one operator, and the first line at fault where it is changed or cut.
 
 use crate::reading::{Refused, assert_refused, first_lines, is_read_as, is_refused, with_line};
 use sas_reader::SasPlace;
