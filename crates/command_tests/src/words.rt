@@ -2,6 +2,7 @@
 
 use command_line::{Accepted, Settings, Source, read_words};
 use std::alloc::{AllocError, Global};
+use std::process::Abort;
 
 /// What the files `d` and `p` ask for, and nothing else.
 const PLAIN: Accepted<'static> = Accepted {
@@ -205,6 +206,16 @@ static BEFORE_BALLS: [&str; 2] = ["translate --make ", "translate --make="];
 /// Numbers of balls that are accepted.
 static ACCEPTED_BALLS: [(&str, u32); 4] = [("1", 1), ("4", 4), ("0004", 4), ("200", 200)];
 
+/// A line with a number of balls and a plan file.
+static ACCEPTED_MADE: [(&str, Accepted<'static>); 1] = [(
+    "translate --map-plan f --make 4",
+    Accepted {
+        source: Source::Made { balls: 4 },
+        plan: Some("f"),
+        ..PLAIN
+    },
+)];
+
 /// Lines with a plan file that are accepted, with its name.
 static ACCEPTED_PLANS: [(&str, &str); 6] = [
     ("translate d p --map-plan f", "f"),
@@ -300,7 +311,7 @@ static ACCEPTED_TASKS: [(&str, Accepted<'static>); 10] = [
 
 #[test]
 fn refuses(rt: HostRuntime) -> Result<(), AllocError> {
-    for line in REFUSED {
+    for line in &REFUSED {
         assert!(rt; reads(rt.alloc(), line, None)?, "{line}");
     }
     Ok(())
@@ -308,18 +319,13 @@ fn refuses(rt: HostRuntime) -> Result<(), AllocError> {
 
 #[test]
 fn refuses_numbers(rt: HostRuntime) -> Result<(), AllocError> {
-    for digits in REFUSED_NUMBERS {
-        assert!(rt;
-            reads_number(rt.alloc(), &BEFORE_A_NUMBER, digits, None)?,
-            "{digits}"
-        );
-    }
-    Ok(())
+    assert_refused(&rt, rt.alloc(), &BEFORE_A_NUMBER, &REFUSED_NUMBERS)
 }
 
 #[test]
 fn accepts(rt: HostRuntime) -> Result<(), AllocError> {
-    for (line, domain, problem, output) in ACCEPTED {
+    for row in &ACCEPTED {
+        let (line, domain, problem, output) = *row;
         let wanted = Accepted {
             source: Source::Files { domain, problem },
             output,
@@ -332,12 +338,13 @@ fn accepts(rt: HostRuntime) -> Result<(), AllocError> {
 
 #[test]
 fn accepts_numbers(rt: HostRuntime) -> Result<(), AllocError> {
-    for (digits, max_candidates) in ACCEPTED_NUMBERS {
+    for row in &ACCEPTED_NUMBERS {
         let mut wanted = PLAIN;
-        wanted.settings.max_candidates = max_candidates;
+        wanted.settings.max_candidates = row.1;
         assert!(rt;
-            reads_number(rt.alloc(), &BEFORE_A_NUMBER, digits, Some(wanted))?,
-            "{digits}"
+            reads_number(rt.alloc(), &BEFORE_A_NUMBER, row.0, Some(wanted))?,
+            "{}",
+            row.0
         );
     }
     Ok(())
@@ -345,63 +352,74 @@ fn accepts_numbers(rt: HostRuntime) -> Result<(), AllocError> {
 
 #[test]
 fn accepts_balls(rt: HostRuntime) -> Result<(), AllocError> {
-    let mut wanted = PLAIN;
-    for (digits, balls) in ACCEPTED_BALLS {
-        wanted.source = Source::Made { balls };
+    for row in &ACCEPTED_BALLS {
+        let mut wanted = PLAIN;
+        wanted.source = Source::Made { balls: row.1 };
         assert!(rt;
-            reads_number(rt.alloc(), &BEFORE_BALLS, digits, Some(wanted))?,
-            "{digits}"
+            reads_number(rt.alloc(), &BEFORE_BALLS, row.0, Some(wanted))?,
+            "{}",
+            row.0
         );
     }
-    wanted.source = Source::Made { balls: 4 };
-    wanted.plan = Some("f");
-    assert!(rt; reads(rt.alloc(), "translate --map-plan f --make 4", Some(wanted))?);
-    Ok(())
+    assert_read(&rt, rt.alloc(), &ACCEPTED_MADE)
 }
 
 #[test]
 fn refuses_balls(rt: HostRuntime) -> Result<(), AllocError> {
-    for digits in REFUSED_BALLS {
-        assert!(rt;
-            reads_number(rt.alloc(), &BEFORE_BALLS, digits, None)?,
-            "{digits}"
-        );
-    }
-    Ok(())
+    assert_refused(&rt, rt.alloc(), &BEFORE_BALLS, &REFUSED_BALLS)
 }
 
 #[test]
 fn accepts_plans(rt: HostRuntime) -> Result<(), AllocError> {
-    for (line, plan) in ACCEPTED_PLANS {
+    for row in &ACCEPTED_PLANS {
         let mut wanted = PLAIN;
-        wanted.plan = Some(plan);
-        assert!(rt; reads(rt.alloc(), line, Some(wanted))?, "{line}");
+        wanted.plan = Some(row.1);
+        assert!(rt; reads(rt.alloc(), row.0, Some(wanted))?, "{}", row.0);
     }
     Ok(())
 }
 
 #[test]
 fn accepts_passes(rt: HostRuntime) -> Result<(), AllocError> {
-    for (line, passes) in ACCEPTED_PASSES {
+    for row in &ACCEPTED_PASSES {
         let mut wanted = PLAIN;
-        wanted.passes = Some(passes);
-        assert!(rt; reads(rt.alloc(), line, Some(wanted))?, "{line}");
+        wanted.passes = Some(row.1);
+        assert!(rt; reads(rt.alloc(), row.0, Some(wanted))?, "{}", row.0);
     }
     Ok(())
 }
 
 #[test]
 fn accepts_whole_groups(rt: HostRuntime) -> Result<(), AllocError> {
-    for (line, wanted) in ACCEPTED_WHOLE {
-        assert!(rt; reads(rt.alloc(), line, Some(wanted))?, "{line}");
-    }
-    Ok(())
+    assert_read(&rt, rt.alloc(), &ACCEPTED_WHOLE)
 }
 
 #[test]
 fn accepts_written_tasks(rt: HostRuntime) -> Result<(), AllocError> {
-    for (line, wanted) in ACCEPTED_TASKS {
-        assert!(rt; reads(rt.alloc(), line, Some(wanted))?, "{line}");
+    assert_read(&rt, rt.alloc(), &ACCEPTED_TASKS)
+}
+
+/// Asserts that each line is read as its row says.
+fn assert_read(
+    rt: &impl Abort,
+    alloc: Global,
+    rows: &[(&str, Accepted<'_>)],
+) -> Result<(), AllocError> {
+    for row in rows {
+        assert!(rt; reads(alloc, row.0, Some(row.1))?, "{}", row.0);
+    }
+    Ok(())
+}
+
+/// Asserts that both lines with these fronts and a number are refused, for each of the numbers.
+fn assert_refused(
+    rt: &impl Abort,
+    alloc: Global,
+    fronts: &[&str; 2],
+    numbers: &[&str],
+) -> Result<(), AllocError> {
+    for digits in numbers {
+        assert!(rt; reads_number(alloc, fronts, digits, None)?, "{digits}");
     }
     Ok(())
 }

@@ -5,6 +5,7 @@ use order_variables::order_variables;
 use pass_book::{AddEnd, ApplyEnd, Book, Pass, PassKind};
 use sas_examples::{room, switch};
 use sas_task::SasTask;
+use sas_writer::text_of;
 use std::alloc::{AllocError, Global};
 use std::test::*;
 
@@ -43,36 +44,41 @@ const REORDERED: &str = task! {
         [1, "0 0", "1 1 0"]
 };
 
-fn copies_have_one_text(alloc: Global, task: &SasTask) -> Result<bool, AllocError> {
+/// Whether a copy of the task has its text.
+fn copies_have_one_text(alloc: Global, task: SasTask) -> Result<bool, AllocError> {
     let copy = task.copy(alloc)?;
-    have_one_text(alloc, task, &copy)
+    have_one_text(alloc, copy, &task)
 }
 
 #[test]
 fn a_copy_has_the_same_text(rt: HostRuntime) -> Result<(), AllocError> {
     let alloc = rt.alloc();
-    assert!(rt; copies_have_one_text(alloc, &switch(alloc)?)?);
-    assert!(rt; copies_have_one_text(alloc, &room(alloc)?)?);
+    assert!(rt; copies_have_one_text(alloc, switch(alloc)?)?);
+    assert!(rt; copies_have_one_text(alloc, room(alloc)?)?);
     Ok(())
 }
 
-fn has_copy_of_text(alloc: Global, task: &SasTask, text: &str) -> Result<bool, AllocError> {
-    let copy = task.copy(alloc)?;
-    has_text(alloc, &copy, text)
+fn copy_of(alloc: Global, task: SasTask) -> Result<SasTask, AllocError> {
+    task.copy(alloc)
 }
 
 #[test]
 fn a_copy_of_the_lamp_has_its_text(rt: HostRuntime) -> Result<(), AllocError> {
     let alloc = rt.alloc();
-    assert!(rt; has_copy_of_text(alloc, &task_of(alloc, LAMP)?, LAMP)?);
+    let copy = copy_of(alloc, task_of(alloc, LAMP)?)?;
+    assert!(rt; has_text(alloc, copy, LAMP.as_bytes())?);
     Ok(())
+}
+
+fn ordered(alloc: Global, task: SasTask) -> Result<SasTask, AllocError> {
+    order_variables(alloc, &task)
 }
 
 #[test]
 fn variables_are_ordered(rt: HostRuntime) -> Result<(), AllocError> {
     let alloc = rt.alloc();
-    let ordered = order_variables(alloc, &room(alloc)?)?;
-    assert!(rt; has_text(alloc, &ordered, REORDERED)?);
+    let ordered = ordered(alloc, room(alloc)?)?;
+    assert!(rt; has_text(alloc, ordered, REORDERED.as_bytes())?);
     Ok(())
 }
 
@@ -92,8 +98,9 @@ fn ends(
 /// Whether the book has the order of variables, and applies it once or twice.
 fn orders(alloc: Global, book: &Book) -> Result<bool, AllocError> {
     let kind = PassKind::Order;
-    let once = gives(alloc, book, &[kind], room(alloc)?, REORDERED)?;
-    let twice = gives(alloc, book, &[kind, kind], room(alloc)?, REORDERED)?;
+    let wanted = REORDERED.as_bytes();
+    let once = gives(alloc, book, &[kind], room(alloc)?, wanted)?;
+    let twice = gives(alloc, book, &[kind, kind], room(alloc)?, wanted)?;
     Ok(book.has(kind) && once && twice)
 }
 
@@ -139,12 +146,15 @@ fn an_empty_book_has_no_pass(rt: HostRuntime) -> Result<(), AllocError> {
     Ok(())
 }
 
+/// The text of the task.
+fn written(alloc: Global, task: SasTask) -> Result<Vec<u8>, AllocError> {
+    text_of(alloc, &task)
+}
+
 /// Whether no passes leave the room as it is.
 fn leaves_the_room(alloc: Global, book: &Book) -> Result<bool, AllocError> {
-    match book.apply(alloc, &[], room(alloc)?) {
-        Ok(task) => have_one_text(alloc, &task, &room(alloc)?),
-        Err(_) => Ok(false),
-    }
+    let text = written(alloc, room(alloc)?)?;
+    gives(alloc, book, &[], room(alloc)?, text.as_slice())
 }
 
 /// Whether the book has a pass that finds no memory, and no passes leave the room as it is.

@@ -141,18 +141,21 @@ pub(crate) fn task_of(alloc: Global, text: &str) -> Result<SasTask, AllocError> 
     }
 }
 
+// A function that is handed a task lets go of it, so that those above it don't.
+
 /// Whether this is the text of the task.
-pub(crate) fn has_text(alloc: Global, task: &SasTask, wanted: &str) -> Result<bool, AllocError> {
-    Ok(text_of(alloc, task)?.as_slice() == wanted.as_bytes())
+pub(crate) fn has_text(alloc: Global, task: SasTask, wanted: &[u8]) -> Result<bool, AllocError> {
+    Ok(text_of(alloc, &task)?.as_slice() == wanted)
 }
 
 /// Whether both tasks have one text.
 pub(crate) fn have_one_text(
     alloc: Global,
-    task: &SasTask,
+    task: SasTask,
     other: &SasTask,
 ) -> Result<bool, AllocError> {
-    Ok(text_of(alloc, task)?.as_slice() == text_of(alloc, other)?.as_slice())
+    let text = text_of(alloc, other)?;
+    has_text(alloc, task, text.as_slice())
 }
 
 /// Whether passes of these kinds make a task of this text of the given one.
@@ -161,10 +164,10 @@ pub(crate) fn gives(
     book: &Book,
     kinds: &[PassKind],
     task: SasTask,
-    wanted: &str,
+    wanted: &[u8],
 ) -> Result<bool, AllocError> {
     match book.apply(alloc, kinds, task) {
-        Ok(new) => has_text(alloc, &new, wanted),
+        Ok(new) => has_text(alloc, new, wanted),
         Err(_) => Ok(false),
     }
 }

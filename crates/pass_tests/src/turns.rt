@@ -1,8 +1,9 @@
 //! A book of every pass, whose passes are applied in turn, to the gate and to the hall.
 
-use crate::tasks::{self, GATE, HALL, task, task_of};
+use crate::tasks::{GATE, HALL, gives, task, task_of};
 use order_variables::order_variables;
-use pass_book::{Book, Pass, PassKind};
+use pass_book::PassKind::{self, H2, Order, Relevance};
+use pass_book::{Book, Pass};
 use pass_h2::prune;
 use pass_relevance::relevant;
 use sas_task::SasTask;
@@ -93,68 +94,68 @@ const WALK: &str = task! {
     rules 0
 };
 
-/// Whether passes of these kinds make a task of the wanted text of the task of the given one.
-fn gives(
-    alloc: Global,
-    book: &Book,
-    kinds: &[PassKind],
-    text: &str,
-    wanted: &str,
-) -> Result<bool, AllocError> {
-    tasks::gives(alloc, book, kinds, task_of(alloc, text)?, wanted)
+/// Kinds of passes, the text of the task to which they are applied, and that of what they make.
+type Row = (&'static [PassKind], &'static str, &'static str);
+
+// Also where a kind is repeated.
+static GATE_TURNS: [Row; 3] = [
+    (&[Relevance, Order], GATE, ORDERED_BEHIND),
+    (&[Order, Relevance], GATE, ORDERED_BEFORE),
+    (
+        &[Order, Relevance, Relevance, Order, Relevance],
+        GATE,
+        ORDERED_BEHIND,
+    ),
+];
+
+// Wings are of no account only once nobody flies.
+static HALL_TURNS: [Row; 5] = [
+    (&[H2], HALL, GROUND),
+    (&[Relevance, H2, H2], HALL, GROUND),
+    (&[Order, Relevance, H2], HALL, ORDERED),
+    (&[H2, Order], HALL, ORDERED),
+    (&[H2, Relevance, Order], HALL, WALK),
+];
+
+/// Whether the book's passes are applied in the order of their kinds, as the rows say.
+fn applies_in_turn(alloc: Global, book: &Book, rows: &[Row]) -> Result<bool, AllocError> {
+    for row in rows {
+        let (kinds, text, wanted) = *row;
+        if !gives(alloc, book, kinds, task_of(alloc, text)?, wanted.as_bytes())? {
+            return Ok(false);
+        }
+    }
+    Ok(true)
 }
 
-/// Whether this holds of a book of every pass.
-fn holds_of_every_pass<F: FnOnce(Global, &Book) -> Result<bool, AllocError>>(
-    alloc: Global,
-    holds: F,
-) -> Result<bool, AllocError>
-    requires { F.IsAlwaysCallable holds }
-{
+/// Whether a book of every pass applies them as the rows say.
+fn are_applied(alloc: Global, rows: &[Row]) -> Result<bool, AllocError> {
     let mut book = Book::new(alloc);
-    let kind = PassKind::Order;
     let run = Box::new(
         alloc,
         |alloc: Global, task: &SasTask| order_variables(alloc, task),
     )?;
-    let has_order = book.add(Pass { kind, run }).is_ok();
-    let kind = PassKind::Relevance;
+    let has_order = book.add(Pass { kind: Order, run }).is_ok();
     let run = Box::new(alloc, |alloc: Global, task: &SasTask| relevant(alloc, task))?;
-    let has_relevance = book.add(Pass { kind, run }).is_ok();
-    let kind = PassKind::H2;
+    let has_relevance = book
+        .add(Pass {
+            kind: Relevance,
+            run,
+        })
+        .is_ok();
     let run = Box::new(alloc, |alloc: Global, task: &SasTask| prune(alloc, task))?;
-    let has_h2 = book.add(Pass { kind, run }).is_ok();
-    Ok(has_order && has_relevance && has_h2 && holds(alloc, &book)?)
-}
-
-/// Whether the book's passes are applied in the order of their kinds, also where a kind is repeated.
-fn orders_the_gate(alloc: Global, book: &Book) -> Result<bool, AllocError> {
-    let (order, relevance) = (PassKind::Order, PassKind::Relevance);
-    let behind = gives(alloc, book, &[relevance, order], GATE, ORDERED_BEHIND)?;
-    let before = gives(alloc, book, &[order, relevance], GATE, ORDERED_BEFORE)?;
-    let repeated = [order, relevance, relevance, order, relevance];
-    Ok(behind && before && gives(alloc, book, &repeated, GATE, ORDERED_BEHIND)?)
+    let has_h2 = book.add(Pass { kind: H2, run }).is_ok();
+    Ok(has_order && has_relevance && has_h2 && applies_in_turn(alloc, &book, rows)?)
 }
 
 #[test]
 fn passes_are_applied_in_turn(rt: HostRuntime) -> Result<(), AllocError> {
-    assert!(rt; holds_of_every_pass(rt.alloc(), orders_the_gate)?);
+    assert!(rt; are_applied(rt.alloc(), &GATE_TURNS)?);
     Ok(())
-}
-
-/// Whether the book's passes are applied in the order of their kinds. Wings are of no account only once nobody flies.
-fn prunes_the_hall(alloc: Global, book: &Book) -> Result<bool, AllocError> {
-    let (order, relevance, h2) = (PassKind::Order, PassKind::Relevance, PassKind::H2);
-    let alone = gives(alloc, book, &[h2], HALL, GROUND)?;
-    let repeated = gives(alloc, book, &[relevance, h2, h2], HALL, GROUND)?;
-    let behind = gives(alloc, book, &[order, relevance, h2], HALL, ORDERED)?;
-    let before = gives(alloc, book, &[h2, order], HALL, ORDERED)?;
-    let all = gives(alloc, book, &[h2, relevance, order], HALL, WALK)?;
-    Ok(alone && repeated && behind && before && all)
 }
 
 #[test]
 fn passes_of_three_kinds_are_applied_in_turn(rt: HostRuntime) -> Result<(), AllocError> {
-    assert!(rt; holds_of_every_pass(rt.alloc(), prunes_the_hall)?);
+    assert!(rt; are_applied(rt.alloc(), &HALL_TURNS)?);
     Ok(())
 }
