@@ -20,6 +20,14 @@ impl Held {
             _ => false,
         }
     }
+
+    /// Whether this is a text that begins with these bytes and has more.
+    pub fn goes_on_behind(&self, bytes: &[u8]) -> bool {
+        match self {
+            Held::Text(text) => text.len() > bytes.len() && text.as_bytes().starts_with(bytes),
+            _ => false,
+        }
+    }
 }
 
 /// A name and what it holds.
@@ -39,24 +47,31 @@ pub enum Open {
     Left,
 }
 
-/// The words of a call and the files that stand before; and the status, what is printed, and what stands afterwards, where
-/// that is something else.
+/// The words of a call, what is set outside, and the files that stand before; and the status, what is printed, and what stands
+/// afterwards, where that is something else. Of several files of one name the last one counts.
 #[derive(Drop)]
 pub struct Call<'a> {
     pub words: Vec<&'a str>,
+    /// Which passes the book has.
+    pub book: &'a str,
+    pub settings: Vec<&'a str>,
     pub files: Vec<File<'a>>,
     pub status: u8,
     pub printed: Held,
+    /// Whether the console may fail in the middle.
+    pub may_be_cut: bool,
     pub left: Vec<File<'a>>,
+    /// Whether a second call writes the same.
+    pub is_twice: bool,
     /// The part of the call that was begun last.
     pub open: Open,
     /// The first line that isn't understood, or the row.
     pub misread: Option<&'a str>,
 }
 
-/// The file of this name among these.
+/// The last file of this name among these.
 pub fn find<'f, 'a>(files: &'f [File<'a>], name: &str) -> Option<&'f File<'a>> {
-    files.iter().find(|file| file.name == name)
+    files.iter().rev().find(|file| file.name == name)
 }
 
 impl<'a> Call<'a> {
@@ -64,10 +79,14 @@ impl<'a> Call<'a> {
     pub fn new(alloc: Global) -> Call<'a> {
         Call {
             words: Vec::new(alloc),
+            book: "",
+            settings: Vec::new(alloc),
             files: Vec::new(alloc),
             status: 0,
             printed: Held::Text(String::new(alloc)),
+            may_be_cut: false,
             left: Vec::new(alloc),
+            is_twice: false,
             open: Open::Nothing,
             misread: None,
         }

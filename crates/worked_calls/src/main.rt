@@ -12,27 +12,37 @@
 //! file NAME TEXT         a file that stands before
 //! status NUMBER          the exit status of the call
 //! printed TEXT           all that is printed
+//! may be cut             or else the console fails: the status is 30, and a front of that is printed, which has not all of it
 //! written NAME TEXT      a file that is written, which has room
 //! absent NAME            no file has the name afterwards
+//! twice                  performed a second time, the call writes the same again
+//! takes NUMBER           a call on the files or the console takes so many bytes at most
+//! room NAME NUMBER       there is room for so many bytes in the file, or in all that is printed, where the name is `console`
+//! fails KIND NUMBER      so many calls of the kind are made, and this one fails: `open`, `read`, `create`, `write` or `print`
+//! book PASSES            the book of passes is `empty`, or has one pass, the order, `wanting memory` each time
 //! changed                behind it, a row behind each bar
 //! example NAME           a pair of files, `d.pddl` and `p.pddl`, with what is printed and written of them: three calls
 //! ```
 //!
-//! Where nothing stands in the place of TEXT, it is the lines behind the bars. `of NAME` is the named text, then those lines.
-//! `is ..` is a text of one line, without a line feed at its end. There `\n`, `\t`, `\r` and `\x7f` stand for these bytes, and
-//! `{4096 (off)}` for `(off)`, 4,096 times. Where a part so repeated has a `#`, that stands for the number of the part, from 0
-//! on. `anything` is any text.
+//! Where nothing stands in the place of TEXT, it is the lines behind the bars. `of NAME` is the named text, then those lines,
+//! and `first NUMBER of NAME` so many of its bytes. `is ..` is a text of one line, without a line feed at its end. There `\n`,
+//! `\t`, `\r` and `\x7f` stand for these bytes, and `{4096 (off)}` for `(off)`, 4,096 times. Where a part so repeated has a
+//! `#`, that stands for the number of the part, from 0 on. `anything` is any text.
 //!
-//! Afterwards each file that stood before and isn't written holds what it held, and `output.sas` is there only where it is
-//! written or stood before.
+//! Where nothing else is said, `output.sas` has room, the book has each pass, and a call takes all that it is given. Afterwards
+//! each file that stood before and isn't written holds what it held, and `output.sas` is there only where it is written or
+//! stood before.
 //!
-//! A row is a call of its own, which is as the one above it but for what the row says: `ENDING | CHANGE | ..`. A change is
-//! `translate WORD ..`, other words; `NAME is TEXT`, another text of a file; or `NAME FROM => TO`, where TO stands in the place
-//! of the first FROM in the file's text. The ending is `the same`; `usage`, where the words are refused; or what is said of a
-//! text that is refused. In the two latter no file is written.
+//! A row is a call of its own, which is as the one above it but for what the row says: `ENDING | CHANGE | ..`. A change is an
+//! item, which counts in the place of one above, or `NAME FROM => TO`, where TO stands in the place of the first FROM in the
+//! file's text. The ending is `the same`; `usage`, where the words are refused; `cannot read NAME` or `cannot write NAME`; or
+//! what is said of a text that is refused. In all but the first no file is written but for those of the row's items. A range
+//! makes a row a call for each of its numbers: `[1 to 17]`. Further ranges count on with it: `[0 by 16]` is 0, then 16, then 32.
 //!
 //! An example is translated, done and printed as it says; what is written of it is read back and written again, where no
 //! candidate is tried; and all passes may follow one another.
+//!
+//! At last the switch task is written to a real file, with what that prints before the line on it.
 #![tactic(auto)]
 
 use std::{fs, io};
@@ -40,15 +50,18 @@ use texts::Texts;
 
 mod call;
 mod line;
+mod outside;
 mod perform;
+mod ranges;
 mod read;
+mod read_back;
+mod real;
 mod report;
 mod row;
 mod texts;
-mod variant;
 
 /// The files of worked calls, in the order in which they are read.
-const FILES: [&str; 7] = [
+const FILES: [&str; 10] = [
     "words",
     "plans",
     "written_tasks",
@@ -56,6 +69,9 @@ const FILES: [&str; 7] = [
     "tasks",
     "passes",
     "made_and_whole",
+    "devices",
+    "failures",
+    "limits",
 ];
 
 /// Says of each call of the file how it ended.
@@ -70,7 +86,7 @@ fn tell_files(rt: &HostRuntime, texts: &mut Texts) -> io::Result<()> {
     for name in FILES {
         tell_file(rt, texts, name)?;
     }
-    Ok(())
+    real::tell(rt, texts)
 }
 
 fn main(rt: HostRuntime) -> io::Result<()> {

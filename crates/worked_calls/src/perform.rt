@@ -1,7 +1,7 @@
 //! Calls on files and a console in memory.
 
 use crate::call::{Call, File, Held, find};
-use calls_in_memory::Outside;
+use crate::outside::Outside;
 use std::alloc::{AllocError, Global};
 use std::fmt;
 use translator::Status;
@@ -41,14 +41,14 @@ fn add_all(outside: &mut Outside, files: &[File<'_>]) -> Result<(), AllocError> 
     Ok(())
 }
 
-/// Makes room for the files that have a text.
+/// Makes room for the output file and for the files that have a text.
 fn make_room(outside: &mut Outside, files: &[File<'_>]) -> Result<(), AllocError> {
     for file in files {
         if let Held::Text(_) = &file.held {
-            outside.room(file.name, 4_000_000)?;
+            outside.make_room(file.name)?;
         }
     }
-    Ok(())
+    outside.make_room(OUTPUT)
 }
 
 impl<'a> Call<'a> {
@@ -57,29 +57,56 @@ impl<'a> Call<'a> {
         if let Some(line) = self.misread {
             return Ok(Verdict::NotUnderstood(line));
         }
-        let mut outside = Outside::new(alloc);
-        self.perform(alloc, &mut outside)
+        let mut outside = Outside::new(alloc)?;
+        let verdict = self.perform(alloc, &mut outside)?;
+        if self.is_twice && !self.is_performed_again(alloc, &outside)? {
+            return Ok(Verdict::LeavesOtherwise(OUTPUT));
+        }
+        Ok(verdict)
     }
 
     fn perform(&self, alloc: Global, outside: &mut Outside) -> Result<Verdict<'a>, AllocError> {
         add_all(outside, &self.files)?;
-        outside.prepare(&[])?;
         make_room(outside, &self.left)?;
-        let status = outside.answer(alloc, &self.words)?;
+        for setting in &self.settings {
+            if !outside.set(setting)? {
+                return Ok(Verdict::NotUnderstood(setting));
+            }
+        }
+        let status = outside.answer(alloc, &self.words, self.book)?;
         Ok(self.compare(outside, status))
     }
 
+    /// Whether this call, performed once more, ends as it stands and writes what it wrote before.
+    fn is_performed_again(&self, alloc: Global, before: &Outside) -> Result<bool, AllocError> {
+        let mut outside = Outside::new(alloc)?;
+        let verdict = self.perform(alloc, &mut outside)?;
+        Ok(
+            matches!(verdict, Verdict::AsItStands)
+                && outside.content(OUTPUT) == before.content(OUTPUT),
+        )
+    }
+
     fn compare(&self, outside: &Outside, status: Status) -> Verdict<'a> {
-        if status.code() != self.status {
-            return Verdict::EndsWith(status.code());
-        }
-        if !self.printed.is_met_by(Some(outside.printed())) {
-            return Verdict::PrintsOtherwise;
+        if !self.is_cut(outside, status) {
+            if status.code() != self.status {
+                return Verdict::EndsWith(status.code());
+            }
+            if !self.printed.is_met_by(Some(outside.printed())) {
+                return Verdict::PrintsOtherwise;
+            }
         }
         match self.first_other(outside) {
             Some(name) => Verdict::LeavesOtherwise(name),
             None => Verdict::AsItStands,
         }
+    }
+
+    /// Whether the console failed in the middle, where it may.
+    fn is_cut(&self, outside: &Outside, status: Status) -> bool {
+        self.may_be_cut
+            && status == Status::Device
+            && self.printed.goes_on_behind(outside.printed())
     }
 
     /// The first name that holds something else than it should afterwards.

@@ -1,4 +1,4 @@
-//! How a call is read from the lines of its paragraph.
+//! How a call is read from the lines of its paragraph, and from the items of a row.
 
 use crate::call::{Call, File, Held, Open};
 use crate::line::{Line, first_word};
@@ -16,17 +16,21 @@ fn text_of(alloc: Global, texts: &Texts, said: &str) -> Result<Option<Held>, All
     if let Some(line) = said.strip_prefix("is ") {
         return Ok(Some(Held::Text(of_line(alloc, line)?)));
     }
-    named_text(alloc, texts, said)
-}
-
-fn named_text(alloc: Global, texts: &Texts, said: &str) -> Result<Option<Held>, AllocError> {
-    let Some(name) = said.strip_prefix("of ") else {
-        return Ok(None);
-    };
-    match texts.find(name) {
+    match named_text(texts, said) {
         Some(text) => Ok(Some(Held::Text(String::from_str(alloc, text)?))),
         None => Ok(None),
     }
+}
+
+/// The text that has the name, or its first bytes.
+fn named_text<'t>(texts: &'t Texts, said: &str) -> Option<&'t str> {
+    if let Some(name) = said.strip_prefix("of ") {
+        return texts.find(name);
+    }
+    let (count, name) = said.strip_prefix("first ")?.split_once(" of ")?;
+    let count = count.parse::<usize>().ok()?;
+    let (front, _) = texts.find(name)?.split_at_checked(count)?;
+    Some(front)
 }
 
 /// Appends a line to the text, if it is one.
@@ -49,17 +53,10 @@ fn push_to_last(files: &mut [File<'_>], line: &str) -> Result<bool, AllocError> 
 }
 
 impl<'a> Call<'a> {
-    /// Reads the lines of a paragraph.
-    pub fn read_all(
-        &mut self,
-        alloc: Global,
-        texts: &Texts,
-        lines: &'a str,
-    ) -> Result<(), AllocError> {
-        for line in lines.lines() {
-            if !self.reads(alloc, texts, line)? {
-                self.misread = self.misread.or(Some(line));
-            }
+    /// Reads a line of a paragraph, or an item of a row.
+    pub fn read(&mut self, alloc: Global, texts: &Texts, line: &'a str) -> Result<(), AllocError> {
+        if !self.reads(alloc, texts, line)? {
+            self.misread = self.misread.or(Some(line));
         }
         Ok(())
     }
@@ -71,6 +68,10 @@ impl<'a> Call<'a> {
             Line::Bar(text) => self.reads_bar(text),
             Line::Item("translate", _) => {
                 self.set_words(line)?;
+                Ok(true)
+            }
+            Line::Item("takes" | "room" | "fails", _) => {
+                self.settings.push(line)?;
                 Ok(true)
             }
             Line::Item(word, said) => self.reads_item(alloc, texts, word, said),
@@ -94,19 +95,29 @@ impl<'a> Call<'a> {
         &mut self,
         alloc: Global,
         texts: &Texts,
-        word: &str,
+        word: &'a str,
         said: &'a str,
     ) -> Result<bool, AllocError> {
         self.open = Open::Nothing;
         match word {
             "call" | "example" => Ok(true),
-            "status" => Ok(self.reads_status(said)),
+            "file" | "written" | "printed" => self.reads_text(alloc, texts, word, said),
             "absent" => self.reads_absent(said),
-            "file" => self.reads_file(alloc, texts, said),
-            "written" => self.reads_written(alloc, texts, said),
-            "printed" => self.reads_printed(alloc, texts, said),
-            _ => Ok(false),
+            "read" => self.reads_back(alloc),
+            "status" => Ok(self.reads_status(said)),
+            "book" | "may" | "twice" => Ok(self.reads_way(word, said)),
+            _ => self.changes(alloc, word, said),
         }
+    }
+
+    /// Reads how the call is performed and compared.
+    fn reads_way(&mut self, word: &str, said: &'a str) -> bool {
+        match word {
+            "book" => self.book = said,
+            "may" => self.may_be_cut = true,
+            _ => self.is_twice = true,
+        }
+        true
     }
 
     fn reads_status(&mut self, said: &str) -> bool {
@@ -125,47 +136,43 @@ impl<'a> Call<'a> {
         Ok(true)
     }
 
-    fn reads_file(
+    /// Reads an item that has a text.
+    fn reads_text(
         &mut self,
         alloc: Global,
         texts: &Texts,
+        word: &str,
         said: &'a str,
     ) -> Result<bool, AllocError> {
-        let (name, said) = first_word(said);
-        let Some(held) = text_of(alloc, texts, said)? else {
-            return Ok(false);
+        let (name, said) = if word == "printed" {
+            ("", said)
+        } else {
+            first_word(said)
         };
-        self.files.push(File { name, held })?;
-        self.open = Open::File;
-        Ok(true)
+        match text_of(alloc, texts, said)? {
+            Some(held) => {
+                self.take_text(word, File { name, held })?;
+                Ok(true)
+            }
+            None => Ok(false),
+        }
     }
 
-    fn reads_written(
-        &mut self,
-        alloc: Global,
-        texts: &Texts,
-        said: &'a str,
-    ) -> Result<bool, AllocError> {
-        let (name, said) = first_word(said);
-        let Some(held) = text_of(alloc, texts, said)? else {
-            return Ok(false);
-        };
-        self.left.push(File { name, held })?;
-        self.open = Open::Left;
-        Ok(true)
-    }
-
-    fn reads_printed(
-        &mut self,
-        alloc: Global,
-        texts: &Texts,
-        said: &str,
-    ) -> Result<bool, AllocError> {
-        let Some(held) = text_of(alloc, texts, said)? else {
-            return Ok(false);
-        };
-        self.printed = held;
-        self.open = Open::Printed;
-        Ok(true)
+    fn take_text(&mut self, word: &str, file: File<'a>) -> Result<(), AllocError> {
+        match word {
+            "file" => {
+                self.open = Open::File;
+                self.files.push(file)?;
+            }
+            "written" => {
+                self.open = Open::Left;
+                self.left.push(file)?;
+            }
+            _ => {
+                self.open = Open::Printed;
+                self.printed = file.held;
+            }
+        }
+        Ok(())
     }
 }

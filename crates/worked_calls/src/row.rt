@@ -1,18 +1,11 @@
 //! The rows behind a call: how each is another one.
 
 use crate::call::{Call, File, Held};
-use crate::line::first_word;
 use crate::texts::{Texts, of_line};
 use std::alloc::{AllocError, Global};
 
-/// The text with the change: another one, or this one with a part in the place of another. None where there is no such part.
+/// The text with one part in the place of another, FROM => TO. None where there is no such part.
 fn changed(alloc: Global, text: &str, change: &str) -> Result<Option<String>, AllocError> {
-    if change == "is" {
-        return Ok(Some(String::new(alloc)));
-    }
-    if let Some(other) = change.strip_prefix("is ") {
-        return Ok(Some(of_line(alloc, other)?));
-    }
     let Some((from, to)) = change.split_once(" =>") else {
         return Ok(None);
     };
@@ -40,27 +33,30 @@ fn is_changed(alloc: Global, file: &mut File<'_>, change: &str) -> Result<bool, 
     Ok(true)
 }
 
+/// The status of a call that prints so.
+fn status_of(ending: &str) -> u8 {
+    if ending.starts_with("cannot ") {
+        30
+    } else {
+        31
+    }
+}
+
 impl<'a> Call<'a> {
-    /// Makes this call the one of the row.
+    /// Makes this call the one of the row: its ending first, then the items.
     pub fn vary(&mut self, alloc: Global, texts: &Texts, row: &'a str) -> Result<(), AllocError> {
-        let (ending, changes) = row.split_once(" | ").unwrap_or((row, ""));
-        for change in changes.split(" | ") {
-            if !self.takes(alloc, change)? {
-                self.misread = self.misread.or(Some(row));
-            }
+        let (ending, items) = row.split_once(" | ").unwrap_or((row, "#"));
+        self.end(alloc, texts, ending)?;
+        for item in items.split(" | ") {
+            self.read(alloc, texts, item)?;
         }
-        self.end(alloc, texts, ending)
+        Ok(())
     }
 
-    /// Makes a change, and answers whether it is understood.
-    fn takes(&mut self, alloc: Global, change: &'a str) -> Result<bool, AllocError> {
-        let (name, rest) = first_word(change);
-        if name == "translate" {
-            self.set_words(change)?;
-            return Ok(true);
-        }
+    /// Changes the text of the file of this name, and answers whether there is one to be changed.
+    pub fn changes(&mut self, alloc: Global, name: &str, change: &str) -> Result<bool, AllocError> {
         match self.files.iter_mut().find(|file| file.name == name) {
-            Some(file) => is_changed(alloc, file, rest),
+            Some(file) => is_changed(alloc, file, change),
             None => Ok(false),
         }
     }
@@ -73,7 +69,10 @@ impl<'a> Call<'a> {
                 2,
                 String::from_str(alloc, texts.find("usage").unwrap_or(""))?,
             ),
-            _ => self.refuse(31, format!(in alloc; "translate: {ending}\n")?),
+            _ => self.refuse(
+                status_of(ending),
+                format!(in alloc; "translate: {ending}\n")?,
+            ),
         }
     }
 
