@@ -1,6 +1,6 @@
 //! A call, and how it ends.
 
-use std::alloc::{AllocError, Global};
+use std::alloc::Global;
 
 /// What a name holds, or what is printed.
 #[derive(Drop)]
@@ -41,7 +41,6 @@ pub struct File<'a> {
 #[derive(Clone, Copy)]
 pub enum Open {
     Nothing,
-    Words,
     File,
     Printed,
     Left,
@@ -51,7 +50,7 @@ pub enum Open {
 /// afterwards, where that is something else. Of several files of one name the last one counts.
 #[derive(Drop)]
 pub struct Call<'a> {
-    pub words: Vec<&'a str>,
+    pub words: &'a str,
     /// Which passes the book has.
     pub book: &'a str,
     pub settings: Vec<&'a str>,
@@ -61,6 +60,8 @@ pub struct Call<'a> {
     /// Whether the console may fail in the middle.
     pub may_be_cut: bool,
     pub left: Vec<File<'a>>,
+    /// Whether what is written stands before too.
+    pub is_read_back: bool,
     /// Whether a second call writes the same.
     pub is_twice: bool,
     /// The part of the call that was begun last.
@@ -69,16 +70,27 @@ pub struct Call<'a> {
     pub misread: Option<&'a str>,
 }
 
+/// Where the last file of this name stands among these.
+pub fn place(files: &[File<'_>], name: &str) -> Option<usize> {
+    let mut last = None;
+    for (place, file) in files.iter().enumerate() {
+        if file.name == name {
+            last = Some(place);
+        }
+    }
+    last
+}
+
 /// The last file of this name among these.
 pub fn find<'f, 'a>(files: &'f [File<'a>], name: &str) -> Option<&'f File<'a>> {
-    files.iter().rev().find(|file| file.name == name)
+    files.get(place(files, name)?)
 }
 
 impl<'a> Call<'a> {
-    /// No word and no file, done without a printed line.
+    /// No word and no file, done without a printed line, on a book of every pass.
     pub fn new(alloc: Global) -> Call<'a> {
         Call {
-            words: Vec::new(alloc),
+            words: "",
             book: "",
             settings: Vec::new(alloc),
             files: Vec::new(alloc),
@@ -86,19 +98,10 @@ impl<'a> Call<'a> {
             printed: Held::Text(String::new(alloc)),
             may_be_cut: false,
             left: Vec::new(alloc),
+            is_read_back: false,
             is_twice: false,
             open: Open::Nothing,
             misread: None,
         }
-    }
-
-    /// Takes the words of the line, which stand between blanks.
-    pub fn set_words(&mut self, line: &'a str) -> Result<(), AllocError> {
-        self.words.clear();
-        for word in line.split(' ') {
-            self.words.push(word)?;
-        }
-        self.open = Open::Words;
-        Ok(())
     }
 }

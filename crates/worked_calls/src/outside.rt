@@ -2,6 +2,7 @@
 
 ghost use Rattle.std.specs.Prelude.{◌≤◌};
 
+use crate::texts::of_line;
 use order_variables::order_variables;
 use pass_book::{Book, Pass, PassKind};
 use pass_h2::prune;
@@ -20,21 +21,26 @@ pub struct Outside {
 
 // None of these calls says what it does, so that no proof of a caller carries it.
 impl Outside {
-    /// No file, and no room but for 1,000 bytes on the console.
-    pub fn new(alloc: Global) -> Result<Outside, AllocError> {
-        let mut console = MemConsole::new(alloc);
-        console.room(1000)?;
-        let files = MemFiles::new(alloc);
-        Ok(Outside { files, console })
+    /// No file and no room.
+    pub fn new(alloc: Global) -> Outside {
+        Outside {
+            files: MemFiles::new(alloc),
+            console: MemConsole::new(alloc),
+        }
     }
 
     pub fn add(&mut self, name: &str, bytes: &[u8]) -> Result<(), AllocError> {
         self.files.add(name, bytes)
     }
 
-    /// Makes room for 4,000,000 bytes in the file of this name.
-    pub fn make_room(&mut self, name: &str) -> Result<(), AllocError> {
-        self.files.room(name, 4_000_000)
+    /// Makes room for so many bytes in the file of this name.
+    pub fn room(&mut self, name: &str, bytes: u64) -> Result<(), AllocError> {
+        self.files.room(name, bytes)
+    }
+
+    /// Makes room for so many bytes on the console.
+    pub fn console_room(&mut self, bytes: u64) -> Result<(), AllocError> {
+        self.console.room(bytes)
     }
 
     /// Does what a setting says, which ends with a number, and answers whether it is understood.
@@ -48,63 +54,51 @@ impl Outside {
 
     fn set_to(&mut self, what: &str, number: u64) -> Result<bool, AllocError> {
         match what {
-            "takes" => self.take_most(number.max(1)),
-            "room console" => self.console.room(number)?,
-            "fails print" => self.console.fail(number)?,
-            "fails open" => self.files.fail(FileCall::OpenFile, number)?,
-            "fails read" => self.files.fail(FileCall::Read, number)?,
-            "fails create" => self.files.fail(FileCall::CreateFile, number)?,
-            "fails write" => self.files.fail(FileCall::Write, number)?,
-            _ => return self.room(what, number),
-        }
-        Ok(true)
-    }
-
-    fn room(&mut self, what: &str, bytes: u64) -> Result<bool, AllocError> {
-        match what.strip_prefix("room ") {
-            Some(name) => {
-                self.files.room(name, bytes)?;
-                Ok(true)
-            }
-            None => Ok(false),
+            "takes" => Ok(self.takes(number.max(1))),
+            "room console" => is_set(self.console.room(number)),
+            "fails print" => is_set(self.console.fail(number)),
+            "fails open" => is_set(self.files.fail(FileCall::OpenFile, number)),
+            "fails read" => is_set(self.files.fail(FileCall::Read, number)),
+            "fails create" => is_set(self.files.fail(FileCall::CreateFile, number)),
+            "fails write" => is_set(self.files.fail(FileCall::Write, number)),
+            _ => match what.strip_prefix("room ") {
+                Some(name) => is_set(self.files.room(name, number)),
+                None => Ok(false),
+            },
         }
     }
 
     /// Sets the most bytes that a call takes.
-    fn take_most(&mut self, bytes: u64)
+    fn takes(&mut self, bytes: u64) -> bool
         requires { 1 ≤ bytes }
     {
         self.files.most(bytes);
         self.console.most(bytes);
+        true
     }
 
     /// How the call with these words ends, by this book: `empty`, `wanting memory` or, else, one of every pass.
-    pub fn answer(
-        &mut self,
-        alloc: Global,
-        names: &[&str],
-        book: &str,
-    ) -> Result<Status, AllocError> {
+    pub fn answer(&mut self, alloc: Global, words: &str, book: &str) -> Result<Status, AllocError> {
         match book {
-            "empty" => self.answer_by(alloc, names, &Book::new(alloc)),
-            "wanting memory" => self.answer_in_want(alloc, names),
-            _ => self.answer_by_all(alloc, names),
+            "empty" => self.answer_by(alloc, words, &Book::new(alloc)),
+            "wanting memory" => self.answer_in_want(alloc, words),
+            _ => self.answer_by_all(alloc, words),
         }
     }
 
     /// The same, where the pass of the order always wants memory, and there is no other.
-    fn answer_in_want(&mut self, alloc: Global, names: &[&str]) -> Result<Status, AllocError> {
+    fn answer_in_want(&mut self, alloc: Global, words: &str) -> Result<Status, AllocError> {
         let mut book = Book::new(alloc);
         let kind = PassKind::Order;
         let run = Box::new(alloc, |_: Global, _: &SasTask| Err(AllocError))?;
         if book.add(Pass { kind, run }).is_err() {
             return Err(AllocError);
         }
-        self.answer_by(alloc, names, &book)
+        self.answer_by(alloc, words, &book)
     }
 
     /// The same, with a book of every pass.
-    fn answer_by_all(&mut self, alloc: Global, names: &[&str]) -> Result<Status, AllocError> {
+    fn answer_by_all(&mut self, alloc: Global, words: &str) -> Result<Status, AllocError> {
         let mut book = Book::new(alloc);
         let kind = PassKind::Order;
         let run = Box::new(
@@ -121,16 +115,11 @@ impl Outside {
         if !(has_order && has_relevance && has_h2) {
             return Err(AllocError);
         }
-        self.answer_by(alloc, names, &book)
+        self.answer_by(alloc, words, &book)
     }
 
-    fn answer_by(
-        &mut self,
-        alloc: Global,
-        names: &[&str],
-        book: &Book,
-    ) -> Result<Status, AllocError> {
-        answer(alloc, names, &mut self.files, &mut self.console, book)
+    fn answer_by(&mut self, alloc: Global, words: &str, book: &Book) -> Result<Status, AllocError> {
+        answer(alloc, words, &mut self.files, &mut self.console, book)
     }
 
     /// What the file of this name holds, if there is one.
@@ -138,22 +127,37 @@ impl Outside {
         self.files.content(name)
     }
 
+    /// Whether the file of this name holds these bytes, or there is none.
+    pub fn holds(&self, name: &str, bytes: Option<&[u8]>) -> bool {
+        match (self.content(name), bytes) {
+            (Some(held), Some(bytes)) => held == bytes,
+            (None, None) => true,
+            _ => false,
+        }
+    }
+
     pub fn printed(&self) -> &[u8] {
         self.console.printed()
     }
 }
 
-/// How the call with these words ends.
+/// That a setting is understood, unless memory ran out.
+fn is_set(outcome: Result<(), AllocError>) -> Result<bool, AllocError> {
+    outcome?;
+    Ok(true)
+}
+
+/// How the call with these words ends, which stand between blanks.
 pub fn answer<F: Files, C: Console>(
     alloc: Global,
-    names: &[&str],
+    line: &str,
     files: &mut F,
     console: &mut C,
     book: &Book,
 ) -> Result<Status, AllocError> {
     let mut words = Vec::new(alloc);
-    for name in names {
-        words.push(String::from_str(alloc, name)?)?;
+    for word in line.split(' ') {
+        words.push(of_line(alloc, word)?)?;
     }
     Ok(translate(alloc, words, files, console, book))
 }

@@ -3,33 +3,28 @@
 use crate::call::{Call, File, Held, find};
 use crate::outside::Outside;
 use std::alloc::{AllocError, Global};
-use std::fmt;
 use translator::Status;
 
-/// Whether a call ended as it stands, or what it did else.
+/// What is other than it should be, and in which line or file.
 #[derive(Clone, Copy)]
-pub enum Verdict<'a> {
-    AsItStands,
-    NotUnderstood(&'a str),
-    EndsWith(u8),
-    PrintsOtherwise,
-    LeavesOtherwise(&'a str),
+pub struct Other<'a> {
+    pub what: &'static str,
+    pub at: &'a str,
 }
 
-impl fmt::Display for Verdict<'_> {
-    fn fmt<W: fmt::Write>(&self, f: &mut fmt::Formatter<W>) -> fmt::Result {
-        match self {
-            Verdict::AsItStands => f.write_str("as it stands"),
-            Verdict::NotUnderstood(line) => write!(f, "not understood: {line}"),
-            Verdict::EndsWith(status) => write!(f, "ends with {status}"),
-            Verdict::PrintsOtherwise => f.write_str("prints something else"),
-            Verdict::LeavesOtherwise(name) => write!(f, "leaves something else in {name}"),
-        }
-    }
-}
+const NOT_UNDERSTOOD: &str = "doesn't understand";
+
+const LEAVES: &str = "leaves something else in";
 
 /// The output file, where the words name no other.
 const OUTPUT: &str = "output.sas";
+
+/// The bytes for which there is room in a file that is written.
+const ROOM: u64 = 4_000_000;
+
+fn differs<'a>(what: &'static str, at: &'a str) -> Option<Other<'a>> {
+    Some(Other { what, at })
+}
 
 /// Adds the files that have a text.
 fn add_all(outside: &mut Outside, files: &[File<'_>]) -> Result<(), AllocError> {
@@ -41,65 +36,85 @@ fn add_all(outside: &mut Outside, files: &[File<'_>]) -> Result<(), AllocError> 
     Ok(())
 }
 
-/// Makes room for the output file and for the files that have a text.
+/// Makes room for the files that have a text.
 fn make_room(outside: &mut Outside, files: &[File<'_>]) -> Result<(), AllocError> {
     for file in files {
         if let Held::Text(_) = &file.held {
-            outside.make_room(file.name)?;
+            outside.room(file.name, ROOM)?;
         }
     }
-    outside.make_room(OUTPUT)
+    Ok(())
 }
 
 impl<'a> Call<'a> {
-    /// How this call ends.
-    pub fn verdict(&self, alloc: Global) -> Result<Verdict<'a>, AllocError> {
-        if let Some(line) = self.misread {
-            return Ok(Verdict::NotUnderstood(line));
+    /// What is other than it should be where this call is performed.
+    pub fn first_other(&self, alloc: Global) -> Result<Option<Other<'a>>, AllocError> {
+        if let Some(at) = self.misread {
+            return Ok(differs(NOT_UNDERSTOOD, at));
         }
-        let mut outside = Outside::new(alloc)?;
-        let verdict = self.perform(alloc, &mut outside)?;
-        if self.is_twice && !self.is_performed_again(alloc, &outside)? {
-            return Ok(Verdict::LeavesOtherwise(OUTPUT));
-        }
-        Ok(verdict)
+        let mut outside = Outside::new(alloc);
+        self.first_other_in(alloc, &mut outside)
     }
 
-    fn perform(&self, alloc: Global, outside: &mut Outside) -> Result<Verdict<'a>, AllocError> {
-        add_all(outside, &self.files)?;
-        make_room(outside, &self.left)?;
+    fn first_other_in(
+        &self,
+        alloc: Global,
+        outside: &mut Outside,
+    ) -> Result<Option<Other<'a>>, AllocError> {
+        let first = self.perform(alloc, outside)?;
+        if self.is_twice && !self.writes_again(alloc, outside)? {
+            return Ok(differs(LEAVES, OUTPUT));
+        }
+        Ok(first)
+    }
+
+    /// Whether this call, performed once more, ends as it should and writes what it wrote before.
+    fn writes_again(&self, alloc: Global, before: &Outside) -> Result<bool, AllocError> {
+        let mut outside = Outside::new(alloc);
+        let first = self.perform(alloc, &mut outside)?;
+        Ok(first.is_none() && outside.holds(OUTPUT, before.content(OUTPUT)))
+    }
+
+    fn perform(
+        &self,
+        alloc: Global,
+        outside: &mut Outside,
+    ) -> Result<Option<Other<'a>>, AllocError> {
+        self.prepare(outside)?;
         for setting in &self.settings {
             if !outside.set(setting)? {
-                return Ok(Verdict::NotUnderstood(setting));
+                return Ok(differs(NOT_UNDERSTOOD, setting));
             }
         }
-        let status = outside.answer(alloc, &self.words, self.book)?;
+        let status = outside.answer(alloc, self.words, self.book)?;
         Ok(self.compare(outside, status))
     }
 
-    /// Whether this call, performed once more, ends as it stands and writes what it wrote before.
-    fn is_performed_again(&self, alloc: Global, before: &Outside) -> Result<bool, AllocError> {
-        let mut outside = Outside::new(alloc)?;
-        let verdict = self.perform(alloc, &mut outside)?;
-        Ok(
-            matches!(verdict, Verdict::AsItStands)
-                && outside.content(OUTPUT) == before.content(OUTPUT),
-        )
+    /// Adds the files that stand before, and makes room.
+    fn prepare(&self, outside: &mut Outside) -> Result<(), AllocError> {
+        add_all(outside, &self.files)?;
+        if self.is_read_back {
+            add_all(outside, &self.left)?;
+        }
+        outside.console_room(1000)?;
+        outside.room(OUTPUT, ROOM)?;
+        make_room(outside, &self.left)
     }
 
-    fn compare(&self, outside: &Outside, status: Status) -> Verdict<'a> {
+    fn compare(&self, outside: &Outside, status: Status) -> Option<Other<'a>> {
         if !self.is_cut(outside, status) {
             if status.code() != self.status {
-                return Verdict::EndsWith(status.code());
+                return differs("ends with another status than", "it should");
             }
             if !self.printed.is_met_by(Some(outside.printed())) {
-                return Verdict::PrintsOtherwise;
+                return differs("prints something else than", "it should");
             }
         }
-        match self.first_other(outside) {
-            Some(name) => Verdict::LeavesOtherwise(name),
-            None => Verdict::AsItStands,
+        if !self.leaves(outside, OUTPUT) {
+            return differs(LEAVES, OUTPUT);
         }
+        let first = self.first_left(outside, &self.files);
+        first.or(self.first_left(outside, &self.left))
     }
 
     /// Whether the console failed in the middle, where it may.
@@ -109,14 +124,14 @@ impl<'a> Call<'a> {
             && self.printed.goes_on_behind(outside.printed())
     }
 
-    /// The first name that holds something else than it should afterwards.
-    fn first_other(&self, outside: &Outside) -> Option<&'a str> {
-        if !self.leaves(outside, OUTPUT) {
-            return Some(OUTPUT);
+    /// The first of the files whose name holds something else than it should afterwards.
+    fn first_left(&self, outside: &Outside, files: &[File<'a>]) -> Option<Other<'a>> {
+        for file in files {
+            if !self.leaves(outside, file.name) {
+                return differs(LEAVES, file.name);
+            }
         }
-        let mut files = self.files.iter().chain(self.left.iter());
-        let file = files.find(|file| !self.leaves(outside, file.name))?;
-        Some(file.name)
+        None
     }
 
     /// Whether the name holds what it should afterwards: what the call leaves there, or else what stood there before.

@@ -1,6 +1,7 @@
 //! Rows that stand for many: where a row has a range of numbers, it is a call for each.
 
 use std::alloc::{AllocError, Global};
+use std::fmt::Write;
 
 /// How many calls a row is: as many as its first range has numbers, and one where it has none.
 pub fn count(row: &str) -> u64 {
@@ -22,25 +23,20 @@ fn first_range(row: &str) -> Option<(u64, u64)> {
 pub fn row_at(alloc: Global, row: &str, place: u64) -> Result<String, AllocError> {
     let mut whole = String::new(alloc);
     for piece in row.split('[') {
-        push_piece(alloc, &mut whole, piece, place)?;
+        push_piece(&mut whole, piece, place)?;
     }
     Ok(whole)
 }
 
 /// Appends what stands behind an opening bracket, or before the first one.
-fn push_piece(
-    alloc: Global,
-    whole: &mut String,
-    piece: &str,
-    place: u64,
-) -> Result<(), AllocError> {
+fn push_piece(whole: &mut String, piece: &str, place: u64) -> Result<(), AllocError> {
     let Some((range, rest)) = piece.split_once(']') else {
         return whole.push_str(piece);
     };
-    if let Some(number) = number_at(range, place) {
-        whole.push_str(&format!(in alloc; "{number}")?)?;
+    match number_at(range, place) {
+        Some(number) => write!(whole, "{number}{rest}"),
+        None => whole.push_str(range),
     }
-    whole.push_str(rest)
 }
 
 /// The number of the range at this place.

@@ -66,58 +66,43 @@ impl<'a> Call<'a> {
         match Line::of(line) {
             Line::Comment => Ok(true),
             Line::Bar(text) => self.reads_bar(text),
-            Line::Item("translate", _) => {
-                self.set_words(line)?;
-                Ok(true)
-            }
-            Line::Item("takes" | "room" | "fails", _) => {
-                self.settings.push(line)?;
-                Ok(true)
-            }
-            Line::Item(word, said) => self.reads_item(alloc, texts, word, said),
+            Line::Item("file" | "printed" | "written", _) => self.reads_text(alloc, texts, line),
+            Line::Item(word, said) => self.reads_item(alloc, line, word, said),
         }
     }
 
     fn reads_bar(&mut self, line: &'a str) -> Result<bool, AllocError> {
         match self.open {
             Open::Nothing => Ok(false),
-            Open::Words => {
-                self.words.push(line)?;
-                Ok(true)
-            }
             Open::File => push_to_last(&mut self.files, line),
             Open::Printed => push_to(&mut self.printed, line),
             Open::Left => push_to_last(&mut self.left, line),
         }
     }
 
+    /// Reads an item that has no text.
     fn reads_item(
         &mut self,
         alloc: Global,
-        texts: &Texts,
-        word: &'a str,
+        line: &'a str,
+        word: &str,
         said: &'a str,
     ) -> Result<bool, AllocError> {
         self.open = Open::Nothing;
         match word {
-            "call" | "example" => Ok(true),
-            "file" | "written" | "printed" => self.reads_text(alloc, texts, word, said),
-            "absent" => self.reads_absent(said),
-            "read" => self.reads_back(alloc),
-            "status" => Ok(self.reads_status(said)),
-            "book" | "may" | "twice" => Ok(self.reads_way(word, said)),
-            _ => self.changes(alloc, word, said),
-        }
-    }
-
-    /// Reads how the call is performed and compared.
-    fn reads_way(&mut self, word: &str, said: &'a str) -> bool {
-        match word {
+            "call" => {}
+            "example" => self.words = "translate d.pddl p.pddl",
+            "translate" => self.words = line,
+            "takes" | "room" | "fails" => self.settings.push(line)?,
             "book" => self.book = said,
             "may" => self.may_be_cut = true,
-            _ => self.is_twice = true,
+            "twice" => self.is_twice = true,
+            "read" => self.become_read_back(alloc)?,
+            "absent" => self.leave_absent(said)?,
+            "status" => return Ok(self.reads_status(said)),
+            _ => return self.changes(alloc, word, said),
         }
-        true
+        Ok(true)
     }
 
     fn reads_status(&mut self, said: &str) -> bool {
@@ -130,10 +115,10 @@ impl<'a> Call<'a> {
         }
     }
 
-    fn reads_absent(&mut self, name: &'a str) -> Result<bool, AllocError> {
+    fn leave_absent(&mut self, name: &'a str) -> Result<(), AllocError> {
         let held = Held::NoFile;
         self.left.push(File { name, held })?;
-        Ok(true)
+        Ok(())
     }
 
     /// Reads an item that has a text.
@@ -141,14 +126,11 @@ impl<'a> Call<'a> {
         &mut self,
         alloc: Global,
         texts: &Texts,
-        word: &str,
-        said: &'a str,
+        line: &'a str,
     ) -> Result<bool, AllocError> {
-        let (name, said) = if word == "printed" {
-            ("", said)
-        } else {
-            first_word(said)
-        };
+        let (word, said) = first_word(line);
+        let (name, text) = first_word(said);
+        let said = if word == "printed" { said } else { text };
         match text_of(alloc, texts, said)? {
             Some(held) => {
                 self.take_text(word, File { name, held })?;

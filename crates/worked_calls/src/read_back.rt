@@ -1,6 +1,6 @@
 //! How a call becomes the one that reads back what it writes.
 
-use crate::call::{Call, File, Held};
+use crate::call::{Call, Held};
 use std::alloc::{AllocError, Global};
 
 /// What is printed where a task is read back of which this was printed: no candidate is tried.
@@ -15,18 +15,12 @@ fn printed_back(alloc: Global, printed: &str) -> Result<String, AllocError> {
 
 impl<'a> Call<'a> {
     /// The written files alone are there before.
-    pub fn reads_back(&mut self, alloc: Global) -> Result<bool, AllocError> {
+    pub fn become_read_back(&mut self, alloc: Global) -> Result<(), AllocError> {
         self.files.clear();
-        for file in &self.left {
-            if let Held::Text(text) = &file.held {
-                let held = Held::Text(text.clone()?);
-                let name = file.name;
-                self.files.push(File { name, held })?;
-            }
-        }
+        self.is_read_back = true;
         if let Held::Text(printed) = &self.printed {
             self.printed = Held::Text(printed_back(alloc, printed)?);
         }
-        Ok(true)
+        Ok(())
     }
 }

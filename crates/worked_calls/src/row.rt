@@ -1,6 +1,6 @@
 //! The rows behind a call: how each is another one.
 
-use crate::call::{Call, File, Held};
+use crate::call::{Call, File, Held, place};
 use crate::texts::{Texts, of_line};
 use std::alloc::{AllocError, Global};
 
@@ -33,20 +33,24 @@ fn is_changed(alloc: Global, file: &mut File<'_>, change: &str) -> Result<bool, 
     Ok(true)
 }
 
-/// The status of a call that prints so.
-fn status_of(ending: &str) -> u8 {
-    if ending.starts_with("cannot ") {
+/// The status of a call that ends so, and the line that it prints, in two parts.
+fn refusal(ending: &str) -> (u8, &str, &str) {
+    if ending == "usage" {
+        return (2, "usage: translate DOMAIN PROBLEM [options]", "");
+    }
+    let status = if ending.starts_with("cannot ") {
         30
     } else {
         31
-    }
+    };
+    (status, "translate: ", ending)
 }
 
 impl<'a> Call<'a> {
     /// Makes this call the one of the row: its ending first, then the items.
     pub fn vary(&mut self, alloc: Global, texts: &Texts, row: &'a str) -> Result<(), AllocError> {
         let (ending, items) = row.split_once(" | ").unwrap_or((row, "#"));
-        self.end(alloc, texts, ending)?;
+        self.end(alloc, ending)?;
         for item in items.split(" | ") {
             self.read(alloc, texts, item)?;
         }
@@ -55,31 +59,23 @@ impl<'a> Call<'a> {
 
     /// Changes the text of the file of this name, and answers whether there is one to be changed.
     pub fn changes(&mut self, alloc: Global, name: &str, change: &str) -> Result<bool, AllocError> {
-        match self.files.iter_mut().find(|file| file.name == name) {
+        let Some(place) = place(&self.files, name) else {
+            return Ok(false);
+        };
+        match self.files.get_mut(place) {
             Some(file) => is_changed(alloc, file, change),
             None => Ok(false),
         }
     }
 
     /// Makes this call end so.
-    fn end(&mut self, alloc: Global, texts: &Texts, ending: &str) -> Result<(), AllocError> {
-        match ending {
-            "the same" => Ok(()),
-            "usage" => self.refuse(
-                2,
-                String::from_str(alloc, texts.find("usage").unwrap_or(""))?,
-            ),
-            _ => self.refuse(
-                status_of(ending),
-                format!(in alloc; "translate: {ending}\n")?,
-            ),
+    fn end(&mut self, alloc: Global, ending: &str) -> Result<(), AllocError> {
+        if ending == "the same" {
+            return Ok(());
         }
-    }
-
-    /// Makes this call end with the status, print this and write nothing.
-    fn refuse(&mut self, status: u8, printed: String) -> Result<(), AllocError> {
+        let (status, front, said) = refusal(ending);
         self.status = status;
-        self.printed = Held::Text(printed);
+        self.printed = Held::Text(format!(in alloc; "{front}{said}\n")?);
         self.left.clear();
         Ok(())
     }

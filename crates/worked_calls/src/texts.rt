@@ -2,6 +2,7 @@
 
 use crate::line::Line;
 use std::alloc::{AllocError, Global};
+use std::fmt::Write;
 
 #[derive(Drop)]
 struct Named {
@@ -23,8 +24,12 @@ impl Texts {
     }
 
     pub fn find(&self, name: &str) -> Option<&str> {
-        let named = self.named.iter().find(|named| named.name.as_str() == name)?;
-        Some(&named.text)
+        for named in &self.named {
+            if named.name.as_str() == name {
+                return Some(&named.text);
+            }
+        }
+        None
     }
 
     /// Names the text behind the bars of a paragraph.
@@ -52,7 +57,8 @@ pub fn push_line(text: &mut String, line: &str) -> Result<(), AllocError> {
 }
 
 /// What stands for a byte in a text of one line.
-static MARKS: [(&str, &str); 4] = [
+static MARKS: [(&str, &str); 5] = [
+    ("\\s", " "),
     ("\\n", "\n"),
     ("\\t", "\t"),
     ("\\r", "\r"),
@@ -94,8 +100,7 @@ fn push_repeated(alloc: Global, whole: &mut String, repeated: &str) -> Result<()
         return whole.push_str(&part.repeat(alloc, count)?);
     };
     for number in 0..count {
-        let numbered = format!(in alloc; "{front}{number}{back}")?;
-        whole.push_str(&numbered)?;
+        write!(whole, "{front}{number}{back}")?;
     }
     Ok(())
 }
