@@ -9,11 +9,11 @@ ghost use Rattle.action_schemas.specs.Cuts.{combined};
 
 use lists::List;
 use normal_rows::{
-    Made, behind_ranges, free_slots, joined_lists, one_part, paired, part_alone, renumbered,
-    variables_of, with_fresh,
+    Made, Scope, Variable, behind_ranges, free_slots, joined_lists, one_part, paired, part_alone,
+    place_of, places_of, renumbered, scope_inside, sum, variables_of, with_fresh,
 };
 use normal_task::{Literal, Part};
-use numbering::{Numbering, Scope, Variable, place_of, places_of, scope_inside, sum};
+use numbering::Numbering;
 use pddl_parser::{Atom, Condition, Term, Typed};
 use std::alloc::{AllocError, Global};
 

@@ -9,9 +9,12 @@ ghost use Rattle.normal_task.specs.Parts as parts;
 
 use crate::conditions::{Here, cut, joined_made, neutral};
 use lists::List;
-use normal_rows::{Change, Made, effect_rows, joined_ranges, made_behind, nothing_made};
+use normal_rows::{
+    Change, Made, Scope, effect_rows, joined_ranges, made_behind, nothing_made, places_of,
+    scope_inside, sum,
+};
 use normal_task::{EffectRow, ObjectRange, Part};
-use numbering::{Numbering, Scope, places_of, scope_inside, sum};
+use numbering::Numbering;
 use pddl_parser::{Atom, Condition, Effect, Typed};
 use std::alloc::{AllocError, Global};
 

@@ -9,10 +9,11 @@ use crate::conditions::{Here, cut};
 use crate::effects::{Around, rows_of};
 use lists::{List, Text};
 use normal_rows::{
-    Made, action_cost, joined_lists, joined_ranges, made_behind, moved_rows, nothing_made,
+    Made, Scope, action_cost, joined_lists, joined_ranges, made_behind, moved_rows, nothing_made,
+    scope_of, sum,
 };
 use normal_task::{EffectRow, ObjectRange, Part, Schema};
-use numbering::{Numbering, Scope, scope_of, sum};
+use numbering::Numbering;
 use pddl_parser::Action;
 use std::alloc::{AllocError, Global};
 

@@ -5,3 +5,4 @@ pub mod MadeSame
 mod FreeVariables
 mod FirstItems
 mod FreeNames
+mod InnerScopes

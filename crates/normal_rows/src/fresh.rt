@@ -3,9 +3,9 @@ ghost use Rattle.std.specs.Prelude.{◌≡◌, ◌∷◌, map, IfOk};
 
 use crate::made::Made;
 use crate::slots::ranges_of;
+use crate::variable::Variable;
 use lists::List;
 use normal_task::{Fresh, Part};
-use numbering::Variable;
 use std::alloc::{AllocError, Global};
 
 /// A new derived predicate with these arguments, whose axioms have these parts, before the others that they need.

@@ -6,8 +6,9 @@ ghost use Rattle.pddl_parser.specs.Step.{increases};
 ghost use Rattle.normal_rows.specs.Costs.{first, cost_of};
 ghost use Rattle.normal_task.specs.Normalised as spec;
 
+use crate::scope::{Scope, places_of};
 use normal_task::CostRow;
-use numbering::{Numbering, Scope, places_of};
+use numbering::Numbering;
 use pddl_parser::{Action, Cost, Effect};
 use std::alloc::{AllocError, Global};
 

@@ -7,10 +7,12 @@ ghost use Rattle.normal_task.specs.declared.task.Place.TheVariants as place;
 ghost use Rattle.normal_task.specs.Parts as spec;
 
 use crate::free::free_inside;
+use crate::scope::Scope;
+use crate::variable::Variable;
 use lists::List;
 use names::Names;
 use normal_task::{ObjectRange, Place};
-use numbering::{Numbering, Scope, Variable};
+use numbering::Numbering;
 use pddl_parser::{Condition, Typed};
 use std::alloc::{AllocError, Global};
 

@@ -1,3 +1,5 @@
 -- Lemmas of this crate.
 mod FreshAxioms
 mod WholeTask
+mod OnceSteps
+mod WrittenNames

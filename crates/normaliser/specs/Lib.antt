@@ -1,1 +1,3 @@
+pub mod IsWritten
+pub mod Rows
 pub mod WholeTask

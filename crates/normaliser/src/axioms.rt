@@ -7,9 +7,9 @@ ghost use Rattle.normal_task.specs.Parts as parts;
 
 use action_schemas::{Here, cut};
 use lists::List;
-use normal_rows::{Made, made_behind, nothing_made, push_axioms};
+use normal_rows::{Made, Scope, made_behind, nothing_made, push_axioms, scope_of, sum};
 use normal_task::{AxiomRow, Fresh, Part};
-use numbering::{Numbering, Scope, scope_of, sum};
+use numbering::Numbering;
 use pddl_parser::{Derived, Head};
 use std::alloc::{AllocError, Global};
 

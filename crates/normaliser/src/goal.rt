@@ -6,9 +6,9 @@ ghost use Rattle.normal_task.specs.Normalised as spec;
 
 use crate::axioms::fresh_number;
 use lists::List;
-use normal_rows::{Made, copied_literals};
+use normal_rows::{Made, copied_literals, sum};
 use normal_task::{Fresh, Literal, Part};
-use numbering::{Numbering, sum};
+use numbering::Numbering;
 use std::alloc::{AllocError, Global};
 
 /// The literals of the only part, if it has no variables.

@@ -3,6 +3,8 @@
 
 mod axioms;
 mod goal;
+mod initial;
 mod normal;
+mod predicates;
 
 pub use normal::normalise;

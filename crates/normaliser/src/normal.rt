@@ -9,12 +9,14 @@ ghost use Rattle.normal_task.specs.Numbers as numbers;
 
 use crate::axioms::{axioms_of, push_fresh_axioms};
 use crate::goal::goal_of;
+use crate::initial::{stated_atoms, stated_values};
+use crate::predicates::predicate_rows;
 use action_schemas::{Here, cut, schemas_of};
 use lists::{List, Text};
-use normal_rows::{Made, joined_lists};
+use normal_rows::{Made, Scope, joined_lists, sum};
 use normal_task::laws::lawful;
 use normal_task::{AxiomRow, Fresh, Literal, Normal, Schema};
-use numbering::{Numbering, Scope, predicate_rows, stated_atoms, stated_values, sum};
+use numbering::Numbering;
 use pddl_parser::Typed;
 use std::alloc::{AllocError, Global};
 use type_checker::Checked;

@@ -1,4 +1,1 @@
 pub mod Below
-pub mod InScope
-pub mod IsWritten
-pub mod Rows

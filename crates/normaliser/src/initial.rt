@@ -1,0 +1,188 @@
+// The initial state and the values of a normal task.
+ghost use Rattle.std.specs.Prelude.{◌≡◌, ◌++◌, ◌∷◌, [], List as Items, map, codes, IfOk, OnOk, if◌then◌else◌};
+ghost use Rattle.std.specs.List.{list_any, flat_map};
+ghost use Rattle.pddl_parser.specs.Holds as pddl;
+ghost use Rattle.names.specs.Names.{is_same};
+ghost use Rattle.normal_task.specs.declared.task.GroundAtom as atom_type;
+ghost use Rattle.normal_task.specs.declared.task.ValueRow as row_type;
+ghost use Rattle.normal_task.specs.Keys.{atom_key, value_key};
+ghost use Rattle.normal_task.specs.Meaning.{is_same_atom, is_same_value};
+ghost use Rattle.normal_task.specs.Normalised as spec;
+ghost use Rattle.normal_task.specs.Numbers.{function_number, object_number};
+
+use atom_objects::Objects;
+use lists::List;
+use normal_task::{GroundAtom, ValueRow};
+use number_lists::NumberLists;
+use numbering::Numbering;
+use pddl_parser::{Atom, Init, Term};
+use std::alloc::{AllocError, Global};
+
+/// A predicate or a function with its objects, as a key.
+fn key_of(alloc: Global, number: u64, objects: &[u64]) -> Result<Vec<u64>, AllocError>
+    ensures { IfOk result (λ key. key.items ≡ number ∷ objects.now) }
+{
+    let mut key = Vec::new(alloc);
+    key.push(number)?;
+    key.extend_from_slice(objects)?;
+    Ok(key)
+}
+
+/// Adds the item, if its key is new.
+fn push_new<T: Drop>(
+    keys: &mut NumberLists,
+    items: &mut Vec<T>,
+    key: Vec<u64>,
+    item: T,
+) -> Result<(), AllocError>
+    ensures { OnOk result ((keys.new ≡ (if list_any (is_same key.items) keys.old then keys.old else keys.old ++ key.items ∷ [])) × (items.new.items ≡ (if list_any (is_same key.items) keys.old then items.old.items else items.old.items ++ item ∷ []))) }
+{
+    if keys.insert(key)? {
+        items.push(item)?;
+    }
+    Ok(())
+}
+
+// ---- atoms
+
+/// The number of the object that the term names.
+fn stated_object(numbering: &Numbering<'_>, term: &Term) -> u64
+    ensures { result ≡ object_number numbering.now.domain numbering.now.problem (pddl.object_of [] term.now) }
+{
+    match term {
+        Term::Variable(_) => numbering.object(&[]),
+        Term::Object(object) => numbering.object(object.name.as_slice()),
+    }
+}
+
+/// The numbers of the objects that the terms name.
+fn stated_objects(
+    alloc: Global,
+    numbering: &Numbering<'_>,
+    terms: &[Term],
+) -> Result<Objects, AllocError>
+    ensures { IfOk result (λ objects. objects ≡ map (object_number numbering.now.domain numbering.now.problem) (map (pddl.object_of []) terms.now)) }
+{
+    let mut objects = Objects::new(alloc);
+    for term in terms {
+        objects.push(stated_object(numbering, term))?;
+    }
+    Ok(objects)
+}
+
+fn stated_atom(
+    alloc: Global,
+    numbering: &Numbering<'_>,
+    atom: &Atom,
+) -> Result<GroundAtom, AllocError>
+    ensures { IfOk result (λ stated. stated ≡ spec.numbered_atom numbering.now.domain numbering.now.problem (pddl.ground [] atom.now)) }
+{
+    Ok(GroundAtom {
+        predicate: numbering.predicate(atom.predicate.name.as_slice()),
+        objects: stated_objects(alloc, numbering, atom.terms.as_slice())?,
+    })
+}
+
+/// Adds the atom that the entry states, if it is a new one.
+fn push_stated(
+    keys: &mut NumberLists,
+    atoms: &mut Vec<GroundAtom>,
+    numbering: &Numbering<'_>,
+    entry: &Init,
+) -> Result<(), AllocError>
+    ensures { (so_far : Items atom_type.GroundAtom) → keys.old ≡ map atom_key atoms.old.items → atoms.old.items ≡ spec.once_after numbering.now.domain numbering.now.problem is_same_atom [] so_far →
+        OnOk result ((keys.new ≡ map atom_key atoms.new.items) × (atoms.new.items ≡ spec.once_after numbering.now.domain numbering.now.problem is_same_atom [] (so_far ++ spec.stated numbering.now.domain numbering.now.problem entry.now))) }
+{
+    match entry {
+        Init::Holds(atom) => {
+            let alloc = *atoms.allocator();
+            let stated = stated_atom(alloc, numbering, atom)?;
+            let key = key_of(alloc, stated.predicate, stated.objects.as_slice())?;
+            push_new(keys, atoms, key, stated)
+        }
+        Init::HoldsNot(_, _) | Init::Value(_, _, _) => Ok(()),
+    }
+}
+
+/// The atoms that the entries state, each once, where it stands first.
+pub(crate) fn stated_atoms(
+    alloc: Global,
+    numbering: &Numbering<'_>,
+    entries: &[Init],
+) -> Result<List<GroundAtom>, AllocError>
+    ensures { IfOk result (λ atoms. atoms ≡ spec.once_after numbering.now.domain numbering.now.problem is_same_atom [] (flat_map (spec.stated numbering.now.domain numbering.now.problem) entries.now)) }
+{
+    let mut keys = NumberLists::new(alloc);
+    let mut atoms = Vec::new(alloc);
+    for entry in entries {
+        push_stated(&mut keys, &mut atoms, numbering, entry)?;
+    }
+    Ok(List::from_vec(atoms))
+}
+
+// ---- values
+
+fn is_total_cost(name: &[u8]) -> bool
+    ensures { result ≡ is_same name.now (codes "total-cost") }
+{
+    name == b"total-cost".as_slice()
+}
+
+fn value_row(
+    alloc: Global,
+    numbering: &Numbering<'_>,
+    term: &Atom,
+    value: u64,
+) -> Result<ValueRow, AllocError>
+    ensures { IfOk result (λ row. row ≡ record {
+      function = function_number numbering.now.domain term.now.predicate.name;
+      objects = map (object_number numbering.now.domain numbering.now.problem) (map (pddl.object_of []) term.now.terms);
+      value = value;
+    }) }
+{
+    Ok(ValueRow {
+        function: numbering.function(term.predicate.name.as_slice()),
+        objects: stated_objects(alloc, numbering, term.terms.as_slice())?,
+        value,
+    })
+}
+
+/// Adds the value that the entry gives, if the function has none yet for the objects.
+fn push_value(
+    keys: &mut NumberLists,
+    rows: &mut Vec<ValueRow>,
+    numbering: &Numbering<'_>,
+    entry: &Init,
+) -> Result<(), AllocError>
+    ensures { (so_far : Items row_type.ValueRow) → keys.old ≡ map value_key rows.old.items → rows.old.items ≡ spec.once_after numbering.now.domain numbering.now.problem is_same_value [] so_far →
+        OnOk result ((keys.new ≡ map value_key rows.new.items) × (rows.new.items ≡ spec.once_after numbering.now.domain numbering.now.problem is_same_value [] (so_far ++ spec.value_row numbering.now.domain numbering.now.problem entry.now))) }
+{
+    match entry {
+        Init::Value(term, value, _) => {
+            if is_total_cost(term.predicate.name.as_slice()) {
+                return Ok(());
+            }
+            let alloc = *rows.allocator();
+            let row = value_row(alloc, numbering, term, *value)?;
+            let key = key_of(alloc, row.function, row.objects.as_slice())?;
+            push_new(keys, rows, key, row)
+        }
+        Init::Holds(_) | Init::HoldsNot(_, _) => Ok(()),
+    }
+}
+
+/// The values that the entries give, for each function and its objects the first.
+pub(crate) fn stated_values(
+    alloc: Global,
+    numbering: &Numbering<'_>,
+    entries: &[Init],
+) -> Result<List<ValueRow>, AllocError>
+    ensures { IfOk result (λ rows. rows ≡ spec.once_after numbering.now.domain numbering.now.problem is_same_value [] (flat_map (spec.value_row numbering.now.domain numbering.now.problem) entries.now)) }
+{
+    let mut keys = NumberLists::new(alloc);
+    let mut rows = Vec::new(alloc);
+    for entry in entries {
+        push_value(&mut keys, &mut rows, numbering, entry)?;
+    }
+    Ok(List::from_vec(rows))
+}
