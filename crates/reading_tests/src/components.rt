@@ -1,3 +1,5 @@
+//! Searches of graphs.
+
 use names::{Arc, Searches};
 use std::alloc::{AllocError, Global};
 use std::test::*;

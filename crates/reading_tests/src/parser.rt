@@ -3,6 +3,7 @@
 use crate::reading::{domain_of, problem_of};
 use pddl_lexer::At;
 use pddl_parser::{Action, Condition, Derived, Domain, Effect, Head, Init, Named, Problem, Typed};
+use std::alloc::Global;
 use std::test::*;
 
 const DOMAIN: &str = "(define (domain switch) ; a lamp
@@ -55,10 +56,18 @@ fn is_lamp(problem: &Problem) -> bool {
     !problem.metric && is_off(problem.init.as_slice()) && is_atom(&problem.goal, "on", 3, 9)
 }
 
+fn is_switch_read(alloc: Global) -> bool {
+    matches!(&domain_of(alloc, DOMAIN), Ok(domain) if is_switch(domain))
+}
+
+fn is_lamp_read(alloc: Global) -> bool {
+    matches!(&problem_of(alloc, PROBLEM), Ok(problem) if is_lamp(problem))
+}
+
 #[test]
 fn the_switch_files_are_read(rt: HostRuntime) {
-    assert!(rt; matches!(&domain_of(rt.alloc(), DOMAIN), Ok(domain) if is_switch(domain)));
-    assert!(rt; matches!(&problem_of(rt.alloc(), PROBLEM), Ok(problem) if is_lamp(problem)));
+    assert!(rt; is_switch_read(rt.alloc()));
+    assert!(rt; is_lamp_read(rt.alloc()));
 }
 
 /// Whether the second of three constants has one type, and the third none.

@@ -1,6 +1,6 @@
 //! The nested list of a text, its first fault, and the number and the text of each kind of fault.
 
-use pddl_lexer::{At, Fault, Kind, ShapePlace, TreeEnd, read_tree};
+use pddl_lexer::{At, Fault, Kind, ShapePlace, Tree, TreeEnd, read_tree};
 use std::test::*;
 
 fn fault_of(rt: HostRuntime, text: &[u8]) -> Option<Fault> {
@@ -68,8 +68,10 @@ fn a_hundred_lists_may_be_open(rt: HostRuntime) {
     assert_eq!(rt; fault_of(rt, &too_deep), want);
 }
 
-// Each node: whether it is a list, its line and column, its bytes, its first member, the next member.
-static NODES: [(bool, u64, u64, &str, Option<u64>, Option<u64>); 8] = [
+/// A node: whether it is a list, its line and column, its bytes, its first member, the next member.
+type Node = (bool, u64, u64, &'static str, Option<u64>, Option<u64>);
+
+static NODES: [Node; 8] = [
     (true, 2, 1, "", Some(1), None),
     (false, 2, 2, "define", None, Some(2)),
     (true, 3, 1, "", Some(3), Some(6)),
@@ -80,6 +82,17 @@ static NODES: [(bool, u64, u64, &str, Option<u64>, Option<u64>); 8] = [
     (false, 3, 17, "SWITCH-2", None, None),
 ];
 
+/// Whether this is the node of the tree.
+fn is_node(tree: &Tree<'_>, node: u64, row: &Node) -> bool {
+    let (list, line, column, word, first, next) = *row;
+    node < tree.len()
+        && tree.is_list(node) == list
+        && tree.at(node) == At { line, column }
+        && tree.word(node) == word.as_bytes()
+        && tree.first(node) == first
+        && tree.next(node) == next
+}
+
 #[test]
 fn nodes_of_a_tree(rt: HostRuntime) -> Result<(), Fail> {
     let text = b"; \xc3\xa9 (\n(define ; (\n(Domain a?b) ()\tSWITCH-2;)\n)\n; end";
@@ -87,15 +100,8 @@ fn nodes_of_a_tree(rt: HostRuntime) -> Result<(), Fail> {
         .ok()
         .ok_or("no tree")?;
     assert_eq!(rt; tree.len(), 8);
-    for i in 0..8 {
-        let (list, line, column, word, first, next) = NODES[i];
-        let node = i as u64;
-        assert!(rt; node < tree.len());
-        assert_eq!(rt; tree.is_list(node), list, "{i}");
-        assert_eq!(rt; tree.at(node), At { line, column }, "{i}");
-        assert_eq!(rt; tree.word(node), word.as_bytes(), "{i}");
-        assert_eq!(rt; tree.first(node), first, "{i}");
-        assert_eq!(rt; tree.next(node), next, "{i}");
+    for (place, row) in NODES.iter().enumerate() {
+        assert!(rt; is_node(&tree, place as u64, row), "{place}");
     }
     Ok(())
 }
