@@ -16,8 +16,9 @@ use Rattle.relaxed_reach.specs.declared.types.Reached.{Reached}
 use Rattle.relaxed_reach.specs.declared.types.ReachedAction.{ReachedAction}
 use Rattle.relaxed_reach.specs.ReachedTask.{reached_task}
 use Rattle.relaxed_reach.specs.Alike.{AreAlike as AreAlikeReached}
-use Rattle.fdr_encoder.specs.Places.{Cover, values_in}
-use Rattle.fdr_encoder.specs.Encoding.{variable_over, rules_at, goal_part_of, group_of, groups_of, IsSameOperator, IsEncoding}
+use Rattle.fdr_effects.specs.Places.{Cover, values_in}
+use Rattle.fdr_encoder.specs.Encoding.{variable_over, rules_at, goal_part_of, IsSameOperator, IsEncoding}
+use Rattle.fdr_effects.specs.Groups.{group_of, groups_of}
 use Rattle.fdr_encoder.proofs.Parts.{operator_with, rule_from, rule_after, operator_from, operator_for}
 
 -- ---- lists with the same members

@@ -9,7 +9,7 @@ use Rattle.lists.proofs.Members.{no_member, member_first, all_from_members, memb
 use Rattle.planning.specs.Task.{State}
 use Rattle.relaxed_reach.specs.declared.types.Reached.{Reached}
 use Rattle.relaxed_reach.specs.ReachedTask.{is_derived}
-use Rattle.fdr_encoder.specs.Places.{Cover, set_of}
+use Rattle.fdr_effects.specs.Places.{Cover, set_of}
 use Rattle.relaxed_reach.specs.Exclusive.{AtMostOne, IsExclusive}
 use Rattle.fdr_encoder.specs.Covers.{singles, IsGroupCover, MakesVariables, IsBasicGroup}
 use Rattle.group_cover.specs.Cover.{IsCover, AreParts, uncovered, single}

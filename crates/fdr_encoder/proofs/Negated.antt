@@ -8,9 +8,9 @@ use Rattle.lists.proofs.Members.{no_member, member_first, member_later, member_c
 use Rattle.static_matcher.specs.declared.types.Cond.{Cond}
 use Rattle.static_matcher.specs.Literals.{holds}
 use Rattle.planning.specs.Task.{State}
-use Rattle.fdr_encoder.specs.Effects.{no_literals, is_true, is_false, both, negations, choices}
-use Rattle.fdr_encoder.specs.Places.{Cover}
-use Rattle.fdr_encoder.proofs.Placed.{Stands, AllStand}
+use Rattle.fdr_effects.specs.Effects.{no_literals, is_true, is_false, both, negations, choices}
+use Rattle.fdr_effects.specs.Places.{Cover}
+use Rattle.fdr_effects.proofs.Placed.{Stands, AllStand}
 
 -- where not all pass, one fails
 pub some_fails : {X : Type 0} (p : X → Bool) (xs : List X) → list_all p xs ≡ false → (x : X) × Contains xs x × (p x ≡ false)

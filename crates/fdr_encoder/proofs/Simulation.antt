@@ -31,16 +31,18 @@ use Rattle.relaxed_reach.specs.declared.types.Reached.{Reached}
 use Rattle.relaxed_reach.specs.declared.types.ReachedAction.{ReachedAction}
 use Rattle.relaxed_reach.specs.declared.types.ReachedEffect.{ReachedEffect}
 use Rattle.relaxed_reach.specs.ReachedTask.{is_derived, action_row, reached_task}
-use Rattle.fdr_encoder.specs.Places.{Cover, pair, set_of, first_place, last_value, value_in}
-use Rattle.fdr_encoder.specs.Effects.{effects_of, simplified}
+use Rattle.fdr_effects.specs.Places.{Cover, pair, set_of, first_place, last_value, value_in}
+use Rattle.fdr_effects.specs.Effects.{effects_of}
+use Rattle.fdr_encoder.specs.Operators.{simplified}
 use Rattle.relaxed_reach.specs.Lawful.{IsLawfulEffect, IsLawfulAction, IsLawful}
-use Rattle.fdr_encoder.specs.Encoding.{is_groups, group_of, groups_of, IsSameOperator, IsEncoding}
+use Rattle.fdr_effects.specs.Groups.{is_groups, group_of, groups_of}
+use Rattle.fdr_encoder.specs.Encoding.{IsSameOperator, IsEncoding}
 use Rattle.relaxed_reach.specs.Exclusive.{IsExclusive}
 use Rattle.fdr_encoder.specs.Covers.{MakesVariables, IsBasicGroup}
 use Rattle.fdr_encoder.specs.Simulates.{Shows, Correspond, Simulates}
-use Rattle.fdr_encoder.proofs.Sets.{has_member, place_of_true, true_at_place, same_place}
+use Rattle.fdr_effects.proofs.Sets.{has_member, place_of_true, true_at_place, same_place}
 use Rattle.fdr_encoder.proofs.After.{adds_fact, deletes_fact, is_added, is_deleted, after, successor_is}
-use Rattle.fdr_encoder.proofs.Placed.{AreExclusive}
+use Rattle.fdr_effects.proofs.Placed.{AreExclusive}
 use Rattle.fdr_encoder.proofs.SplitHolds.{split_on, split_back, split_pairs}
 use Rattle.fdr_encoder.proofs.OneStep.{IsPlaced, effect_from, sets, moves}
 use Rattle.fdr_encoder.proofs.Simplified.{Drives, IsPlain, drives_simplified, below_simplified}

@@ -14,13 +14,13 @@ use Rattle.relaxed_reach.specs.declared.types.Reached.{Reached}
 use Rattle.relaxed_reach.specs.declared.types.ReachedAction.{ReachedAction}
 use Rattle.relaxed_reach.specs.declared.types.ReachedAxiom.{ReachedAxiom}
 use Rattle.relaxed_reach.specs.ReachedTask.{is_derived, reached_task}
-use Rattle.fdr_encoder.specs.Places.{Cover, set_of, places}
+use Rattle.fdr_effects.specs.Places.{Cover, set_of, places}
 use Rattle.relaxed_reach.specs.Lawful.{NamesFacts, IsLawfulEffect, IsLawfulAction, IsLawfulAxiom, IsLawful}
 use Rattle.fdr_encoder.specs.Encoding.{IsEncoding}
 use Rattle.fdr_encoder.specs.Covers.{MakesVariables}
 use Rattle.lists.proofs.Members.{any_member, member_single}
-use Rattle.fdr_encoder.proofs.Sets.{place_of_none}
-use Rattle.fdr_encoder.proofs.Placed.{AreExclusive, Stands, AllStand, place_in, place_is, place_at, stands_of, stands_member, stands_below}
+use Rattle.fdr_effects.proofs.Sets.{place_of_none}
+use Rattle.fdr_effects.proofs.Placed.{AreExclusive, Stands, AllStand, place_in, place_is, place_at, stands_of, stands_member, stands_below}
 use Rattle.fdr_encoder.proofs.OneStep.{IsPlaced}
 use Rattle.fdr_encoder.proofs.After.{adds_fact, is_added, is_deleted, after}
 use Rattle.fdr_encoder.proofs.Parts.{layer_at}

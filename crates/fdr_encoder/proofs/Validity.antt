@@ -24,23 +24,25 @@ use Rattle.static_matcher.specs.Literals.{initial}
 use Rattle.relaxed_reach.specs.declared.types.Reached.{Reached}
 use Rattle.relaxed_reach.specs.declared.types.ReachedAction.{ReachedAction}
 use Rattle.relaxed_reach.specs.ReachedTask.{is_derived, reached_task}
-use Rattle.fdr_encoder.specs.Places.{Cover, pair, set_of, first_place, stands_in, last_value, value_in}
-use Rattle.fdr_encoder.specs.Split.{is_looked_at, split}
-use Rattle.fdr_encoder.specs.Effects.{among, can_go, less_known, less_idle, effects_left, is_of_use, simplified, effects_of}
+use Rattle.fdr_effects.specs.Places.{Cover, pair, set_of, first_place, stands_in, last_value, value_in}
+use Rattle.fdr_effects.specs.Split.{is_looked_at, split}
+use Rattle.fdr_encoder.specs.Operators.{among, can_go, less_known, less_idle, effects_left, is_of_use, simplified}
+use Rattle.fdr_effects.specs.Effects.{effects_of}
 use Rattle.relaxed_reach.specs.Lawful.{NamesFacts, IsLawfulEffect, IsLawfulAction, IsLawfulGoal, IsLawful}
 use Rattle.relaxed_reach.specs.Layers.{Names, AreLayers}
-use Rattle.fdr_encoder.specs.Encoding.{variable_over, goal_variable, goal_split, layer_above, group_of, groups_of, rule, GoalPart, IsEncoding}
+use Rattle.fdr_encoder.specs.Encoding.{variable_over, goal_variable, goal_split, layer_above, rule, GoalPart, IsEncoding}
+use Rattle.fdr_effects.specs.Groups.{group_of, groups_of}
 use Rattle.fdr_encoder.specs.Covers.{MakesVariables, IsBasicGroup}
-use Rattle.fdr_encoder.proofs.Sets.{at_place}
-use Rattle.fdr_encoder.proofs.Placed.{place_is, first, first_in, first_is, stands_member}
+use Rattle.fdr_effects.proofs.Sets.{at_place}
+use Rattle.fdr_effects.proofs.Placed.{place_is, first, first_in, first_is, stands_member}
 use Rattle.fdr_encoder.proofs.SplitHolds.{combination_pairs, split_pairs}
 use Rattle.fdr_encoder.proofs.OneStep.{effect_from}
 use Rattle.fdr_encoder.proofs.Parts.{RuleFrom, rule_after, in_one, count, count_state, variable_at, layer_at, start_at, last_variable, variable_last, layer_last, start_last, goal_whole, goal_parted, rule_from, operator_from, is_whole, is_parted, part}
 use Rattle.relaxed_reach.proofs.OneLayers.{derived_below}
 use Rattle.fdr_encoder.proofs.Standing.{lawful_axiom, value_single, stands, literals_stand, OverBasic, kind, layer_of_basic, starts_plain}
-use Rattle.fdr_encoder.proofs.Rising.{rising_filter, two_members}
-use Rattle.fdr_encoder.proofs.ByVariable.{member_rises}
-use Rattle.fdr_encoder.proofs.Grouped.{places_in, in_variable, group_in_order, first_in_group}
+use Rattle.fdr_effects.proofs.Rising.{rising_filter, two_members}
+use Rattle.fdr_effects.proofs.ByVariable.{member_rises}
+use Rattle.fdr_effects.proofs.Grouped.{places_in, in_variable, group_in_order, first_in_group}
 use Rattle.fdr_encoder.proofs.Texts.{variable_valid, goal_variable_valid}
 use Rattle.fdr_encoder.proofs.LayersBelow.{layer_below, above_within}
 use Rattle.lists.specs.Names.{IsName}

@@ -22,13 +22,13 @@ use Rattle.static_matcher.specs.Literals.{holds, gives, initial, goal_holds, mea
 use Rattle.planning.specs.Task.{State, IsFull}
 use Rattle.relaxed_reach.specs.declared.types.Reached.{Reached}
 use Rattle.relaxed_reach.specs.ReachedTask.{is_derived, axiom_row, reached_task}
-use Rattle.fdr_encoder.specs.Places.{Cover, set_of, value_in}
+use Rattle.fdr_effects.specs.Places.{Cover, set_of, value_in}
 use Rattle.relaxed_reach.specs.Lawful.{IsLawfulGoal, IsLawful}
 use Rattle.fdr_encoder.specs.Encoding.{rule, goal_split, layer_above, IsEncoding}
 use Rattle.fdr_encoder.specs.Covers.{MakesVariables}
 use Rattle.fdr_encoder.specs.Simulates.{Shows}
-use Rattle.fdr_encoder.proofs.Sets.{same_place}
-use Rattle.fdr_encoder.proofs.Placed.{AreExclusive, place_in, place_is, place_at, first, first_in}
+use Rattle.fdr_effects.proofs.Sets.{same_place}
+use Rattle.fdr_effects.proofs.Placed.{AreExclusive, place_in, place_is, place_at, first, first_in}
 use Rattle.fdr_encoder.proofs.SplitHolds.{split_on, split_back}
 use Rattle.relaxed_reach.proofs.OneLayers.{derived_below}
 use Rattle.fdr_encoder.proofs.Standing.{lawful_axiom, value_single, stands, literals_stand, OverDerived, only_place, kind, exclusive_full, over_by_layer, basic_by_layer, layer_of_derived, layer_of_basic, starts_plain}

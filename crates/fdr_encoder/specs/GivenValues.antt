@@ -3,7 +3,7 @@ use Rattle.std.specs.Prelude.{◌≡◌, ℕ, Bool, ◌&&◌, nat_eq, List}
 use Rattle.std.specs.List.{list_any}
 use Rattle.sas_task.specs.declared.parts.Pair.{Pair}
 use Rattle.sas_task.specs.declared.parts.Effect.{Effect}
-use Rattle.fdr_encoder.specs.Effects.{is_given}
+use Rattle.fdr_encoder.specs.Operators.{is_given}
 
 abbrev pub is_same : ℕ × ℕ → ℕ × ℕ → Bool
 is_same key other = nat_eq key.0 other.0 && nat_eq key.1 other.1

@@ -3,9 +3,8 @@
 ghost use Rattle.std.specs.Prelude.{◌≡◌, ℕ, ◌++◌, IfOk, OnOk};
 ghost use Rattle.fdr_encoder.specs.Encoding as parts;
 
-use crate::index::Index;
 use crate::operators::push_rules;
-use crate::splits::split;
+use fdr_effects::{Index, split};
 use lists::{List, Text};
 use sas_task::{Pair, Rule, Variable};
 use static_matcher::GoalRow;

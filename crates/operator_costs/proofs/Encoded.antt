@@ -19,9 +19,10 @@ use Rattle.relaxed_reach.specs.declared.types.Reached.{Reached}
 use Rattle.relaxed_reach.specs.declared.types.ReachedAction.{ReachedAction}
 use Rattle.relaxed_reach.specs.ReachedTask.{reached_task, action_row}
 use Rattle.relaxed_reach.specs.Reachable.{IsReachedTask, numbering}
-use Rattle.fdr_encoder.specs.Places.{Cover}
-use Rattle.fdr_encoder.specs.Split.{split}
-use Rattle.fdr_encoder.specs.Effects.{effects_of, simplified, operators_at}
+use Rattle.fdr_effects.specs.Places.{Cover}
+use Rattle.fdr_effects.specs.Split.{split}
+use Rattle.fdr_effects.specs.Effects.{effects_of}
+use Rattle.fdr_encoder.specs.Operators.{simplified, operators_at}
 use Rattle.fdr_encoder.specs.Encoding.{IsSameOperator, IsEncoding}
 use Rattle.sas_task.specs.declared.parts.Operator.{Operator}
 use Rattle.sas_task.specs.declared.parts.Pair.{Pair}

@@ -7,7 +7,7 @@ use Rattle.static_matcher.specs.declared.types.Ground.{Ground}
 use Rattle.static_matcher.specs.Instances.{IsGroundTask}
 use Rattle.relaxed_reach.specs.declared.types.Reached.{Reached}
 use Rattle.relaxed_reach.specs.Reachable.{IsReachedTask}
-use Rattle.fdr_encoder.specs.Places.{Cover}
+use Rattle.fdr_effects.specs.Places.{Cover}
 use Rattle.fdr_encoder.specs.Encoding.{IsEncoding}
 use Rattle.sas_task.specs.Task.{Task}
 use Rattle.sas_restriction.specs.Choice.{Choice}

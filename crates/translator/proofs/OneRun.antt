@@ -16,7 +16,7 @@ use Rattle.relaxed_reach.specs.Alike.{AreAlike as AreAlikeReached}
 use Rattle.mutex_groups.specs.Laws.{OneSetOfGroups}
 use Rattle.group_cover.specs.Cover.{IsCover}
 use Rattle.group_cover.specs.Laws.{OneCoverOfSame}
-use Rattle.fdr_encoder.specs.Places.{Cover}
+use Rattle.fdr_effects.specs.Places.{Cover}
 use Rattle.fdr_encoder.specs.Encoding.{IsEncoding}
 use Rattle.sas_task.specs.Task.{Task}
 use Rattle.sas_task.specs.Alike.{AreAlike, RulesAgree}

@@ -6,7 +6,7 @@ use Rattle.std.proofs.lemmas.Iterator.Consumers.{YieldsList-end, YieldsList-turn
 use Rattle.lists.proofs.Items.{map_itself}
 use Rattle.sas_task.specs.declared.parts.Pair.{Pair}
 use Rattle.sas_task.specs.declared.parts.Operator.{Operator}
-use Rattle.fdr_encoder.specs.Effects.{simplified}
+use Rattle.fdr_encoder.specs.Operators.{simplified}
 use Rattle.fdr_encoder.proofs.operators.push_members.Goals as goal
 
 pub operator-requires : goal.operator-requires

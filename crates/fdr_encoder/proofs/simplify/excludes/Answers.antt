@@ -2,7 +2,7 @@
 use Rattle.std.proofs.Common.{◌==◌, not, ap, ◌∙◌}
 use Rattle.std.specs.List.{list_any}
 use Rattle.sas_task.specs.declared.parts.Pair.{Pair}
-use Rattle.fdr_encoder.proofs.ByVariable.{any_on}
+use Rattle.fdr_effects.proofs.ByVariable.{any_on}
 use Rattle.fdr_encoder.proofs.simplify.excludes.Goals as goal
 
 pub returns : goal.returns

@@ -3,7 +3,7 @@ use Rattle.std.proofs.Common.{◌≡◌, true, not, eqb, List, map, sym, ap, ◌
 use Rattle.std.specs.List.{list_all}
 use Rattle.sas_task.specs.declared.parts.Pair.{Pair}
 use Rattle.sas_task.specs.declared.parts.Effect.{Effect}
-use Rattle.fdr_encoder.specs.Effects.{less_idle}
+use Rattle.fdr_encoder.specs.Operators.{less_idle}
 use Rattle.fdr_encoder.proofs.Loops.{apart_stay}
 use Rattle.fdr_encoder.proofs.simplify.simplified.Goals as goal
 

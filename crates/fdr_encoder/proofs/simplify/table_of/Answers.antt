@@ -4,7 +4,7 @@ use Rattle.std.specs.List.{list_any}
 use Rattle.std.proofs.lemmas.List.Folds.{list_any-append}
 use Rattle.lists.proofs.LoopSteps.{take_next}
 use Rattle.sas_task.specs.declared.parts.Effect.{Effect}
-use Rattle.fdr_encoder.specs.Effects.{is_given}
+use Rattle.fdr_encoder.specs.Operators.{is_given}
 use Rattle.fdr_encoder.specs.GivenValues.{Know, is_same}
 use Rattle.fdr_encoder.proofs.simplify.table_of.Goals as goal
 use Rattle.lists.proofs.Items.{last_of}

@@ -1,0 +1,97 @@
+-- One more turn of the loops.
+use Rattle.std.proofs.Common.{◌≡◌, ℕ, ◌+◌, ◌<◌, Bool, true, false, eqb, cond, ◌&&◌, ◌||◌, List, [], ◌∷◌, ◌++◌, map, take, length, get_or, append-nil, append_assoc, refl, sym, ap, ◌∙◌, arith}
+use Rattle.std.proofs.lemmas.List.{map-append}
+use Rattle.std.proofs.lemmas.Simd.{map-map}
+use Rattle.std.specs.List.{filter, flat_map, list_any}
+use Rattle.std.proofs.lemmas.Bool.{and_parts, eqb-true}
+use Rattle.std.proofs.lemmas.List.{take_more}
+use Rattle.std.proofs.lemmas.List.Elements.{filter-append}
+use Rattle.std.proofs.lemmas.List.Concat.{flat_map-append}
+use Rattle.static_matcher.specs.declared.types.Cond.{Cond}
+use Rattle.relaxed_reach.specs.declared.types.ReachedEffect.{ReachedEffect}
+use Rattle.fdr_effects.specs.Places.{Cover, stands_in}
+use Rattle.fdr_effects.specs.Effects.{no_literals, is_true, is_false, both, negations, choices, rivals}
+use Rattle.fdr_effects.specs.Rivals.{is_no_literal}
+
+-- one more piece
+pub flat_map_take_more : {X Y : Type 0} (f : X → List Y) (xs : List X) (i : ℕ) (d : X) → i < length xs → flat_map f (take (i + 1) xs) ≡ flat_map f (take i xs) ++ f (get_or xs i d)
+flat_map_take_more f xs i d within =
+    ap (flat_map f) (take_more xs i d within) ∙ flat_map-append f (take i xs) (get_or xs i d ∷ []) ∙ ap (λ l. flat_map f (take i xs) ++ l) (append-nil (f (get_or xs i d)))
+
+-- the literals of three lists, in either grouping
+both_assoc : (a b c : Cond ℕ) → both a (both b c) ≡ both (both a b) c
+both_assoc a b c =
+    let pos = sym (append_assoc a.positive b.positive c.positive) in
+    let neg = sym (append_assoc a.negative b.negative c.negative) in
+    λ i. record { positive = pos i; negative = neg i }
+
+both_none : (a : Cond ℕ) → both a no_literals ≡ both no_literals a
+both_none a =
+    let pos = append-nil a.positive in
+    let neg = append-nil a.negative in
+    λ i. record { positive = pos i; negative = neg i }
+
+-- one more list to choose from, at the end
+module _ (ones : List (Cond ℕ)) where
+  abbrev with_each : Cond ℕ → List (Cond ℕ)
+  with_each choice = map (λ one. both choice one) ones
+
+  front_in : (one : Cond ℕ) (cs : List (Cond ℕ)) → map (both one) (flat_map with_each cs) ≡ flat_map with_each (map (both one) cs)
+  front_in one [] = refl
+  front_in one (c ∷ cs) =
+      map-append (both one) (with_each c) (flat_map with_each cs)
+      ∙ ap (λ l. l ++ map (both one) (flat_map with_each cs)) (map-map (both one) (both c) ones ∙ ap (λ (h : Cond ℕ → Cond ℕ). map h ones) (λ i m. both_assoc one c m i))
+      ∙ ap (λ l. with_each (both one c) ++ l) (front_in one cs)
+
+  fronts_in : (cs fronts : List (Cond ℕ)) → flat_map (λ one. map (both one) (flat_map with_each cs)) fronts ≡ flat_map with_each (flat_map (λ one. map (both one) cs) fronts)
+  fronts_in cs [] = refl
+  fronts_in cs (one ∷ fronts) =
+      ap (λ l. l ++ flat_map (λ one. map (both one) (flat_map with_each cs)) fronts) (front_in one cs)
+      ∙ ap (λ l. flat_map with_each (map (both one) cs) ++ l) (fronts_in cs fronts)
+      ∙ sym (flat_map-append with_each (map (both one) cs) (flat_map (λ one. map (both one) cs) fronts))
+
+  alone_with : (fronts : List (Cond ℕ)) → flat_map (λ one. map (both one) (no_literals ∷ [])) fronts ≡ map (both no_literals) fronts
+  alone_with [] = refl
+  alone_with (one ∷ fronts) = ap (λ c. c ∷ flat_map (λ one. map (both one) (no_literals ∷ [])) fronts) (both_none one) ∙ ap (λ l. both no_literals one ∷ l) (alone_with fronts)
+
+pub choices_more : (lists : List (Cond ℕ)) (last : Cond ℕ) → choices (lists ++ last ∷ []) ≡ flat_map (λ choice. map (λ one. both choice one) (negations last)) (choices lists)
+choices_more [] last = alone_with (negations last) (negations last) ∙ sym (append-nil (map (both no_literals) (negations last)))
+choices_more (l ∷ lists) last =
+    ap (λ cs. flat_map (λ one. map (both one) cs) (negations l)) (choices_more lists last)
+    ∙ fronts_in (negations last) (choices lists) (negations l)
+
+-- one more effect
+pub choices_after : (cover : Cover) (effects : List ReachedEffect) (i : ℕ) (e : ReachedEffect) (var : ℕ) → i < length effects → e ≡ get_or effects i e → choices (rivals cover (take (i + 1) effects) var) ≡ cond (e.adds && stands_in cover e.fact var) (flat_map (λ choice. map (λ one. both choice one) (negations e.condition)) (choices (rivals cover (take i effects) var))) (choices (rivals cover (take i effects) var))
+choices_after cover effects i e var within is =
+    ap (λ es. choices (rivals cover es var)) (take_more effects i e within ∙ ap (λ x. take i effects ++ x ∷ []) (sym is))
+    ∙ ap (λ es. choices (map (λ (q : ReachedEffect). q.condition) es)) (filter-append (λ (q : ReachedEffect). q.adds && stands_in cover q.fact var) (take i effects) (e ∷ []))
+    ∙ ap choices (map-append (λ (q : ReachedEffect). q.condition) (filter (λ (q : ReachedEffect). q.adds && stands_in cover q.fact var) (take i effects)) (filter (λ (q : ReachedEffect). q.adds && stands_in cover q.fact var) (e ∷ [])))
+    ∙ by_case (e.adds && stands_in cover e.fact var)
+  where
+    before : List (Cond ℕ)
+    before = rivals cover (take i effects) var
+
+    by_case : (b : Bool) → choices (before ++ map (λ (q : ReachedEffect). q.condition) (cond b (e ∷ []) [])) ≡ cond b (flat_map (λ choice. map (λ one. both choice one) (negations e.condition)) (choices before)) (choices before)
+    by_case true = choices_more before e.condition
+    by_case false = ap choices (append-nil before)
+
+-- no choice where one of the lists has no literal
+no_pieces : (ones : List (Cond ℕ)) → flat_map (λ one. map (both one) []) ones ≡ []
+no_pieces [] = refl
+no_pieces (one ∷ ones) = no_pieces ones
+
+pub no_choices : (lists : List (Cond ℕ)) → list_any is_no_literal lists ≡ true → choices lists ≡ []
+no_choices [] some = cc
+no_choices (literals ∷ lists) some = by_test (no_choices lists) (is_no_literal literals) refl some
+  where
+    emptied : (positive negative : List ℕ) → (eqb (length positive) 0 && eqb (length negative) 0) ≡ true →
+        flat_map (λ one. map (both one) (choices lists)) (map is_false positive ++ map is_true negative) ≡ []
+    emptied [] [] none = refl
+    emptied [] (n ∷ ns) none = let is : length (n ∷ ns) ≡ 0 = eqb-true (length (n ∷ ns)) 0 none in absurd (omega (arith, is))
+    emptied (p ∷ ps) ns none =
+        let is : length (p ∷ ps) ≡ 0 = eqb-true (length (p ∷ ps)) 0 (and_parts (eqb (length (p ∷ ps)) 0) (eqb (length ns) 0) none).0 in
+        absurd (omega (arith, is))
+
+    by_test : (list_any is_no_literal lists ≡ true → choices lists ≡ []) → (b : Bool) → is_no_literal literals ≡ b → (b || list_any is_no_literal lists) ≡ true → choices (literals ∷ lists) ≡ []
+    by_test rest true is some' = emptied literals.positive literals.negative is
+    by_test rest false is some' = ap (λ cs. flat_map (λ one. map (both one) cs) (negations literals)) (rest some') ∙ no_pieces (negations literals)

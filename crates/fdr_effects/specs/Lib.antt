@@ -1,0 +1,6 @@
+pub mod Places
+pub mod Split
+pub mod Marks
+pub mod Effects
+pub mod Rivals
+pub mod Groups

@@ -1,0 +1,156 @@
+// The places of facts, found fast.
+
+ghost use Rattle.std.specs.Prelude.{◌≡◌, ◌++◌, ◌∷◌, [], ◌+◌, ◌<◌, ℕ, map, length, slice_index_or, slice_set, replicate, All, IfOk, OnOk};
+ghost use Rattle.std.specs.List.{flat_map, filter_map};
+ghost use Rattle.std.specs.List.Sorted.{IsStrictlyIncreasing};
+ghost use Rattle.fdr_effects.specs.Places as cover;
+ghost use Rattle.fdr_effects.specs.Marks as marks;
+
+use lists::List;
+use sas_task::Pair;
+use std::alloc::{AllocError, Global};
+use std::marker::Model;
+
+/// A cover with the places of each fact, seen as the cover.
+#[derive(Drop)]
+pub struct Index<'a> {
+    sets: &'a [List<u64>],
+    of_fact: Vec<Vec<Pair>>,
+}
+
+impl<'a> Model for Index<'a> {
+    ghost use Rattle.std.specs.Prelude.{◌≡◌, ℕ, [], map, slice_index_or};
+    ghost use Rattle.fdr_effects.specs.Places.{Cover, places};
+
+    ghost Value = { Cover };
+
+    ghost view = { λ index. index.sets.now };
+
+    ghost invariant = { λ index. (fact : ℕ) → slice_index_or (map (λ row. row.items) index.of_fact.items) fact [] ≡ places index.sets.now fact };
+}
+
+/// As many empty rows.
+fn empty_rows(alloc: Global, count: u64) -> Result<Vec<Vec<Pair>>, AllocError>
+    ensures { IfOk result (λ rows. map (λ row. row.items) rows.items ≡ replicate count []) }
+{
+    let mut rows = Vec::new(alloc);
+    for _ in 0..count {
+        rows.push(Vec::new(alloc))?;
+    }
+    Ok(rows)
+}
+
+/// Adds a place to the row of a fact.
+fn push_place(rows: &mut Vec<Vec<Pair>>, fact: u64, place: Pair) -> Result<(), AllocError>
+    requires { fact < length rows.old.items }
+    ensures { OnOk result (map (λ row. row.items) rows.new.items ≡
+        slice_set (map (λ row. row.items) rows.old.items) fact (slice_index_or (map (λ row. row.items) rows.old.items) fact [] ++ place ∷ [])) }
+{
+    rows[fact as usize].push(place)?;
+    Ok(())
+}
+
+/// Adds the places of a variable's facts.
+fn push_set(rows: &mut Vec<Vec<Pair>>, var: u64, set: &[u64]) -> Result<(), AllocError>
+    requires facts { All (λ fact. fact < length rows.old.items) set.now }
+    requires apart { IsStrictlyIncreasing set.now }
+    ensures as_many { OnOk result (length rows.new.items ≡ length rows.old.items) }
+    ensures added { OnOk result ((fact : ℕ) → slice_index_or (map (λ row. row.items) rows.new.items) fact [] ≡
+        slice_index_or (map (λ row. row.items) rows.old.items) fact [] ++ marks.place_in var set.now fact) }
+{
+    for val in 0..set.len() {
+        let place = Pair {
+            var,
+            val: val as u64,
+        };
+        push_place(rows, set[val], place)?;
+    }
+    Ok(())
+}
+
+impl<'a> Index<'a> {
+    /// The places of the facts with numbers below `facts` in these sets.
+    pub fn new(alloc: Global, facts: u64, sets: &'a [List<u64>]) -> Result<Index<'a>, AllocError>
+        requires facts { All (λ set. All (λ fact. fact < facts) set) sets.now }
+        requires apart { All IsStrictlyIncreasing sets.now }
+        ensures { IfOk result (λ index. index ≡ sets.now) }
+    {
+        let mut of_fact = empty_rows(alloc, facts)?;
+        for var in 0..sets.len() {
+            push_set(&mut of_fact, var as u64, sets[var].as_slice())?;
+        }
+        Ok(Index { sets, of_fact })
+    }
+
+    /// The sets.
+    pub fn sets(&self) -> &[List<u64>]
+        ensures { result.now ≡ self.now }
+    {
+        self.sets
+    }
+
+    /// The places of a fact.
+    pub fn places(&self, fact: u64) -> &[Pair]
+        ensures { result.now ≡ cover.places self.now fact }
+    {
+        match self.of_fact.get(fact as usize) {
+            Some(places) => places.as_slice(),
+            None => &[],
+        }
+    }
+
+    /// The first place of a fact.
+    pub(crate) fn first_place(&self, fact: u64) -> Option<Pair>
+        ensures { result ≡ cover.first_place self.now fact }
+    {
+        self.places(fact).first().copied()
+    }
+
+    /// All places of the facts.
+    pub(crate) fn all_places(&self, alloc: Global, facts: &[u64]) -> Result<Vec<Pair>, AllocError>
+        ensures { IfOk result (λ all. all.items ≡ flat_map (cover.places self.now) facts.now) }
+    {
+        let mut all = Vec::with_capacity(alloc, facts.len())?;
+        for fact in facts {
+            all.extend_from_slice(self.places(*fact))?;
+        }
+        Ok(all)
+    }
+
+    /// The first place of each fact.
+    pub(crate) fn first_places(&self, alloc: Global, facts: &[u64]) -> Result<Vec<Pair>, AllocError>
+        ensures { IfOk result (λ all. all.items ≡ filter_map (cover.first_place self.now) facts.now) }
+    {
+        facts
+            .iter()
+            .filter_map(|fact| self.first_place(*fact))
+            .collect(alloc)
+    }
+
+    /// The number of variables.
+    pub fn variables(&self) -> u64
+        ensures { result ≡ length self.now }
+    {
+        self.sets.len() as u64
+    }
+
+    /// The number of values of a variable.
+    pub(crate) fn values(&self, var: u64) -> u64
+        ensures { result ≡ cover.last_value self.now var + 1 }
+    {
+        match self.sets.get(var as usize) {
+            Some(set) => set.as_slice().len() as u64 + 1,
+            None => 1,
+        }
+    }
+
+    /// The last value of a variable.
+    pub fn last_value(&self, var: u64) -> u64
+        ensures { result ≡ cover.last_value self.now var }
+    {
+        match self.sets.get(var as usize) {
+            Some(set) => set.as_slice().len() as u64,
+            None => 0,
+        }
+    }
+}

@@ -1,6 +1,0 @@
-use Rattle.std.proofs.Common.{◌≡◌, take}
-use Rattle.fdr_encoder.specs.Encoding.{groups_of}
-use Rattle.fdr_encoder.proofs.groups.groups.Given as goal
-
-abbrev pub invariant-loop-facts : goal.invariant-loop-facts
-invariant-loop-facts l = l.all.items ≡ groups_of l.index (take l.facts-index l.groups)

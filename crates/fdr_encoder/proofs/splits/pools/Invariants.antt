@@ -1,7 +1,0 @@
-use Rattle.std.proofs.Common.{◌≡◌, map, take}
-use Rattle.fdr_encoder.specs.Places.{pair}
-use Rattle.fdr_encoder.specs.Marks.{values_marked}
-use Rattle.fdr_encoder.proofs.splits.pools.Given as goal
-
-abbrev pub invariant-loop-var : goal.invariant-loop-var
-invariant-loop-var l = map (λ pool. pool.items) l.pools.items ≡ map (λ var. map (pair var) (values_marked l.index l.wanted l.barred var)) (take l.var-index l.vars)
