@@ -16,9 +16,10 @@ use Rattle.normal_task.specs.Meaning.{atom_of, State, Binding, object_at, object
 use Rattle.normal_task.proofs.Chosen.{is_choice}
 use Rattle.normal_task.specs.Within.{place_within, literal_within}
 use Rattle.normal_task.proofs.Alls.{all-weaker}
-use Rattle.invariant_check.specs.Accepted.{is_same_literal, is_listed, fits, with_terms, literal_with, terms}
-use Rattle.invariant_check.specs.Contradictory.{objects_of, is_among}
-use Rattle.invariant_check.proofs.SamePlaces.{same_place, same_places}
+use Rattle.contradictions.specs.Contradictory.{objects_of, is_among}
+use Rattle.contradictions.specs.GivenTerms.{with_terms, literal_with}
+use Rattle.contradictions.proofs.SamePlaces.{same_place, same_places}
+use Rattle.invariant_check.specs.Accepted.{is_same_literal, is_listed, fits, terms}
 
 -- ---- lawful literals
 

@@ -13,8 +13,8 @@ use Rattle.lists.proofs.NoRepeats.{Once, once_append, once_filter, once_map, onc
 use Rattle.normal_task.specs.declared.task.Normal.{Normal}
 use Rattle.normal_task.specs.declared.task.PredicateRow.{PredicateRow}
 use Rattle.normal_task.specs.Lawful.{is_rising}
-use Rattle.invariant_check.specs.declared.types.Candidate.{Candidate}
-use Rattle.invariant_check.specs.declared.types.Part.{Part}
+use Rattle.contradictions.specs.declared.types.Candidate.{Candidate}
+use Rattle.contradictions.specs.declared.types.Part.{Part}
 use Rattle.invariant_check.specs.Extensions.{is_changing, arity_of, changing, is_counted, left_by, countings, without, orders, part_at, with_one, one_predicate, parts_counting, parts_of, put_in, renamed, rising_places, in_form, with_part, has_predicate, extensions}
 use Rattle.invariant_check.specs.WellFormed.{used_places, is_part_for, is_named_by_first, is_well_formed}
 use Rattle.normal_task.proofs.RisingLists.{rises_from, rises_behind, below_rising, once_rising}

@@ -8,8 +8,8 @@ use Rattle.lists.proofs.Items.{Among, each_passes, all_passes}
 use Rattle.lists.proofs.NoRepeats.{Once}
 use Rattle.normal_task.specs.declared.task.Normal.{Normal}
 use Rattle.normal_task.specs.Lawful.{differ, is_rising}
-use Rattle.invariant_check.specs.declared.types.Candidate.{Candidate}
-use Rattle.invariant_check.specs.declared.types.Part.{Part}
+use Rattle.contradictions.specs.declared.types.Candidate.{Candidate}
+use Rattle.contradictions.specs.declared.types.Part.{Part}
 use Rattle.invariant_check.specs.Extensions.{is_changing, arity_of}
 use Rattle.invariant_check.specs.WellFormed.{used_places, is_part_for, is_named_by_first, is_well_formed}
 use Rattle.normal_task.proofs.RisingLists.{differ_once, once_differ}

@@ -17,11 +17,11 @@ use Rattle.normal_task.proofs.EffectsMean.{same-numbered}
 use Rattle.normal_task.proofs.FullStatesMatch.{derived-declared}
 use Rattle.normal_task.proofs.Checked.{same_task}
 use Rattle.normal_task.proofs.LawfulTask.{lawful-task}
-use Rattle.invariant_check.specs.declared.types.Candidate.{Candidate}
-use Rattle.invariant_check.specs.declared.types.Part.{Part}
-use Rattle.invariant_check.specs.Candidates.{covers}
+use Rattle.contradictions.specs.declared.types.Candidate.{Candidate}
+use Rattle.contradictions.specs.declared.types.Part.{Part}
+use Rattle.contradictions.specs.Candidates.{covers}
+use Rattle.contradictions.proofs.Covering.{covering}
 use Rattle.invariant_check.specs.Soundness.{is_basic, InvariantsAreSoundInFiles}
-use Rattle.invariant_check.proofs.Covering.{covering}
 use Rattle.invariant_check.proofs.Sound.{invariants_are_sound}
 use Rattle.normal_task.proofs.OnceEach.{atom_same}
 

@@ -1,6 +1,5 @@
 -- laws, which other crates may cite
 pub mod FormedParts
-pub mod Covering
 pub mod OnePredicate
 pub mod Extended
 pub mod Listed
@@ -10,16 +9,10 @@ pub mod Verdicts
 -- lemmas of this crate
 mod PartsOf
 mod NamedAnew
-mod SamePlaces
-mod Contradiction
-mod Closure
 mod Bindings
 mod OneStep
 mod InFiles
-mod MergeSteps
-mod Renamings
-mod Shared
-mod Cases
+mod AddCases
 mod Choices
 mod TriedSteps
 mod Matching

@@ -11,9 +11,9 @@ use Rattle.lists.proofs.Items.{Among, among_at, among_contains, contains_among, 
 use Rattle.lists.proofs.NoRepeats.{Once, once_map, once_range, among_range, range_among, all_there, position_once, same_at_each}
 use Rattle.normal_task.specs.declared.task.Normal.{Normal}
 use Rattle.normal_task.specs.Lawful.{differ, is_rising}
-use Rattle.invariant_check.specs.declared.types.Candidate.{Candidate}
-use Rattle.invariant_check.specs.declared.types.Part.{Part}
-use Rattle.invariant_check.specs.Candidates.{at_positions}
+use Rattle.contradictions.specs.declared.types.Candidate.{Candidate}
+use Rattle.contradictions.specs.declared.types.Part.{Part}
+use Rattle.contradictions.specs.Candidates.{at_positions}
 use Rattle.invariant_check.specs.Extensions.{changing, parts_of, part_at, put_in, renamed, rising_places, in_form, with_part, has_predicate, one_predicate, extensions}
 use Rattle.invariant_check.specs.Names.{of_parts, IsNaming, named, AreSame, with_one_more, HasOneMore, OnePredicateIsAll, ExtensionsAreAll, SameAreEqual}
 use Rattle.invariant_check.specs.WellFormed.{is_part_for, is_named_by_first, is_well_formed}

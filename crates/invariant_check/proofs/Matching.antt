@@ -18,14 +18,15 @@ use Rattle.normal_task.specs.declared.task.Place.{Place}
 use Rattle.normal_task.specs.declared.task.Place.TheVariants.{Variable, Object}
 use Rattle.normal_task.specs.declared.task.Schema.{Schema}
 use Rattle.normal_task.specs.Meaning.{choices}
-use Rattle.invariant_check.specs.declared.types.Candidate.{Candidate}
-use Rattle.invariant_check.specs.declared.types.Part.{Part}
-use Rattle.invariant_check.specs.Candidates.{at_positions}
-use Rattle.invariant_check.specs.Contradictory.{is_same_place, terms_of, is_among}
-use Rattle.invariant_check.specs.Accepted.{required, instance_of, apart_from, is_same_literal, is_listed, terms, fits, fittings, with_terms, literal_with, row_with, never_restores, balances, has_balance}
+use Rattle.contradictions.specs.declared.types.Candidate.{Candidate}
+use Rattle.contradictions.specs.declared.types.Part.{Part}
+use Rattle.contradictions.specs.Candidates.{at_positions}
+use Rattle.contradictions.specs.Contradictory.{is_same_place, terms_of, is_among}
+use Rattle.contradictions.specs.GivenTerms.{with_terms, literal_with}
+use Rattle.contradictions.proofs.SamePlaces.{get_or_map, true-false, same_place, place_itself}
+use Rattle.invariant_check.specs.Accepted.{required, instance_of, apart_from, is_same_literal, is_listed, terms, fits, fittings, row_with, never_restores, balances, has_balance}
 use Rattle.invariant_check.specs.Attempts.{is_at_instance, stated_at, some_terms, tried_for, tried, is_fitting, are_fitting, balances_given, balances_somehow}
 use Rattle.invariant_check.proofs.Bindings.{same_literal}
-use Rattle.invariant_check.proofs.SamePlaces.{get_or_map, true-false, same_place, place_itself}
 
 -- ---- one item of each list
 

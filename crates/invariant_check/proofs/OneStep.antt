@@ -24,16 +24,17 @@ use Rattle.normal_task.proofs.Alls.{all-weaker, all-both}
 use Rattle.normal_task.proofs.PartsMean.{all-met-kept, all-met-moved, moved-places, places-kept}
 use Rattle.normal_task.proofs.Scopes.{append-assoc, length-append, choice-append}
 use Rattle.normal_task.proofs.Steps.{choice-length, among-choice, choice-among}
-use Rattle.invariant_check.specs.declared.types.Candidate.{Candidate}
-use Rattle.invariant_check.specs.declared.types.Part.{Part}
-use Rattle.invariant_check.specs.Accepted.{each_add, instance_of, denied, apart_from, ranges_with, both_added, are_light, is_light_in, is_light, required, is_listed, fittings, row_with, added_beside, never_restores, balances, has_balance, with_terms, literal_with, is_balanced_at, is_balanced, is_accepted}
-use Rattle.invariant_check.specs.Candidates.{at_positions, part_covers, covers, IsAtMostOne}
-use Rattle.invariant_check.specs.Contradictory.{is_same_place, in_one_class, all_pairs, are_same_terms, is_contradictory}
+use Rattle.contradictions.specs.declared.types.Candidate.{Candidate}
+use Rattle.contradictions.specs.declared.types.Part.{Part}
+use Rattle.contradictions.specs.Candidates.{at_positions, part_covers, covers, IsAtMostOne}
+use Rattle.contradictions.specs.Contradictory.{is_same_place, in_one_class, all_pairs, are_same_terms, is_contradictory}
+use Rattle.contradictions.specs.GivenTerms.{with_terms, literal_with}
+use Rattle.contradictions.proofs.Contradiction.{equal_objects, never_contradictory}
+use Rattle.contradictions.proofs.Covering.{Covering, covering, covered}
+use Rattle.contradictions.proofs.SamePlaces.{true-false, same_places, at_positions-map, zip_equal}
+use Rattle.invariant_check.specs.Accepted.{each_add, instance_of, denied, apart_from, ranges_with, both_added, are_light, is_light_in, is_light, required, is_listed, fittings, row_with, added_beside, never_restores, balances, has_balance, is_balanced_at, is_balanced, is_accepted}
 use Rattle.invariant_check.specs.Soundness.{is_basic}
 use Rattle.invariant_check.proofs.Bindings.{place-within, literal-within, literal-more, places-given, all-met-given, listed-passes, choice-typed, fittings-choose}
-use Rattle.invariant_check.proofs.Contradiction.{equal_objects, never_contradictory}
-use Rattle.invariant_check.proofs.Covering.{Covering, covering, covered}
-use Rattle.invariant_check.proofs.SamePlaces.{true-false, same_places, at_positions-map, zip_equal}
 use Rattle.names.proofs.SameNames.{same_name}
 use Rattle.std.proofs.lemmas.Cmp.{nat_list_eq_equiv}
 use Rattle.normal_task.proofs.OnceEach.{same_atom, atom_same}

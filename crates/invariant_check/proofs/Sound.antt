@@ -5,9 +5,9 @@ use Rattle.normal_task.specs.declared.task.Normal.{Normal}
 use Rattle.normal_task.specs.Lawful.{IsLawful}
 use Rattle.normal_task.specs.Meaning.{State, Step, initial, normal_task}
 use Rattle.planning.specs.Task.{Takes}
-use Rattle.invariant_check.specs.declared.types.Candidate.{Candidate}
+use Rattle.contradictions.specs.declared.types.Candidate.{Candidate}
+use Rattle.contradictions.specs.Candidates.{IsAtMostOne}
 use Rattle.invariant_check.specs.Accepted.{is_accepted}
-use Rattle.invariant_check.specs.Candidates.{IsAtMostOne}
 use Rattle.invariant_check.specs.Soundness.{is_basic, InvariantsAreSound}
 use Rattle.invariant_check.proofs.OneStep.{keeps_at_most_one}
 

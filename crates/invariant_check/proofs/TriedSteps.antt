@@ -9,7 +9,7 @@ use Rattle.normal_task.specs.declared.task.Literal.{Literal}
 use Rattle.normal_task.specs.declared.task.Normal.{Normal}
 use Rattle.normal_task.specs.declared.task.Place.{Place}
 use Rattle.normal_task.specs.declared.task.Place.TheVariants.{Variable}
-use Rattle.invariant_check.specs.Contradictory.{is_same_place, terms_of}
+use Rattle.contradictions.specs.Contradictory.{is_same_place, terms_of}
 use Rattle.invariant_check.specs.Attempts.{stated_at, some_terms, tried_for, tried}
 
 module _ (task : Normal) (ranges : List (List ℕ)) (required : List Literal) where

@@ -7,9 +7,9 @@ use Rattle.normal_task.specs.declared.task.EffectRow.{EffectRow}
 use Rattle.normal_task.specs.declared.task.Normal.{Normal}
 use Rattle.normal_task.specs.declared.task.Schema.{Schema}
 use Rattle.normal_task.proofs.Anys.{all-not, all-same}
+use Rattle.contradictions.specs.declared.types.Candidate.{Candidate}
+use Rattle.contradictions.specs.declared.types.Part.{Part}
 use Rattle.invariant_check.specs.declared.types.AddPlace.{AddPlace}
-use Rattle.invariant_check.specs.declared.types.Candidate.{Candidate}
-use Rattle.invariant_check.specs.declared.types.Part.{Part}
 use Rattle.invariant_check.specs.declared.types.Verdict.TheVariants.{Dropped, Unbalanced}
 use Rattle.invariant_check.specs.Accepted.{is_light, is_balanced_at, is_balanced, is_accepted}
 use Rattle.invariant_check.specs.Repairs.{is_unbalanced_add, first_unbalanced, repairs_at, verdict_by, verdict, is_accepted_verdict}

@@ -4,10 +4,10 @@ use Rattle.std.specs.List.{IsDistinct}
 use Rattle.lists.proofs.Items.{Among, among_contains, contains_among}
 use Rattle.normal_task.specs.declared.task.GroundAtom.{GroundAtom}
 use Rattle.normal_task.specs.Meaning.{State, initial, is_same_atom}
-use Rattle.invariant_check.specs.declared.types.Candidate.{Candidate}
-use Rattle.invariant_check.specs.Candidates.{covers, IsAtMostOne, HasWeight}
+use Rattle.contradictions.specs.declared.types.Candidate.{Candidate}
+use Rattle.contradictions.specs.Candidates.{covers, IsAtMostOne, HasWeight}
+use Rattle.contradictions.proofs.SamePlaces.{true-false}
 use Rattle.invariant_check.specs.Soundness.{WeightsStayAtMostOne}
-use Rattle.invariant_check.proofs.SamePlaces.{true-false}
 use Rattle.invariant_check.proofs.Sound.{invariants_are_sound}
 use Rattle.normal_task.proofs.OnceEach.{atom_same}
 

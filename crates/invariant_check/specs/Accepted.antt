@@ -1,5 +1,5 @@
 -- When a candidate is light and balanced: the effects of a step then never raise an instance's weight above one (Helmert 2009, section 5).
-use Rattle.std.specs.Prelude.{ℕ, Bool, true, false, not, ◌&&◌, ◌||◌, ◌-◌, nat_eq, nat_lt, List, [], ◌∷◌, ◌++◌, map, length, get_or, filter, zip, if◌then◌else◌}
+use Rattle.std.specs.Prelude.{ℕ, Bool, true, false, not, ◌&&◌, ◌||◌, nat_eq, List, [], ◌∷◌, ◌++◌, map, length, filter, zip, if◌then◌else◌}
 use Rattle.std.specs.Cmp.Lexicographic.{pointwise}
 use Rattle.std.specs.List.{list_all, list_any, range_with_len}
 use Rattle.normal_task.specs.declared.task.EffectRow.{EffectRow}
@@ -11,10 +11,11 @@ use Rattle.normal_task.specs.declared.task.Place.TheVariants.{Variable, Object}
 use Rattle.normal_task.specs.declared.task.Schema.{Schema}
 use Rattle.normal_task.specs.Parts.{moved, moved_place}
 use Rattle.normal_task.specs.Meaning.{choices}
-use Rattle.invariant_check.specs.declared.types.Candidate.{Candidate}
-use Rattle.invariant_check.specs.declared.types.Part.{Part}
-use Rattle.invariant_check.specs.Candidates.{at_positions}
-use Rattle.invariant_check.specs.Contradictory.{is_same_place, is_among, in_one_class, objects_of, all_pairs, are_same_terms, is_contradictory}
+use Rattle.contradictions.specs.declared.types.Candidate.{Candidate}
+use Rattle.contradictions.specs.declared.types.Part.{Part}
+use Rattle.contradictions.specs.Candidates.{at_positions}
+use Rattle.contradictions.specs.Contradictory.{is_same_place, is_among, in_one_class, objects_of, all_pairs, are_same_terms, is_contradictory}
+use Rattle.contradictions.specs.GivenTerms.{with_terms, literal_with}
 
 -- ---- add effects
 
@@ -107,15 +108,6 @@ fits ranges range term = list_all (is_among range) (objects_of ranges term)
 -- the ways to give each own variable of the row a term that fits
 abbrev pub fittings : Normal → List (List ℕ) → EffectRow → List (List Place)
 fittings task ranges row = choices (map (λ range. filter (fits ranges range) (terms task ranges)) row.variables)
-
--- the place, with the given terms for the variables from the given number on
-abbrev pub with_terms : ℕ → List Place → Place → Place
-with_terms from given (Variable number) = if nat_lt number from then Variable number else get_or given (number - from) (Object 0)
-with_terms from given (Object object) = Object object
-
-abbrev pub literal_with : ℕ → List Place → Literal → Literal
-literal_with from given (Holds positive predicate places) = Holds positive predicate (map (with_terms from given) places)
-literal_with from given (Equal positive left right) = Equal positive (with_terms from given left) (with_terms from given right)
 
 -- the row with these terms for its own variables
 abbrev pub row_with : Schema → EffectRow → List Place → EffectRow

@@ -11,10 +11,11 @@ use Rattle.normal_task.specs.declared.task.Place.{Place}
 use Rattle.normal_task.specs.declared.task.Place.TheVariants.{Variable, Object}
 use Rattle.normal_task.specs.declared.task.Schema.{Schema}
 use Rattle.normal_task.specs.Meaning.{choices}
-use Rattle.invariant_check.specs.declared.types.Candidate.{Candidate}
-use Rattle.invariant_check.specs.Candidates.{at_positions}
-use Rattle.invariant_check.specs.Contradictory.{is_same_place, in_one_class, all_pairs, are_same_terms, terms_of, is_contradictory}
-use Rattle.invariant_check.specs.Accepted.{apart_from, ranges_with, denied, is_listed, terms, fits, with_terms, literal_with}
+use Rattle.contradictions.specs.declared.types.Candidate.{Candidate}
+use Rattle.contradictions.specs.Candidates.{at_positions}
+use Rattle.contradictions.specs.Contradictory.{is_same_place, in_one_class, all_pairs, are_same_terms, terms_of, is_contradictory}
+use Rattle.contradictions.specs.GivenTerms.{with_terms, literal_with}
+use Rattle.invariant_check.specs.Accepted.{apart_from, ranges_with, denied, is_listed, terms, fits}
 
 -- ---- light
 

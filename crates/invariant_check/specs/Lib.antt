@@ -1,15 +1,8 @@
-pub mod Candidates
-pub mod Contradictory
 pub mod Accepted
 pub mod Extensions
 pub mod WellFormed
 pub mod Names
 pub mod Repairs
 pub mod Soundness
-pub mod Closure
-pub mod Merges
-pub mod Renamings
-pub mod FirstFrom
-pub mod Common
 pub mod Attempts
 pub mod Examples

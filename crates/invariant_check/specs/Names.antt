@@ -3,9 +3,9 @@ use Rattle.std.specs.Prelude.{◌≡◌, ℕ, Bool, true, false, nat_eq, nat_lt,
 use Rattle.std.specs.List.{list_all}
 use Rattle.normal_task.specs.declared.task.Normal.{Normal}
 use Rattle.normal_task.specs.Lawful.{differ}
-use Rattle.invariant_check.specs.declared.types.Candidate.{Candidate}
-use Rattle.invariant_check.specs.declared.types.Part.{Part}
-use Rattle.invariant_check.specs.Candidates.{at_positions}
+use Rattle.contradictions.specs.declared.types.Candidate.{Candidate}
+use Rattle.contradictions.specs.declared.types.Part.{Part}
+use Rattle.contradictions.specs.Candidates.{at_positions}
 use Rattle.invariant_check.specs.Extensions.{part_at, has_predicate, one_predicate, extensions}
 use Rattle.invariant_check.specs.WellFormed.{is_part_for, is_well_formed}
 

@@ -13,9 +13,9 @@ use Rattle.normal_task.specs.Lawful.{IsLawful}
 use Rattle.normal_task.specs.Meaning.{State, initial, is_derived, normal_task}
 use Rattle.normal_task.specs.Normalised.{numbered_atom, normal}
 use Rattle.normal_task.specs.Same.{is_known_atom}
-use Rattle.invariant_check.specs.declared.types.Candidate.{Candidate}
+use Rattle.contradictions.specs.declared.types.Candidate.{Candidate}
+use Rattle.contradictions.specs.Candidates.{covers, IsAtMostOne, HasWeight}
 use Rattle.invariant_check.specs.Accepted.{is_accepted}
-use Rattle.invariant_check.specs.Candidates.{covers, IsAtMostOne, HasWeight}
 
 -- the candidate's parts are of basic predicates
 abbrev pub is_basic : Normal → Candidate → Bool

@@ -5,19 +5,18 @@ ghost use Rattle.std.specs.List.{list_all, list_any};
 ghost use Rattle.normal_task.specs.declared.task.Literal.TheVariants.{Holds};
 ghost use Rattle.normal_task.specs.declared.task.Place.TheVariants.{Object};
 ghost use Rattle.normal_task.specs.Meaning.{choices};
+ghost use Rattle.contradictions.specs.Candidates.{at_positions};
+ghost use Rattle.contradictions.specs.Contradictory as terms;
+ghost use Rattle.contradictions.specs.Merges.{as_pair, all_ranges};
 ghost use Rattle.invariant_check.specs.Accepted as spec;
 ghost use Rattle.invariant_check.specs.Attempts as words;
-ghost use Rattle.invariant_check.specs.Candidates.{at_positions};
-ghost use Rattle.invariant_check.specs.Contradictory as terms;
-ghost use Rattle.invariant_check.specs.Merges.{as_pair, all_ranges};
 
-use crate::contradictory::{Case, is_contradictory, terms_at, zipped};
 use crate::light::{apart, ranges_of};
-use crate::ranges::Ranges;
-use crate::renaming::{Renamed, Renaming, push_denied, push_renamed, renamed_row};
-use crate::terms::{copy, is_same_place};
 use crate::tried::{are_fitting, tried};
-use crate::types::{Candidate, Part};
+use contradictions::{
+    Candidate, Case, Part, Ranges, Renamed, Renaming, copy, is_contradictory, is_same_place,
+    push_denied, push_renamed, renamed_row, terms_at, zipped,
+};
 use lists::List;
 use normal_task::{EffectRow, Literal, Normal, Place, Schema};
 use std::alloc::{AllocError, Global};
@@ -111,7 +110,7 @@ fn is_at(positions: &[u64], places: &[Place], instance: &[Place]) -> bool
     } else if instance.is_empty() {
         false
     } else {
-        is_same_place(&crate::terms::term_at(positions[0], places), &instance[0])
+        is_same_place(&contradictions::term_at(positions[0], places), &instance[0])
             && is_at(&positions[1..], places, &instance[1..])
     }
 }
@@ -292,7 +291,7 @@ fn with_term(alloc: Global, given: &[Place], term: &Place) -> Result<Vec<Place>,
     ensures { IfOk result (λ longer. longer.items ≡ given.now ++ term.now ∷ []) }
 {
     let mut longer = Vec::new(alloc);
-    crate::contradictory::push_copies(&mut longer, given)?;
+    contradictions::push_copies(&mut longer, given)?;
     longer.push(copy(term))?;
     Ok(longer)
 }

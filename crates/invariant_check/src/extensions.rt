@@ -6,7 +6,7 @@ ghost use Rattle.itertools.specs.Odometer.{ways};
 ghost use Rattle.itertools.specs.Pool.{permutation_can, permutation_left};
 ghost use Rattle.invariant_check.specs.Extensions as spec;
 
-use crate::types::{Candidate, Part, copies};
+use contradictions::{Candidate, Part, copies};
 use itertools::{Itertools, Permutations};
 use lists::List;
 use normal_task::Normal;

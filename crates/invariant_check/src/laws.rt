@@ -3,13 +3,13 @@
 ghost use Rattle.std.specs.Prelude.{◌≡◌, true, false, [], ◌∷◌, map};
 ghost use Rattle.normal_task.specs.declared.task.Literal.TheVariants.{Equal};
 ghost use Rattle.normal_task.specs.declared.task.Normal.{Normal};
-ghost use Rattle.invariant_check.specs.declared.types.Candidate.{Candidate};
+ghost use Rattle.contradictions.specs.declared.types.Candidate.{Candidate};
+ghost use Rattle.contradictions.specs.Candidates.{covers};
+ghost use Rattle.contradictions.specs.Contradictory.{in_one_class, is_contradictory};
+ghost use Rattle.contradictions.specs.Closure.{ClassesAreClosures};
 ghost use Rattle.invariant_check.specs.declared.types.Verdict.TheVariants.{Accepted, Dropped, Unbalanced};
 ghost use Rattle.invariant_check.specs.Accepted.{is_light, is_balanced, is_accepted};
-ghost use Rattle.invariant_check.specs.Candidates.{covers};
-ghost use Rattle.invariant_check.specs.Contradictory.{in_one_class, is_contradictory};
 ghost use Rattle.invariant_check.specs.Examples.{p, not_p, q, not_q, r, not_r, x, y, z, a, b, both_objects, adds, deletes, only_p, p_and_q, p_and_q_of_one, counted_p, one_action, action_of_one, action_of_two, switch, back, late, predicates_of, of_object, counting, with_schemas, action};
-ghost use Rattle.invariant_check.specs.Closure.{ClassesAreClosures};
 ghost use Rattle.invariant_check.specs.Soundness.{InvariantsAreSound, InvariantsAreSoundInFiles, WeightsStayAtMostOne};
 ghost use Rattle.invariant_check.specs.Names.{of_parts, OnePredicateIsAll, ExtensionsAreAll, SameAreEqual};
 ghost use Rattle.invariant_check.specs.Repairs.{repairs_at, verdict, is_accepted_verdict};

@@ -3,18 +3,12 @@
 
 mod balanced;
 mod check;
-mod common;
-mod contradictory;
 mod extensions;
 pub mod laws;
 mod light;
-mod ranges;
-mod renaming;
-mod rising;
-mod terms;
 mod tried;
 mod types;
 
 pub use check::{check_candidate, repairs};
 pub use extensions::one_predicate;
-pub use types::{AddPlace, Candidate, Part, Verdict};
+pub use types::{AddPlace, Verdict};

@@ -1,18 +1,17 @@
 // When a candidate is light: no two add effects of a schema add two atoms of one instance together.
 ghost use Rattle.std.specs.Prelude.{◌≡◌, ◌++◌, ◌∷◌, [], ◌&&◌, nat_eq, map, length, IfOk};
 ghost use Rattle.std.specs.List.{list_all};
+ghost use Rattle.contradictions.specs.Contradictory as terms;
+ghost use Rattle.contradictions.specs.Merges.{as_pair, all_ranges, have_one_leader};
+ghost use Rattle.contradictions.specs.Renamings.{denied_atom};
+ghost use Rattle.contradictions.specs.declared.renaming.Renaming.TheVariants.{Apart};
 ghost use Rattle.invariant_check.specs.Accepted as spec;
 ghost use Rattle.invariant_check.specs.Attempts as words;
-ghost use Rattle.invariant_check.specs.Contradictory as terms;
-ghost use Rattle.invariant_check.specs.Merges.{as_pair, all_ranges, have_one_leader};
-ghost use Rattle.invariant_check.specs.Renamings.{denied_atom};
-ghost use Rattle.invariant_check.specs.declared.renaming.Renaming.TheVariants.{Apart};
 
-use crate::contradictory::{Case, are_same, classes, contradicts, terms_at, zipped};
-use crate::ranges::Ranges;
-use crate::renaming::{Renamed, Renaming, push_denied, push_renamed, renamed_row};
-use crate::terms::Pair;
-use crate::types::{Candidate, Part};
+use contradictions::{
+    Candidate, Case, Pair, Part, Ranges, Renamed, Renaming, are_same, classes, contradicts,
+    push_denied, push_renamed, renamed_row, terms_at, zipped,
+};
 use normal_task::{EffectRow, Literal, Normal, Place, Schema};
 use std::alloc::{AllocError, Global};
 

@@ -2,14 +2,11 @@
 ghost use Rattle.std.specs.Prelude.{◌≡◌, ◌++◌, map, length, IfOk, OnOk};
 ghost use Rattle.std.specs.List.{flat_map, list_all, position, range_with_len};
 ghost use Rattle.normal_task.specs.declared.task.Place.TheVariants.{Variable, Object};
+ghost use Rattle.contradictions.specs.Contradictory as terms;
+ghost use Rattle.contradictions.specs.Merges.{all_ranges};
 ghost use Rattle.invariant_check.specs.Attempts as words;
-ghost use Rattle.invariant_check.specs.Contradictory as terms;
-ghost use Rattle.invariant_check.specs.Merges.{all_ranges};
 
-use crate::common::is_among;
-use crate::contradictory::push_terms;
-use crate::ranges::{Ranges, range_of};
-use crate::terms::{is_same_place, term_at};
+use contradictions::{Ranges, is_among, is_same_place, push_terms, range_of, term_at};
 use lists::List;
 use normal_task::{EffectRow, Literal, Normal, ObjectRange, Place};
 use std::alloc::{AllocError, Global};

@@ -11,7 +11,7 @@ use Rattle.lists.proofs.NoRepeats.{Once, once_append, once_filter, no_longer, ra
 use Rattle.lists.proofs.Items.{Among, among_contains, contains_among, among_which, among_left, among_right, filter_among, among_filter, among_flat_map, each_passes, all_passes, any_passes, slice_among}
 use Rattle.normal_task.specs.declared.task.Normal.{Normal}
 use Rattle.normal_task.specs.Lawful.{differ}
-use Rattle.invariant_check.specs.declared.types.Candidate.{Candidate}
+use Rattle.contradictions.specs.declared.types.Candidate.{Candidate}
 use Rattle.invariant_check.specs.Accepted.{is_accepted}
 use Rattle.invariant_check.specs.Extensions.{one_predicate, extensions}
 use Rattle.invariant_check.specs.WellFormed.{is_well_formed}

@@ -4,8 +4,8 @@ use Rattle.std.specs.Prelude.{if◌then◌else◌}
 use Rattle.lists.proofs.Items.{Among, filter_among}
 use Rattle.lists.proofs.NoRepeats.{Once, once_filter}
 use Rattle.normal_task.specs.declared.task.Normal.{Normal}
+use Rattle.contradictions.specs.declared.types.Candidate.{Candidate}
 use Rattle.invariant_check.specs.declared.types.AddPlace.{AddPlace}
-use Rattle.invariant_check.specs.declared.types.Candidate.{Candidate}
 use Rattle.invariant_check.specs.Accepted.{is_light}
 use Rattle.invariant_check.specs.Extensions.{extensions}
 use Rattle.invariant_check.specs.Repairs.{first_unbalanced, balances_add}

@@ -5,11 +5,11 @@ use Rattle.std.specs.Cmp.{nat_eq_equiv}
 use Rattle.std.specs.Cmp.Lexicographic.{pointwise, pointwise_decides, bytes_decides, options_equiv}
 use Rattle.std.specs.Option.{option_eq}
 use Rattle.std.proofs.lemmas.Bool.{eqb-true, and_parts, and_from}
-use Rattle.invariant_check.specs.declared.types.Candidate.{Candidate}
-use Rattle.invariant_check.specs.declared.types.Part.{Part}
+use Rattle.contradictions.specs.declared.types.Candidate.{Candidate}
+use Rattle.contradictions.specs.declared.types.Part.{Part}
+use Rattle.contradictions.specs.contracts.types.PartPartialEq.TheImpl.{eq-value as equality}
 use Rattle.invariant_check.specs.Names.{of_parts}
 use Rattle.invariant_check.specs.Extensions.{part_at}
-use Rattle.invariant_check.specs.contracts.types.PartPartialEq.TheImpl.{eq-value as equality}
 use Rattle.invariant_guess.specs.Trial.{is_same}
 use Rattle.lists.proofs.Exact.{same_option}
 

@@ -11,8 +11,8 @@ use Rattle.lists.proofs.Items.{Among, filter_yes, filter_no, slice_among}
 use Rattle.lists.proofs.LoopSteps.{take_got}
 use Rattle.normal_task.specs.declared.task.Normal.{Normal}
 use Rattle.indexmap.specs.IndexSet.{insert_all}
+use Rattle.contradictions.specs.declared.types.Candidate.{Candidate}
 use Rattle.invariant_check.specs.declared.types.AddPlace.{AddPlace}
-use Rattle.invariant_check.specs.declared.types.Candidate.{Candidate}
 use Rattle.invariant_check.specs.declared.types.Verdict.{Verdict}
 use Rattle.invariant_check.specs.declared.types.Verdict.TheVariants.{Accepted, Dropped, Unbalanced}
 use Rattle.invariant_check.specs.Accepted.{is_light, is_accepted}

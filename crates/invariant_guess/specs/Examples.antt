@@ -4,8 +4,8 @@ use Rattle.normal_task.specs.declared.task.Literal.TheVariants.{Holds}
 use Rattle.normal_task.specs.declared.task.Normal.{Normal}
 use Rattle.normal_task.specs.declared.task.Place.{Place}
 use Rattle.normal_task.specs.declared.task.Place.TheVariants.{Variable, Object}
-use Rattle.invariant_check.specs.declared.types.Candidate.{Candidate}
-use Rattle.invariant_check.specs.declared.types.Part.{Part}
+use Rattle.contradictions.specs.declared.types.Candidate.{Candidate}
+use Rattle.contradictions.specs.declared.types.Part.{Part}
 use Rattle.invariant_check.specs.Names.{of_parts}
 use Rattle.invariant_check.specs.Examples.{adds, deletes, action, task}
 use Rattle.invariant_guess.specs.declared.types.Found.{Found}

@@ -2,11 +2,11 @@
 use Rattle.std.specs.Prelude.{◌≡◌, ◌≢◌, ℕ, zero, suc, ◌<◌, ◌⊎◌, Bool, not, List, ◌++◌, length, filter, take, [], Option, Some, None, slice_get, if◌then◌else◌}
 use Rattle.lists.specs.Members.{is_among}
 use Rattle.normal_task.specs.declared.task.Normal.{Normal}
+use Rattle.contradictions.specs.declared.types.Candidate.{Candidate}
+use Rattle.contradictions.specs.contracts.types.CandidatePartialEq.TheImpl.{eq-value as equality}
 use Rattle.invariant_check.specs.declared.types.AddPlace.{AddPlace}
-use Rattle.invariant_check.specs.declared.types.Candidate.{Candidate}
 use Rattle.invariant_check.specs.Accepted.{is_light, is_accepted}
 use Rattle.invariant_check.specs.Repairs.{first_unbalanced, repairs_at}
-use Rattle.invariant_check.specs.contracts.types.CandidatePartialEq.TheImpl.{eq-value as equality}
 use Rattle.invariant_check.specs.Extensions.{one_predicate}
 use Rattle.invariant_guess.specs.declared.types.Found.{Found}
 

@@ -5,8 +5,9 @@ ghost use Rattle.invariant_check.specs.Accepted.{is_accepted};
 ghost use Rattle.invariant_guess.specs.Trial as trial;
 
 use crate::types::Found;
+use contradictions::Candidate;
 use indexmap::IndexSet;
-use invariant_check::{Candidate, Verdict, check_candidate, one_predicate, repairs};
+use invariant_check::{Verdict, check_candidate, one_predicate, repairs};
 use lists::List;
 use normal_task::Normal;
 use std::alloc::{AllocError, Global};

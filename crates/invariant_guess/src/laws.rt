@@ -4,7 +4,7 @@ ghost use Rattle.std.specs.Prelude.{◌≡◌, ℕ, suc, Bool, true, List, [], �
 ghost use Rattle.std.specs.List.{list_all};
 ghost use Rattle.normal_task.specs.declared.task.Normal.{Normal};
 ghost use Rattle.normal_task.specs.Lawful.{differ};
-ghost use Rattle.invariant_check.specs.declared.types.Candidate.{Candidate};
+ghost use Rattle.contradictions.specs.declared.types.Candidate.{Candidate};
 ghost use Rattle.invariant_check.specs.Accepted.{is_accepted};
 ghost use Rattle.invariant_check.specs.Examples.{switch, back};
 ghost use Rattle.invariant_check.specs.Extensions.{one_predicate};

@@ -1,6 +1,6 @@
 //! Candidates as they stand in tables.
 
-use invariant_check::{Candidate, Part};
+use contradictions::{Candidate, Part};
 use lists::List;
 use normal_task::Normal;
 use std::alloc::Global;

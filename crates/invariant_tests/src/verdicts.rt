@@ -1,7 +1,8 @@
 //! What is said of candidates, and their repairs, worked by hand.
 
 use crate::candidates::{PartRow, are_candidates, candidate_of};
-use invariant_check::{Candidate, Verdict, check_candidate, repairs};
+use contradictions::Candidate;
+use invariant_check::{Verdict, check_candidate, repairs};
 use normal_task::Normal;
 use std::alloc::Global;
 use std::process::Abort;

@@ -15,9 +15,9 @@ use Rattle.names.specs.Names.{is_same}
 use Rattle.normal_task.specs.declared.task.GroundAtom.{GroundAtom}
 use Rattle.normal_task.specs.Lawful.{differ}
 use Rattle.relaxed_reach.specs.declared.types.Fact.{Fact}
-use Rattle.invariant_check.specs.declared.types.Candidate.{Candidate}
-use Rattle.invariant_check.specs.declared.types.Part.{Part}
-use Rattle.invariant_check.specs.Candidates.{at_positions, part_covers, covers}
+use Rattle.contradictions.specs.declared.types.Candidate.{Candidate}
+use Rattle.contradictions.specs.declared.types.Part.{Part}
+use Rattle.contradictions.specs.Candidates.{at_positions, part_covers, covers}
 use Rattle.mutex_groups.specs.Groups.{covers_fact}
 use Rattle.mutex_groups.specs.Found.{weight_among, parts_differ, instance_of, told, told_more}
 

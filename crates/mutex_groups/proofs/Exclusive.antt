@@ -26,10 +26,10 @@ use Rattle.relaxed_reach.specs.Reachable.{is_among, number_of, numbering, fact_o
 use Rattle.relaxed_reach.proofs.ReachedMeaning as reached_law
 use Rattle.relaxed_reach.proofs.OrderedFacts.{facts_apart}
 use Rattle.relaxed_reach.proofs.Numbers.{place_among, place_is}
-use Rattle.invariant_check.specs.declared.types.Candidate.{Candidate}
-use Rattle.invariant_check.specs.declared.types.Part.{Part}
+use Rattle.contradictions.specs.declared.types.Candidate.{Candidate}
+use Rattle.contradictions.specs.declared.types.Part.{Part}
+use Rattle.contradictions.specs.Candidates.{part_covers, covers}
 use Rattle.invariant_check.specs.Accepted.{is_accepted}
-use Rattle.invariant_check.specs.Candidates.{part_covers, covers}
 use Rattle.invariant_check.specs.Soundness.{is_basic}
 use Rattle.invariant_check.specs.Extensions.{is_changing}
 use Rattle.invariant_check.specs.WellFormed.{is_well_formed}

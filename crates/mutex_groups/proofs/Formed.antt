@@ -5,8 +5,8 @@ use Rattle.std.proofs.lemmas.Bool.{and_from, eqb-true}
 use Rattle.lists.proofs.Items.{Among, among_map, none_passes}
 use Rattle.normal_task.specs.declared.task.Normal.{Normal}
 use Rattle.normal_task.specs.Lawful.{differ, is_rising}
-use Rattle.invariant_check.specs.declared.types.Candidate.{Candidate}
-use Rattle.invariant_check.specs.declared.types.Part.{Part}
+use Rattle.contradictions.specs.declared.types.Candidate.{Candidate}
+use Rattle.contradictions.specs.declared.types.Part.{Part}
 use Rattle.invariant_check.specs.WellFormed.{is_well_formed}
 use Rattle.normal_task.proofs.RisingLists.{rises_behind, below_rising}
 use Rattle.invariant_check.proofs.FormedParts.{predicates, formed_facts}

@@ -17,8 +17,8 @@ use Rattle.normal_task.specs.Lawful.{IsLawful, is_init, is_object, has_row}
 use Rattle.normal_task.specs.Meaning.{choices}
 use Rattle.relaxed_reach.specs.declared.types.Fact.{Fact}
 use Rattle.relaxed_reach.specs.declared.types.Reached.{Reached}
-use Rattle.invariant_check.specs.declared.types.Candidate.{Candidate}
-use Rattle.invariant_check.specs.Candidates.{covers}
+use Rattle.contradictions.specs.declared.types.Candidate.{Candidate}
+use Rattle.contradictions.specs.Candidates.{covers}
 use Rattle.invariant_check.specs.Extensions.{arity_of}
 use Rattle.mutex_groups.specs.declared.tables.Weight.{Weight}
 use Rattle.invariant_check.specs.WellFormed.{is_well_formed}
@@ -26,7 +26,7 @@ use Rattle.mutex_groups.specs.Groups.{covered_facts, IsInstance, IsMutexGroup, A
 use Rattle.static_matcher.specs.Buckets.{numbers_in}
 use Rattle.mutex_groups.specs.Found.{weight_among, parts_differ, instance_of, told, is_one, gives, covers_just, has_group, HoldsWeights, HoldsNumbers, AddsGroup}
 use Rattle.mutex_groups.proofs.Covered.{covers-is, covers-some}
-use Rattle.invariant_check.proofs.Covering.{Covering, covering}
+use Rattle.contradictions.proofs.Covering.{Covering, covering}
 use Rattle.invariant_check.proofs.FormedParts.{IsPartFor, formed_facts}
 use Rattle.mutex_groups.proofs.Formed.{formed-differ}
 use Rattle.mutex_groups.proofs.Weighed.{has-weight, weight-is}

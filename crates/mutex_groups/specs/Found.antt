@@ -8,9 +8,9 @@ use Rattle.normal_task.specs.declared.task.GroundAtom.{GroundAtom}
 use Rattle.normal_task.specs.Lawful.{differ}
 use Rattle.static_matcher.specs.Buckets.{numbers_in}
 use Rattle.relaxed_reach.specs.declared.types.Fact.{Fact}
-use Rattle.invariant_check.specs.declared.types.Candidate.{Candidate}
-use Rattle.invariant_check.specs.declared.types.Part.{Part}
-use Rattle.invariant_check.specs.Candidates.{at_positions, covers}
+use Rattle.contradictions.specs.declared.types.Candidate.{Candidate}
+use Rattle.contradictions.specs.declared.types.Part.{Part}
+use Rattle.contradictions.specs.Candidates.{at_positions, covers}
 use Rattle.mutex_groups.specs.declared.tables.Weight.{Weight}
 use Rattle.mutex_groups.specs.declared.tables.Weight.TheVariants.{One, Several}
 use Rattle.mutex_groups.specs.Groups.{covered_facts}

@@ -7,8 +7,8 @@ use Rattle.normal_task.specs.declared.task.Normal.{Normal}
 use Rattle.normal_task.specs.Meaning.{initial, choices}
 use Rattle.relaxed_reach.specs.declared.types.Fact.{Fact}
 use Rattle.relaxed_reach.specs.declared.types.Reached.{Reached}
-use Rattle.invariant_check.specs.declared.types.Candidate.{Candidate}
-use Rattle.invariant_check.specs.Candidates.{covers, HasWeight}
+use Rattle.contradictions.specs.declared.types.Candidate.{Candidate}
+use Rattle.contradictions.specs.Candidates.{covers, HasWeight}
 
 -- the instance covers the fact of this number
 abbrev pub covers_fact : Candidate → List ℕ → List Fact → ℕ → Bool

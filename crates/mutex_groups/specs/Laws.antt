@@ -11,7 +11,7 @@ use Rattle.relaxed_reach.specs.declared.types.Reached.{Reached}
 use Rattle.relaxed_reach.specs.ReachedTask.{is_derived}
 use Rattle.relaxed_reach.specs.Reachable.{IsReachedTask}
 use Rattle.relaxed_reach.specs.Exclusive.{IsExclusive}
-use Rattle.invariant_check.specs.declared.types.Candidate.{Candidate}
+use Rattle.contradictions.specs.declared.types.Candidate.{Candidate}
 use Rattle.invariant_check.specs.Accepted.{is_accepted}
 use Rattle.invariant_check.specs.WellFormed.{is_well_formed}
 use Rattle.mutex_groups.specs.Groups.{IsMutexGroup, AreGroups}

@@ -10,8 +10,8 @@ ghost use Rattle.mutex_groups.specs.Found.{parts_differ, AddsGroup, covers_just,
 
 use crate::instances::{instance_of, members, weights};
 use crate::tables::Weights;
+use contradictions::Candidate;
 use group_cover::Groups;
-use invariant_check::Candidate;
 use normal_task::{GroundAtom, Normal};
 use number_lists::NumberLists;
 use relaxed_reach::{Fact, Reached};

@@ -2,13 +2,13 @@
 ghost use Rattle.std.specs.Prelude.{◌≡◌, ◌++◌, ◌∷◌, [], ℕ, List, nat_eq, true, IfOk, OnOk, if◌then◌else◌};
 ghost use Rattle.std.specs.List.{find};
 ghost use Rattle.std.specs.Option.{option_map, option_copied};
-ghost use Rattle.invariant_check.specs.Candidates.{at_positions, covers};
+ghost use Rattle.contradictions.specs.Candidates.{at_positions, covers};
 ghost use Rattle.static_matcher.specs.Buckets.{numbers_in};
 ghost use Rattle.mutex_groups.specs.Found.{parts_differ};
 ghost use Rattle.mutex_groups.specs.Found as spec;
 
 use crate::tables::Weights;
-use invariant_check::{Candidate, Part};
+use contradictions::{Candidate, Part};
 use normal_task::GroundAtom;
 use relaxed_reach::Fact;
 use static_matcher::Buckets;

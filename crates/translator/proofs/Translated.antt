@@ -16,7 +16,7 @@ use Rattle.pddl_parser.specs.Words.{Name}
 use Rattle.pddl_parser.specs.Holds.{GroundAtom}
 use Rattle.pddl_parser.specs.Plan.{pddl_task, HasPlan, HasBusyPlan}
 use Rattle.normal_task.specs.declared.task.Normal.{Normal}
-use Rattle.invariant_check.specs.declared.types.Candidate.{Candidate}
+use Rattle.contradictions.specs.declared.types.Candidate.{Candidate}
 use Rattle.invariant_check.specs.WellFormed.{is_well_formed}
 use Rattle.invariant_guess.specs.declared.types.Found.{Found}
 use Rattle.static_matcher.specs.declared.types.Ground.{Ground}

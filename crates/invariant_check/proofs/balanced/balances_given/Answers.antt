@@ -1,8 +1,10 @@
 use Rattle.std.proofs.Common.{◌≡◌, ◌∙◌, ap, map, length}
 use Rattle.std.specs.List.{list_all}
-use Rattle.invariant_check.specs.Accepted.{apart_from, with_terms, literal_with}
+use Rattle.contradictions.specs.GivenTerms.{with_terms, literal_with}
+use Rattle.contradictions.proofs.Cases.{answers_too}
+use Rattle.invariant_check.specs.Accepted.{apart_from}
 use Rattle.invariant_check.specs.Attempts.{leaves_deleted, balances_given}
-use Rattle.invariant_check.proofs.Cases.{answers_too, with_given}
+use Rattle.invariant_check.proofs.AddCases.{with_given}
 use Rattle.invariant_check.proofs.balanced.balances_given.Goals as goal
 
 pub returns : goal.returns

@@ -2,8 +2,8 @@ use Rattle.std.proofs.Common.{◌≡◌, ◌∙◌, ap, subst}
 use Rattle.std.specs.Prelude.{IfOk}
 use Rattle.std.specs.List.{list_any}
 use Rattle.normal_task.specs.declared.task.Place.TheVariants.{Object}
+use Rattle.contradictions.specs.Candidates.{at_positions}
 use Rattle.invariant_check.specs.Accepted.{required, instance_of}
-use Rattle.invariant_check.specs.Candidates.{at_positions}
 use Rattle.invariant_check.specs.Attempts.{balances_somehow}
 use Rattle.invariant_check.proofs.Matching.{some_delete}
 use Rattle.invariant_check.proofs.balanced.has_balance.Goals as goal

@@ -1,7 +1,7 @@
 use Rattle.std.proofs.Common.{◌∙◌, sym}
+use Rattle.contradictions.proofs.SamePlaces.{all_goes_on, all_stops}
 use Rattle.invariant_check.specs.Accepted.{apart_from}
 use Rattle.invariant_check.specs.Attempts.{leaves_deleted}
-use Rattle.invariant_check.proofs.SamePlaces.{all_goes_on, all_stops}
 use Rattle.invariant_check.proofs.balanced.is_left_deleted.Goals as goal
 
 pub returns-then-not-branch : goal.returns-then-not-branch

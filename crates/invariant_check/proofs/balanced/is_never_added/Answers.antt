@@ -1,10 +1,10 @@
 use Rattle.std.proofs.Common.{◌≡◌, ◌∷◌, [], ◌++◌, ◌∙◌, ap, map, refl}
 use Rattle.std.specs.Prelude.{zip}
+use Rattle.contradictions.specs.Contradictory.{is_contradictory}
+use Rattle.contradictions.specs.Merges.{all_ranges, as_pair}
+use Rattle.contradictions.specs.Renamings.{renamed_literals, renamed_places}
+use Rattle.contradictions.proofs.Cases.{answers_too, equated_is, same_case}
 use Rattle.invariant_check.specs.Accepted.{apart_from, denied, ranges_with}
-use Rattle.invariant_check.specs.Contradictory.{is_contradictory}
-use Rattle.invariant_check.specs.Merges.{all_ranges, as_pair}
-use Rattle.invariant_check.specs.Renamings.{renamed_literals, renamed_places}
-use Rattle.invariant_check.proofs.Cases.{answers_too, equated_is, same_case}
 use Rattle.invariant_check.proofs.balanced.is_never_added.Goals as goal
 
 pub returns : goal.returns

@@ -1,10 +1,10 @@
 use Rattle.std.proofs.Common.{◌≡◌, ◌∷◌, [], ◌++◌, ◌∙◌, ap, refl, append-nil}
 use Rattle.normal_task.specs.declared.task.Place.TheVariants.{Object}
+use Rattle.contradictions.specs.Candidates.{at_positions}
+use Rattle.contradictions.specs.Contradictory.{is_contradictory}
+use Rattle.contradictions.specs.Renamings.{denied_atom}
+use Rattle.contradictions.proofs.Cases.{answers_too, same_case}
 use Rattle.invariant_check.specs.Accepted.{denied, instance_of, required}
-use Rattle.invariant_check.specs.Candidates.{at_positions}
-use Rattle.invariant_check.specs.Contradictory.{is_contradictory}
-use Rattle.invariant_check.specs.Renamings.{denied_atom}
-use Rattle.invariant_check.proofs.Cases.{answers_too, same_case}
 use Rattle.invariant_check.proofs.balanced.is_never_new.Goals as goal
 
 pub returns : goal.returns

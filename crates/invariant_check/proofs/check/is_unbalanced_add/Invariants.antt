@@ -1,7 +1,7 @@
 use Rattle.std.proofs.Common.{◌≡◌, drop}
 use Rattle.std.specs.List.{list_any}
 use Rattle.std.specs.Prelude.{◌&&◌, not, nat_eq}
-use Rattle.invariant_check.specs.declared.types.Part.{Part}
+use Rattle.contradictions.specs.declared.types.Part.{Part}
 use Rattle.invariant_check.specs.Accepted.{is_balanced_at}
 use Rattle.invariant_check.proofs.check.is_unbalanced_add.Given as goal
 

@@ -2,7 +2,7 @@ use Rattle.std.proofs.Common.{length, sym, ap, ◌∙◌}
 use Rattle.std.specs.Prelude.{nat_lt}
 use Rattle.std.specs.List.{insert}
 use Rattle.std.specs.Option.{unwrap_or}
-use Rattle.invariant_check.specs.declared.types.Part.{Part}
+use Rattle.contradictions.specs.declared.types.Part.{Part}
 use Rattle.invariant_check.proofs.Orders.{or_len, put_in-is}
 use Rattle.invariant_check.proofs.extensions.put_in.Goals as goal
 

@@ -2,12 +2,13 @@ use Rattle.std.proofs.Common.{◌≡◌, ◌∷◌, [], ◌++◌, ◌∙◌, ap,
 use Rattle.std.specs.Prelude.{zip}
 use Rattle.normal_task.specs.declared.task.Place.TheVariants.{Object}
 use Rattle.normal_task.specs.Parts.{moved, moved_place}
+use Rattle.contradictions.specs.Candidates.{at_positions}
+use Rattle.contradictions.specs.Merges.{all_ranges, as_pair}
+use Rattle.contradictions.specs.Renamings.{denied_atom, renamed_literals, renamed_places}
+use Rattle.contradictions.proofs.Cases.{answers_too, equated_is}
 use Rattle.invariant_check.specs.Accepted.{denied, instance_of, is_light_beside, part_passes}
 use Rattle.invariant_check.specs.Attempts.{are_one_or_apart}
-use Rattle.invariant_check.specs.Candidates.{at_positions}
-use Rattle.invariant_check.specs.Merges.{all_ranges, as_pair}
-use Rattle.invariant_check.specs.Renamings.{denied_atom, renamed_literals, renamed_places}
-use Rattle.invariant_check.proofs.Cases.{answers_too, equated_is, of_its_predicate, two_adds}
+use Rattle.invariant_check.proofs.AddCases.{of_its_predicate, two_adds}
 use Rattle.invariant_check.proofs.light.are_light.Goals as goal
 
 pub returns : goal.returns

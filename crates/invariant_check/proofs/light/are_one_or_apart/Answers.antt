@@ -1,9 +1,10 @@
 use Rattle.std.proofs.Common.{◌≡◌, ◌∙◌, ap, map, sym, false}
 use Rattle.std.specs.Prelude.{◌&&◌, nat_eq}
+use Rattle.contradictions.specs.Contradictory.{are_same_terms, has_contradiction, standing}
+use Rattle.contradictions.specs.Merges.{all_ranges, as_pair, have_one_leader}
+use Rattle.contradictions.proofs.Cases.{answers_too}
 use Rattle.invariant_check.specs.Attempts.{are_one_or_apart}
-use Rattle.invariant_check.specs.Contradictory.{are_same_terms, has_contradiction, standing}
-use Rattle.invariant_check.specs.Merges.{all_ranges, as_pair, have_one_leader}
-use Rattle.invariant_check.proofs.Cases.{answers_too, apart_by_classes}
+use Rattle.invariant_check.proofs.AddCases.{apart_by_classes}
 use Rattle.invariant_check.proofs.light.are_one_or_apart.Goals as goal
 
 pub returns : goal.returns

@@ -1,6 +1,6 @@
 use Rattle.std.proofs.Common.{◌∙◌, sym}
+use Rattle.contradictions.proofs.SamePlaces.{all_goes_on, all_stops}
 use Rattle.invariant_check.specs.Accepted.{part_passes, is_light_beside}
-use Rattle.invariant_check.proofs.SamePlaces.{all_goes_on, all_stops}
 use Rattle.invariant_check.proofs.light.is_light_beside_row.Goals as goal
 
 pub returns-then-not-branch : goal.returns-then-not-branch

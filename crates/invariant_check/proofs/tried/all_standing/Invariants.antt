@@ -1,5 +1,5 @@
 use Rattle.std.proofs.Common.{◌≡◌, flat_map, take}
-use Rattle.invariant_check.specs.Contradictory.{terms_of}
+use Rattle.contradictions.specs.Contradictory.{terms_of}
 use Rattle.invariant_check.proofs.tried.all_standing.Given as goal
 
 abbrev pub invariant-loop-literal : goal.invariant-loop-literal

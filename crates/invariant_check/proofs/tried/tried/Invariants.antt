@@ -1,6 +1,6 @@
 use Rattle.std.proofs.Common.{◌≡◌, ◌++◌, ◌+◌, drop, length}
+use Rattle.contradictions.specs.Merges.{all_ranges}
 use Rattle.invariant_check.specs.Attempts.{tried}
-use Rattle.invariant_check.specs.Merges.{all_ranges}
 use Rattle.invariant_check.proofs.tried.tried.Given as goal
 
 abbrev pub invariant-loop-index : goal.invariant-loop-index

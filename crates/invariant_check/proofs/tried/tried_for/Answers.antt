@@ -1,8 +1,8 @@
 use Rattle.std.proofs.Common.{◌≡◌, ◌∙◌, ap, sym, subst}
 use Rattle.std.specs.Prelude.{IfOk}
 use Rattle.std.specs.List.{position}
-use Rattle.invariant_check.specs.Contradictory.{is_same_place}
-use Rattle.invariant_check.specs.Merges.{all_ranges}
+use Rattle.contradictions.specs.Contradictory.{is_same_place}
+use Rattle.contradictions.specs.Merges.{all_ranges}
 use Rattle.invariant_check.proofs.TriedSteps.{tried_at, tried_nowhere}
 use Rattle.invariant_check.proofs.tried.tried_for.Goals as goal
 

@@ -1,6 +1,6 @@
 use Rattle.std.proofs.Common.{◌∙◌, ◌++◌, ◌∷◌, [], length, refl, sym, ap, if◌then◌else◌}
 use Rattle.std.proofs.lemmas.Option.{slice_get_read}
-use Rattle.invariant_check.specs.Candidates.{covers}
+use Rattle.contradictions.specs.Candidates.{covers}
 use Rattle.mutex_groups.proofs.Covered.{facts-next}
 use Rattle.mutex_groups.proofs.instances.members.Goals as goal
 

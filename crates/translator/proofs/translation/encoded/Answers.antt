@@ -1,5 +1,5 @@
 use Rattle.std.proofs.Common.{List, subst}
-use Rattle.invariant_check.specs.declared.types.Candidate.{Candidate}
+use Rattle.contradictions.specs.declared.types.Candidate.{Candidate}
 use Rattle.mutex_groups.specs.Groups.{AreGroups}
 use Rattle.group_cover.specs.Cover.{IsCover}
 use Rattle.translator.proofs.Translated.{sorted_groups, encoding_of_run}

@@ -1,0 +1,10 @@
+-- laws, which other crates may cite
+pub mod Contradiction
+pub mod Closure
+pub mod Covering
+pub mod SamePlaces
+pub mod Cases
+-- lemmas of this crate
+mod MergeSteps
+mod Renamings
+mod Shared

@@ -1,0 +1,199 @@
+-- Objects that lists have in common: leaping over lists that rise finds one exactly where there is one.
+use Rattle.std.proofs.Common.{◌≡◌, ℕ, ◌+◌, ◌<◌, ◌≤◌, Bool, true, false, not, ◌&&◌, List, [], ◌∷◌, ◌++◌, map, length, take, drop, get_or, inl, inr, Some, None, Ok, Err, refl, sym, ap, ◌∙◌, subst, arith}
+use Rattle.std.specs.Prelude.{nat_eq}
+use Rattle.std.specs.List.{list_all, filter}
+use Rattle.std.specs.List.Sorted.{IsNonDecreasing, IsBinarySearchResult}
+use Rattle.std.specs.Ordering.{nat_cmp}
+use Rattle.std.proofs.lemmas.Bool.{eqb-true, eq-eqb, cases_lt, and_parts, and_from, or_cases, or_left, or_right, not-true}
+use Rattle.std.proofs.lemmas.List.{get_or_default, map-append, take-append-drop}
+use Rattle.std.proofs.lemmas.List.Sorted.{searched}
+use Rattle.lists.proofs.Items.{Among, among_at, contains_among, all_passes, each_passes, any_passes, passing, none_passes, any_append, among_map, map_source, among_filter, filter_among}
+use Rattle.lists.proofs.LoopSteps.{map_next, filter_next_kept, filter_next_left}
+use Rattle.normal_task.specs.declared.task.Place.{Place}
+use Rattle.contradictions.specs.Contradictory.{objects_of, is_lacked, has_no_object, is_among}
+use Rattle.contradictions.specs.declared.common.Member.{Member}
+use Rattle.contradictions.specs.Common.{objects_in, is_missed, is_shared, IsNextShared, TellsShared}
+use Rattle.contradictions.specs.FirstFrom.{IsFirstFrom}
+use Rattle.contradictions.proofs.SamePlaces.{true-false}
+
+-- ---- one list that rises
+
+-- an object of the list stands at an index
+abbrev At : List ℕ → ℕ → Type 0
+At objects object = (k : ℕ) × (k < length objects) × (get_or objects k 0 ≡ object)
+
+at : (objects : List ℕ) (object : ℕ) → is_among objects object ≡ true → At objects object
+at objects object is =
+    let found = passing (nat_eq object) objects is in
+    let place = contains_among objects found.item found.among in
+    (place.0, place.1, get_or_default objects place.0 0 found.item place.1 ∙ place.2 ∙ sym (eqb-true object found.item found.passes))
+
+there : (objects : List ℕ) (k object : ℕ) → k < length objects → get_or objects k 0 ≡ object → is_among objects object ≡ true
+there objects k object within is = any_passes (nat_eq object) (get_or objects k 0) objects (among_at objects k 0 within) (eq-eqb object (get_or objects k 0) (sym is))
+
+pub found : (objects : List ℕ) (least i : ℕ) → IsBinarySearchResult (λ y. nat_cmp y least) objects (Ok i) → IsNonDecreasing objects → IsFirstFrom objects least (Some least)
+found objects least i search rises =
+    let place = searched objects least (Ok i) search (λ i j le below. rises i j 0 le below) in
+    let same : least ≤ least = omega arith in
+    (same, there objects i least place.0 place.1, λ object is more. more)
+
+module _ (objects : List ℕ) (least i : ℕ) (searched-it : IsBinarySearchResult (λ y. nat_cmp y least) objects (Err i)) (rises : IsNonDecreasing objects) where
+  parted : (i ≤ length objects) × ((k : ℕ) → k < i → get_or objects k 0 < least) × ((k : ℕ) → i ≤ k → k < length objects → least < get_or objects k 0)
+  parted = searched objects least (Err i) searched-it (λ i j le below. rises i j 0 le below)
+
+  pub found_past : i < length objects → IsFirstFrom objects least (Some (get_or objects i 0))
+  found_past within =
+      let le : i ≤ i = omega arith in
+      let above = parted.2 i le within in
+      let more : least ≤ get_or objects i 0 = omega (arith, above) in (
+        more,
+        there objects i (get_or objects i 0) within refl,
+        λ object is from.
+            let place = at objects object is in
+            elim (cases_lt place.0 i) [
+              | inl before ↦ let less = parted.1 place.0 before in absurd (omega (arith, less, place.2, from))
+              | inr after ↦ let order = rises i place.0 0 after place.1 in omega (arith, order, place.2)
+            ],
+      )
+
+  pub none_past : length objects ≤ i → IsFirstFrom objects least None
+  none_past past object is =
+      let place = at objects object is in
+      let before : place.0 < i = omega (arith, place.1, past) in
+      let less = parted.1 place.0 before in
+      omega (arith, less, place.2)
+
+-- ---- one list after the other
+
+not-among : (objects : List ℕ) (object : ℕ) → (is_among objects object ≡ true → ⊥) → not (is_among objects object) ≡ true
+not-among objects object isnt = by (is_among objects object) refl
+  where
+    by : (b : Bool) → is_among objects object ≡ b → not b ≡ true
+    by true is = absurd (isnt is)
+    by false is = refl
+
+one-missed : (objects : List ℕ) (object : ℕ) → not (is_among objects object) ≡ true → is_missed (objects ∷ []) object ≡ true
+one-missed objects object is = or_left (not (is_among objects object)) false is
+
+module _ (lists : List (List ℕ)) (objects : List ℕ) (least next : ℕ) (held : IsNextShared lists least (Some next)) where
+  missed-more : (object : ℕ) → least ≤ object → (next ≤ object → is_among objects object ≡ true → ⊥) → is_missed (lists ++ objects ∷ []) object ≡ true
+  missed-more object from isnt =
+      any_append (λ objects. not (is_among objects object)) lists (objects ∷ [])
+      ∙ elim (cases_lt object next) [
+        | inl before ↦ or_left (is_missed lists object) (is_missed (objects ∷ []) object) (held.1 object from before)
+        | inr after ↦ or_right (is_missed lists object) (is_missed (objects ∷ []) object) (one-missed objects object (not-among objects object (isnt after)))
+      ]
+
+  pub shared_more : (later : ℕ) → IsFirstFrom objects next (Some later) → IsNextShared (lists ++ objects ∷ []) least (Some later)
+  shared_more later first =
+      let least-next = held.0 in
+      let next-later = first.0 in
+      let order : least ≤ later = omega arith in (
+        order,
+        λ object from before. missed-more object from (λ after is. let most = first.2 object is after in absurd (omega (arith, most, before))),
+        λ same.
+            let stays : next ≡ least = omega arith in
+            shared-append (held.2 stays) (subst (λ n. is_among objects n ≡ true) same first.1),
+      )
+    where
+      shared-append : is_shared lists least ≡ true → is_among objects least ≡ true → is_shared (lists ++ objects ∷ []) least ≡ true
+      shared-append all one = all-append lists all
+        where
+          all-append : (ls : List (List ℕ)) → is_shared ls least ≡ true → is_shared (ls ++ objects ∷ []) least ≡ true
+          all-append [] none = and_from (is_among objects least) true one refl
+          all-append (l ∷ ls) all =
+              let parts = and_parts (is_among l least) (is_shared ls least) all in
+              and_from (is_among l least) (is_shared (ls ++ objects ∷ []) least) parts.0 (all-append ls parts.1)
+
+  pub none_more : IsFirstFrom objects next None → IsNextShared (lists ++ objects ∷ []) least None
+  none_more none object from = missed-more object from (λ after is. let before = none object is in absurd (omega (arith, before, after)))
+
+-- more lists only miss more
+pub missed_longer : (lists more : List (List ℕ)) (object : ℕ) → is_missed lists object ≡ true → is_missed (lists ++ more) object ≡ true
+missed_longer lists more object is =
+    any_append (λ objects. not (is_among objects object)) lists more ∙ or_left (is_missed lists object) (is_missed more object) is
+
+-- one turn of the loop over the members
+module _ (class : List Member) (i : ℕ) (member : Member) (within : i < length class) (is : member ≡ get_or class i member) (least next : ℕ) (held : IsNextShared (map objects_in (take i class)) least (Some next)) where
+  next-lists : map objects_in (take (i + 1) class) ≡ map objects_in (take i class) ++ objects_in member ∷ []
+  next-lists = map_next class i member within is objects_in
+
+  pub next_turn : (later : ℕ) → IsFirstFrom (objects_in member) next (Some later) → IsNextShared (map objects_in (take (i + 1) class)) least (Some later)
+  next_turn later first =
+      subst (λ lists. IsNextShared lists least (Some later)) (sym next-lists) (shared_more (map objects_in (take i class)) (objects_in member) least next held later first)
+
+  pub next_none : IsFirstFrom (objects_in member) next None → IsNextShared (map objects_in class) least None
+  next_none none object from =
+      subst (λ lists. is_missed lists object ≡ true) (sym (map-append objects_in (take (i + 1) class) (drop (i + 1) class)) ∙ ap (map objects_in) (take-append-drop (i + 1) class))
+      (missed_longer (map objects_in (take (i + 1) class)) (map objects_in (drop (i + 1) class)) object
+      (subst (λ lists. is_missed lists object ≡ true) (sym next-lists) (none_more (map objects_in (take i class)) (objects_in member) least next held none object from)))
+
+-- one leap of the search for an object that all share
+pub leap : (lists : List (List ℕ)) (least next : ℕ) → ((object : ℕ) → object < least → is_missed lists object ≡ true) → IsNextShared lists least (Some next) → (object : ℕ) → object < next → is_missed lists object ≡ true
+leap lists least next before shared object less =
+    elim (cases_lt object least) [ inl earlier ↦ before object earlier | inr from ↦ shared.1 object from less ]
+
+pub none_left : (lists : List (List ℕ)) (least : ℕ) → ((object : ℕ) → object < least → is_missed lists object ≡ true) → IsNextShared lists least None → TellsShared lists false
+none_left lists least before none object = elim (cases_lt object least) [ inl earlier ↦ before object earlier | inr from ↦ none object from ]
+
+-- one more term of the class, or one that isn't of it
+pub class_more : (same : Place → Bool) (objects_at : Place → List ℕ) (own : List ℕ) (terms : List Place) (i : ℕ) (term : Place) → i < length terms → term ≡ get_or terms i term → (class new : List (List ℕ)) →
+    class ≡ own ∷ map objects_at (filter same (take i terms)) → same term ≡ true → new ≡ class ++ objects_at term ∷ [] → new ≡ own ∷ map objects_at (filter same (take (i + 1) terms))
+class_more same objects_at own terms i term within is class new held kept made =
+    made ∙ ap (λ c. c ++ objects_at term ∷ []) held
+    ∙ ap (λ l. own ∷ l) (sym (map-append objects_at (filter same (take i terms)) (term ∷ [])) ∙ ap (map objects_at) (sym (filter_next_kept terms i term within is same kept)))
+
+pub class_same : (same : Place → Bool) (objects_at : Place → List ℕ) (own : List ℕ) (terms : List Place) (i : ℕ) (term : Place) → i < length terms → term ≡ get_or terms i term → (class : List (List ℕ)) →
+    class ≡ own ∷ map objects_at (filter same (take i terms)) → same term ≡ false → class ≡ own ∷ map objects_at (filter same (take (i + 1) terms))
+class_same same objects_at own terms i term within is class held left = held ∙ ap (λ l. own ∷ map objects_at l) (sym (filter_next_left terms i term within is same left))
+
+-- ---- a class
+
+module _ (same : Place → Place → Bool) (ranges : List (List ℕ)) (terms : List Place) (term : Place) where
+  abbrev class : List (List ℕ)
+  class = objects_of ranges term ∷ map (objects_of ranges) (filter (same term) terms)
+
+  -- an object that all share isn't lacked
+  shared-not-lacked : (object : ℕ) → is_shared class object ≡ true → is_lacked same ranges terms term object ≡ false
+  shared-not-lacked object all =
+      none_passes (λ other. same term other && not (is_among (objects_of ranges other) object)) terms
+      (λ other in-terms is.
+      let parts = and_parts (same term other) (not (is_among (objects_of ranges other) object)) is in
+      let has = all_passes (λ objects. is_among objects object) (objects_of ranges other) (map (objects_of ranges) (filter (same term) terms))
+      (among_map (objects_of ranges) other (filter (same term) terms) (among_filter (same term) other terms in-terms parts.0))
+      (and_parts (is_among (objects_of ranges term) object) (is_shared (map (objects_of ranges) (filter (same term) terms)) object) all).1 in
+      true-false (is_among (objects_of ranges other) object) has (not-true (is_among (objects_of ranges other) object) parts.1))
+
+  -- one of the term's own objects that is missed is lacked
+  missed-lacked : (object : ℕ) → is_among (objects_of ranges term) object ≡ true → is_missed class object ≡ true → is_lacked same ranges terms term object ≡ true
+  missed-lacked object own is =
+      elim (or_cases (not (is_among (objects_of ranges term) object)) (is_missed (map (objects_of ranges) (filter (same term) terms)) object) is) [
+        | inl never ↦ absurd (true-false (is_among (objects_of ranges term) object) own (not-true (is_among (objects_of ranges term) object) never))
+        | inr later ↦
+            let found = passing (λ objects. not (is_among objects object)) (map (objects_of ranges) (filter (same term) terms)) later in
+            let source = map_source (objects_of ranges) (filter (same term) terms) found.item found.among in
+            let kept = filter_among (same term) source.source terms source.among in
+            any_passes (λ other. same term other && not (is_among (objects_of ranges other) object)) source.source terms kept.0
+            (and_from (same term source.source) (not (is_among (objects_of ranges source.source) object)) kept.1
+            (subst (λ objects. not (is_among objects object) ≡ true) (sym source.gives) found.passes))
+      ]
+
+  pub no_object : (answer : Bool) → TellsShared class answer → not answer ≡ has_no_object same ranges terms term
+  no_object true shares =
+      let own = (and_parts (is_among (objects_of ranges term) shares.0) (is_shared (map (objects_of ranges) (filter (same term) terms)) shares.0) shares.1).0 in
+      let found = passing (nat_eq shares.0) (objects_of ranges term) own in
+      by (has_no_object same ranges terms term) refl found.item found.among (eqb-true shares.0 found.item found.passes)
+    where
+      by : (b : Bool) → has_no_object same ranges terms term ≡ b → (item : ℕ) → Among item (objects_of ranges term) → shares.0 ≡ item → false ≡ b
+      by false is item among same-item = refl
+      by true is item among same-item =
+          let lacked = all_passes (is_lacked same ranges terms term) item (objects_of ranges term) among is in
+          absurd (true-false (is_lacked same ranges terms term item) lacked (subst (λ o. is_lacked same ranges terms term o ≡ false) same-item (shared-not-lacked shares.0 shares.1)))
+  no_object false missed =
+      sym (each_passes (is_lacked same ranges terms term) (objects_of ranges term) (λ object among.
+      missed-lacked object (any_passes (nat_eq object) object (objects_of ranges term) among (eq-eqb object object refl)) (missed object)))
+
+  -- where the first object is shared, there is one
+  pub first_shared : (objects : List ℕ) (object : ℕ) → 0 < length objects → object ≡ get_or objects 0 object → is_lacked same ranges terms term object ≡ false → list_all (is_lacked same ranges terms term) objects ≡ false
+  first_shared [] object some is isnt = absurd (omega (arith, some))
+  first_shared (first ∷ more) object some is isnt = ap (λ o. is_lacked same ranges terms term o && list_all (is_lacked same ranges terms term) more) (sym is) ∙ ap (λ b. b && list_all (is_lacked same ranges terms term) more) isnt

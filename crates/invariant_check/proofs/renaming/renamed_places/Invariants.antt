@@ -1,6 +1,0 @@
-use Rattle.std.proofs.Common.{◌≡◌, take}
-use Rattle.invariant_check.specs.Renamings as spec
-use Rattle.invariant_check.proofs.renaming.renamed_places.Given as goal
-
-abbrev pub invariant-loop-place : goal.invariant-loop-place
-invariant-loop-place l = l.renamed.items ≡ spec.renamed_places l.renaming (take l.place-index l.places)
