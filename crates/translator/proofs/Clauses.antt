@@ -8,17 +8,17 @@ use Rattle.std.specs.FinMap.{get, insert}
 use Rattle.tl_device.specs.Contents.{Contents, OthersStay, IsTold, IsAskedFor, GrownInPart, emptied, grow}
 use Rattle.tl_device.proofs.Grown.{get-emptied_other, get-grown_other}
 use Rattle.tl_device.specs.Causes.{Rose}
+use Rattle.messages.specs.declared.outcome.Message.{Message}
+use Rattle.messages.specs.declared.outcome.Status.{Status}
+use Rattle.messages.specs.declared.outcome.Status.TheVariants as statuses
+use Rattle.messages.specs.declared.outcome.Summary.{Summary}
+use Rattle.messages.specs.Messages.{refusal_line, unreadable_line, task_lines}
 use Rattle.translator.specs.Asked.{Asked}
-use Rattle.translator.specs.declared.outcome.Message.{Message}
-use Rattle.translator.specs.declared.outcome.Status.{Status}
-use Rattle.translator.specs.declared.outcome.Status.TheVariants as statuses
-use Rattle.translator.specs.declared.outcome.Summary.{Summary}
 use Rattle.translator.specs.Ending.{Ending, Gives, Absent, Refused}
 use Rattle.translator.specs.RunTask.{Output}
 use Rattle.translator.specs.Run.{ComesTo, RunsTo, LacksFile, HasFault}
 use Rattle.translator.specs.OneRun.{OneEnding}
 use Rattle.translator.specs.Store.{Store, IsUntouched, Screen}
-use Rattle.translator.specs.Messages.{refusal_line, unreadable_line, task_lines}
 use Rattle.translator.specs.Call.{IsWritten, IsWrittenInPart, Ends, misused, starved, unread, refused, unwritten, written, whole, part, Called, called}
 use Rattle.translator.proofs.FirstBytes.{capital, usage_small, memory_small, unreadable_small, unwritable_small, refusal_small, begins_capital, printed_is}
 

@@ -4,9 +4,9 @@ use Rattle.std.specs.declared.option.Option.{Option}
 use Rattle.std.specs.declared.option.Option.TheVariants.{Some, None}
 use Rattle.std.specs.Io.KnownBytes.{append_known}
 use Rattle.std.proofs.lemmas.List.{append_cancel_left}
-use Rattle.translator.specs.declared.outcome.Message.{Message}
-use Rattle.translator.specs.declared.outcome.Summary.{Summary}
-use Rattle.translator.specs.Messages.{usage_line, memory_line, unreadable_line, unwritable_line, fault_line, refusal_line, summary_lines, task_lines}
+use Rattle.messages.specs.declared.outcome.Message.{Message}
+use Rattle.messages.specs.declared.outcome.Summary.{Summary}
+use Rattle.messages.specs.Messages.{usage_line, memory_line, unreadable_line, unwritable_line, fault_line, refusal_line, summary_lines, task_lines}
 
 -- T
 abbrev pub capital : ℕ

@@ -2,8 +2,8 @@
 use Rattle.std.proofs.Common.{◌≡◌, ℕ, List, [], ◌∷◌, Result, Ok, Err, refl, sym, ap, ◌∙◌}
 use Rattle.std.specs.Prelude.{IfOk, IfErr}
 use Rattle.tl_device.specs.Contents.{Contents}
-use Rattle.translator.specs.declared.outcome.End.{End}
-use Rattle.translator.specs.declared.outcome.End.TheVariants as ends
+use Rattle.messages.specs.declared.outcome.End.{End}
+use Rattle.messages.specs.declared.outcome.End.TheVariants as ends
 use Rattle.translator.specs.Ending.{Ending, Gives, ◌>>=◌}
 use Rattle.translator.specs.Texts.{Text, text, read}
 use Rattle.translator.specs.Store.{Store}

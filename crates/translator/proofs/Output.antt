@@ -5,13 +5,13 @@ use Rattle.std.specs.declared.option.Option.TheVariants.{Some, None}
 use Rattle.tl_device.specs.Contents.{Contents, IsTold, GrownInPart, emptied, grown}
 use Rattle.tl_device.specs.Causes.{Rose}
 use Rattle.tl_device.proofs.Grown.{grown_at, part_at}
+use Rattle.messages.specs.declared.outcome.Status.TheVariants as statuses
+use Rattle.messages.specs.Messages.{task_lines, unwritable_line}
 use Rattle.translator.specs.Asked.{Asked}
-use Rattle.translator.specs.declared.outcome.Status.TheVariants as statuses
 use Rattle.translator.specs.Ending.{Gives}
 use Rattle.translator.specs.RunTask.{Output}
 use Rattle.translator.specs.Run.{ComesTo}
 use Rattle.translator.specs.Store.{Store, IsUntouched}
-use Rattle.translator.specs.Messages.{task_lines, unwritable_line}
 use Rattle.translator.specs.Call.{Ends, written, unwritten}
 use Rattle.translator.specs.Stages.{IsRead}
 

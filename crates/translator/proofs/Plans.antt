@@ -11,7 +11,7 @@ use Rattle.plan_backmap.specs.declared.plan.Mapped.{Mapped}
 use Rattle.plan_backmap.specs.declared.plan.MapEnd.{MapEnd}
 use Rattle.plan_backmap.specs.declared.plan.MapEnd.TheVariants as map_ends
 use Rattle.sas_task.specs.Task.{Task}
-use Rattle.translator.specs.declared.outcome.Message.TheVariants as messages
+use Rattle.messages.specs.declared.outcome.Message.TheVariants as messages
 use Rattle.translator.specs.Ending.{Gives, Refused, ◌>>=◌}
 use Rattle.translator.specs.Texts.{Text, read}
 use Rattle.translator.specs.Plan.{unless_faulty, mapped_lines, of_plan}

@@ -9,23 +9,23 @@ use Rattle.lists.proofs.Members.{no_member, member_first, member_later, member_s
 use Rattle.tl_device.specs.Contents.{Contents, IsAskedFor}
 use Rattle.tl_device.specs.Causes.{Rose}
 use Rattle.command_line.specs.Accepted.{Files, Made as OfBalls}
+use Rattle.messages.specs.declared.outcome.End.{End}
+use Rattle.messages.specs.declared.outcome.End.TheVariants as ends
+use Rattle.messages.specs.declared.outcome.Summary.{Summary}
+use Rattle.messages.specs.Outcome.{Outcome, status_of, line_of}
 use Rattle.translator.specs.Asked.{Asked}
 use Rattle.command_line.specs.declared.accepted.Settings.{Settings}
 use Rattle.invariant_guess.specs.declared.types.Found.{Found}
 use Rattle.sas_task.specs.Task.{Task}
 use Rattle.sas_task.specs.Output.{text_of}
-use Rattle.translator.specs.declared.outcome.End.{End}
 use Rattle.translator.specs.declared.translation.Made.{Made}
-use Rattle.translator.specs.declared.outcome.End.TheVariants as ends
 use Rattle.translator.specs.Ending.{Ending, Gives, Absent, Refused, ◌>>=◌}
-use Rattle.translator.specs.declared.outcome.Summary.{Summary}
 use Rattle.translator.specs.Plan.{of_plan, plan_names}
 use Rattle.pass_book.specs.Passes.{IsChain}
 use Rattle.translator.specs.RunTask.{Output, Start, FromPair, FromTask, IsTaskOf, IsReadTask, PassesTranslate, PassesKeepReadTasks, summary_of, output_of}
 use Rattle.translator.specs.Run.{Text, text, read, of_texts, of_source, inputs, titles, all_inputs, all_titles, names_read, made_domain, made_problem, ComesTo, no_file, faulty, made}
 use Rattle.translator.specs.Store.{Store, IsUntouched, AsksForNoOther}
 use Rattle.translator.specs.Call.{Ends, misused, starved, unread, refused}
-use Rattle.translator.specs.Outcome.{Outcome, status_of, line_of}
 use Rattle.translator.specs.Stages.{IsRefusal, StopsWhere, StopsReading, IsRead, IsMadeOf}
 use Rattle.translator.proofs.Stages.{Leads, first_leads, goes_on, texts_told, refused_of}
 

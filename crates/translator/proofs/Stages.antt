@@ -20,10 +20,10 @@ use Rattle.type_checker.specs.Checked.{Pair, IsChecked, head, ChecksTo}
 use Rattle.type_checker.specs.Faults.{SidedFault, check_faults}
 use Rattle.type_checker.specs.declared.end.Side.{Side}
 use Rattle.type_checker.specs.declared.end.Side.TheVariants as sides
-use Rattle.translator.specs.declared.outcome.Message.{Message}
-use Rattle.translator.specs.declared.outcome.Message.TheVariants as messages
-use Rattle.translator.specs.declared.outcome.End.{End}
-use Rattle.translator.specs.declared.outcome.End.TheVariants as ends
+use Rattle.messages.specs.declared.outcome.Message.{Message}
+use Rattle.messages.specs.declared.outcome.Message.TheVariants as messages
+use Rattle.messages.specs.declared.outcome.End.{End}
+use Rattle.messages.specs.declared.outcome.End.TheVariants as ends
 use Rattle.translator.specs.Ending.{Ending, Gives, Absent, Refused, ◌>>=◌, unless}
 use Rattle.translator.specs.RunTask.{Start, FromPair}
 use Rattle.translator.specs.Run.{Text, text, made_domain, made_problem, tree_of, said, on_side, unless_checked, from_pair, of_texts}

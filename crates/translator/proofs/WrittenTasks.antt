@@ -13,7 +13,7 @@ use Rattle.sas_reader.specs.declared.fault.SasFault.{SasFault}
 use Rattle.invariant_guess.specs.declared.types.Found.{Found}
 use Rattle.sas_task.specs.Task.{Task}
 use Rattle.sas_task.specs.Valid.{IsValid}
-use Rattle.translator.specs.declared.outcome.Message.TheVariants as messages
+use Rattle.messages.specs.declared.outcome.Message.TheVariants as messages
 use Rattle.translator.specs.Ending.{Ending, Gives, Refused, ◌>>=◌}
 use Rattle.translator.specs.RunTask.{Start, FromTask, nothing_found, PassesKeepReadTasks}
 use Rattle.translator.specs.Run.{text, read, unless_broken, of_task_text, of_source}

@@ -5,15 +5,15 @@ use Rattle.std.specs.declared.option.Option.TheVariants.{Some, None}
 use Rattle.std.specs.Io.KnownBytes.{append_known}
 use Rattle.tl_device.specs.Contents.{Contents, IsAskedFor, GrownInPart, PrintedInPart, emptied, grown}
 use Rattle.tl_device.specs.Causes.{Rose}
+use Rattle.messages.specs.declared.outcome.Message.{Message}
+use Rattle.messages.specs.declared.outcome.Status.{Status}
+use Rattle.messages.specs.declared.outcome.Status.TheVariants as statuses
+use Rattle.messages.specs.Messages.{usage_line, memory_line, unreadable_line, unwritable_line, refusal_line, task_lines}
 use Rattle.translator.specs.Asked.{Asked}
-use Rattle.translator.specs.declared.outcome.Message.{Message}
-use Rattle.translator.specs.declared.outcome.Status.{Status}
-use Rattle.translator.specs.declared.outcome.Status.TheVariants as statuses
 use Rattle.translator.specs.Ending.{Gives, Absent, Refused}
 use Rattle.translator.specs.RunTask.{Output}
 use Rattle.translator.specs.Run.{ComesTo, all_inputs, all_titles}
 use Rattle.translator.specs.Store.{Store, IsUntouched, Screen}
-use Rattle.translator.specs.Messages.{usage_line, memory_line, unreadable_line, unwritable_line, refusal_line, task_lines}
 
 -- The file of this name, which is one of these, can't be read: it was asked for last, and reading failed, or, where the files are told, it is absent.
 pub record IsUnread (before now : Store) (names : List (List ℕ)) (name : List ℕ) (IsAbsent : Contents → Type 0) : Type 0 where

@@ -1,8 +1,8 @@
 -- How a run ends by what its files hold, and each of its stages.
 use Rattle.std.specs.Prelude.{ℕ, List, [], ◌∷◌}
 use Rattle.pddl_lexer.specs.declared.fault.Fault.{Fault}
-use Rattle.translator.specs.declared.outcome.Message.{Message}
-use Rattle.translator.specs.declared.outcome.Message.TheVariants as messages
+use Rattle.messages.specs.declared.outcome.Message.{Message}
+use Rattle.messages.specs.declared.outcome.Message.TheVariants as messages
 
 -- There is something to go on with; or the file of this name is absent; or it is refused, with this message.
 pub data Ending (A : Type 0) : Type 0 where

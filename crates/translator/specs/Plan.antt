@@ -9,7 +9,7 @@ use Rattle.plan_backmap.specs.PlanText.{plan_text}
 use Rattle.plan_backmap.specs.declared.plan.MapEnd.{MapEnd}
 use Rattle.plan_backmap.specs.declared.plan.MapEnd.TheVariants as map_ends
 use Rattle.sas_task.specs.Task.{Task}
-use Rattle.translator.specs.declared.outcome.Message.TheVariants as messages
+use Rattle.messages.specs.declared.outcome.Message.TheVariants as messages
 use Rattle.translator.specs.Ending.{Ending, Gives, Refused, ◌>>=◌}
 use Rattle.translator.specs.Texts.{Text, read}
 

@@ -20,7 +20,7 @@ use Rattle.sas_task.specs.Task.{Task}
 use Rattle.sas_task.specs.Valid.{IsValid}
 use Rattle.sas_task.specs.Keeps.{Keeps}
 use Rattle.sas_task.specs.Output.{text_of}
-use Rattle.translator.specs.declared.outcome.Summary.{Summary}
+use Rattle.messages.specs.declared.outcome.Summary.{Summary}
 use Rattle.translator.specs.Theorem.{Translates}
 
 -- The task encodes what can be reached of the instances of the normal task, over the cover of the facts by the mutex groups of the candidates that were found, with `full` by whole groups.

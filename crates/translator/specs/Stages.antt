@@ -3,13 +3,13 @@ use Rattle.std.specs.Prelude.{◌≡◌, ℕ, List, Result, Ok, Err, IfSome, ⊤
 use Rattle.std.specs.declared.option.Option.{Option}
 use Rattle.std.specs.declared.option.Option.TheVariants.{None}
 use Rattle.tl_device.specs.Contents.{Contents}
+use Rattle.messages.specs.declared.outcome.End.{End}
+use Rattle.messages.specs.declared.outcome.End.TheVariants as ends
 use Rattle.translator.specs.Asked.{Asked}
 use Rattle.command_line.specs.declared.accepted.Settings.{Settings}
 use Rattle.invariant_guess.specs.declared.types.Found.{Found}
 use Rattle.pass_book.specs.declared.kind.PassKind.{PassKind}
 use Rattle.sas_task.specs.Task.{Task}
-use Rattle.translator.specs.declared.outcome.End.{End}
-use Rattle.translator.specs.declared.outcome.End.TheVariants as ends
 use Rattle.translator.specs.declared.translation.Input.{Input}
 use Rattle.translator.specs.declared.work.Written.{Written}
 use Rattle.translator.specs.Ending.{Ending, Gives, Absent, Refused}

@@ -4,21 +4,20 @@ ghost use Rattle.std.specs.Prelude.{◌≡◌, ◌≢◌, ◌⊎◌, ◌++◌, �
 ghost use Rattle.std.specs.Io.KnownBytes.{append_known};
 ghost use Rattle.tl_device.specs.Causes.{Rose};
 ghost use Rattle.tl_device.specs.Contents.{IsTold, OthersStay};
-ghost use Rattle.translator.specs.declared.outcome.Message.{Message};
-ghost use Rattle.translator.specs.declared.outcome.Summary.{Summary};
+ghost use Rattle.messages.specs.declared.outcome.Message.{Message};
+ghost use Rattle.messages.specs.declared.outcome.Summary.{Summary};
+ghost use Rattle.messages.specs.Messages.{task_lines, refusal_line, unreadable_line, usage_line, memory_line};
+ghost use Rattle.messages.specs.Outcome.{status_of, line_of};
 ghost use Rattle.translator.specs.Ending.{Absent, Refused};
 ghost use Rattle.translator.specs.Run.{RunsTo, LacksFile, HasFault, names_read};
 ghost use Rattle.translator.specs.Asked.{asked_by_words};
 ghost use Rattle.translator.specs.RunTask.{Output};
 ghost use Rattle.translator.specs.Store.{store, screen, IsUntouched, AsksForNoOther};
-ghost use Rattle.translator.specs.Messages.{task_lines, refusal_line, unreadable_line, usage_line, memory_line};
 ghost use Rattle.translator.specs.Call.{Called, Printed, IsWritten, IsWrittenInPart};
-ghost use Rattle.translator.specs.Outcome.{status_of, line_of};
 
 use crate::laws::one_task_of_a_run;
-use crate::message::say_outcome;
-use crate::outcome::{End, Report, Status};
 use crate::work::work;
+use messages::{End, Report, Status, say_outcome};
 use pass_book::Book;
 use std::alloc::Global;
 use std::io::ErrorKind;

@@ -4,8 +4,6 @@
 mod command;
 mod law;
 pub mod laws;
-mod message;
-mod outcome;
 mod plan;
 mod process;
 mod request;
@@ -14,5 +12,5 @@ mod translation;
 mod work;
 
 pub use command::{translate, without_words};
-pub use outcome::{Message, Status, Summary};
+pub use messages::{Message, Status, Summary};
 pub use process::{Ended, run};

@@ -7,8 +7,8 @@ ghost use Rattle.translator.specs.Ending.{Gives};
 ghost use Rattle.translator.specs.Plan as plans;
 ghost use Rattle.translator.specs.Stages.{StopsWhere, text_by};
 
-use crate::outcome::{End, Message};
 use crate::translation::Input;
+use messages::{End, Message};
 use plan_backmap::{MapEnd, Mapped, map_plan, plan_text};
 use sas_task::SasTask;
 use std::alloc::Global;

@@ -2,10 +2,10 @@
 
 ghost use Rattle.std.specs.Prelude.{◌≡◌};
 ghost use Rattle.std.specs.Process.{exit_status};
-ghost use Rattle.translator.specs.Outcome.{code_of};
+ghost use Rattle.messages.specs.Outcome.{code_of};
 
 use crate::command::{translate, without_words};
-use crate::outcome::Status;
+use messages::Status;
 use order_variables::order_variables;
 use pass_book::{Book, Pass, PassKind};
 use pass_h2::prune;

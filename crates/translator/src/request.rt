@@ -8,8 +8,8 @@ ghost use Rattle.translator.specs.Asked as asked;
 ghost use Rattle.translator.specs.Requests.{asked_by};
 ghost use Rattle.translator.specs.Stages.{IsRefusal};
 
-use crate::outcome::End;
 use command_line::{Accepted, read_words};
+use messages::End;
 use pass_book::{Book, PassKind};
 use std::alloc::{AllocError, Global};
 

@@ -7,10 +7,10 @@ ghost use Rattle.translator.specs.Run.{of_task_text};
 ghost use Rattle.translator.specs.RunTask as run_task;
 ghost use Rattle.translator.specs.Stages.{StopsWhere, text_by};
 
-use crate::outcome::{End, Message};
 use crate::translation::Input;
 use invariant_guess::Found;
 use lists::List;
+use messages::{End, Message};
 use sas_reader::{ReadTaskEnd, read_task, texts};
 use sas_task::SasTask;
 use std::alloc::Global;

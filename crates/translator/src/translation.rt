@@ -17,13 +17,13 @@ ghost use Rattle.translator.specs.Run as run;
 ghost use Rattle.translator.specs.Stages.{Answers, IsMadeOf, StopsWhere, text_by};
 
 use crate::law::run_task_translates;
-use crate::outcome::{End, Message, Summary};
 use axiom_layers::layers;
 use command_line::Settings;
 use fdr_encoder::encode;
 use group_cover::cover;
 use invariant_guess::laws::finds;
 use invariant_guess::{Found, find};
+use messages::{End, Message, Summary};
 use mutex_groups::groups;
 use mutex_groups::laws::groups_of_facts;
 use normal_task::Normal;

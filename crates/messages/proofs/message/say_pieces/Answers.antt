@@ -1,7 +1,7 @@
 use Rattle.std.proofs.Common.{rules}
-use Rattle.translator.specs.Pieces.{piece_bytes}
-use Rattle.translator.proofs.Pieces.{broken_piece}
-use Rattle.translator.proofs.message.say_pieces.Goals as goal
+use Rattle.messages.specs.Pieces.{piece_bytes}
+use Rattle.messages.proofs.Pieces.{broken_piece}
+use Rattle.messages.proofs.message.say_pieces.Goals as goal
 
 pub returns-in_err-say_piece-clause-err : goal.returns-in_err-say_piece-clause-err
 returns-in_err-say_piece-clause-err g c =

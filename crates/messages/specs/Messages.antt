@@ -3,9 +3,9 @@ use Rattle.std.specs.Prelude.{ℕ, List, ◌++◌, codes, decimal}
 use Rattle.pddl_lexer.specs.Kinds.{text}
 use Rattle.pddl_lexer.specs.declared.position.At.{At}
 use Rattle.sas_reader.specs.Places.{text as place_text}
-use Rattle.translator.specs.declared.outcome.Summary.{Summary}
-use Rattle.translator.specs.declared.outcome.Message.{Message}
-use Rattle.translator.specs.declared.outcome.Message.TheVariants as messages
+use Rattle.messages.specs.declared.outcome.Summary.{Summary}
+use Rattle.messages.specs.declared.outcome.Message.{Message}
+use Rattle.messages.specs.declared.outcome.Message.TheVariants as messages
 
 -- the line that refuses the words
 unfoldable pub usage_line : List ℕ

@@ -2,10 +2,10 @@
 use Rattle.std.proofs.Common.{◌≡◌, ℕ, List, [], ◌∷◌, ◌++◌, refl, sym, ap, ◌∙◌, append-nil, append_assoc}
 use Rattle.std.specs.Prelude.{fold, codes, decimal}
 use Rattle.pddl_lexer.specs.declared.position.At.{At}
-use Rattle.translator.specs.declared.outcome.Summary.{Summary}
-use Rattle.translator.specs.declared.message.Phrase.TheVariants as phrases
-use Rattle.translator.specs.Messages.{usage_line, memory_line, named_line, unreadable_line, unwritable_line, fault_line, position_text, summary_lines}
-use Rattle.translator.specs.Pieces.{bytes_of, joined}
+use Rattle.messages.specs.declared.outcome.Summary.{Summary}
+use Rattle.messages.specs.declared.message.Phrase.TheVariants as phrases
+use Rattle.messages.specs.Messages.{usage_line, memory_line, named_line, unreadable_line, unwritable_line, fault_line, position_text, summary_lines}
+use Rattle.messages.specs.Pieces.{bytes_of, joined}
 
 run_on : (before : List ℕ) (parts : List (List ℕ)) → before ++ joined parts ≡ fold (λ line part. line ++ part) before parts
 run_on before [] = append-nil before

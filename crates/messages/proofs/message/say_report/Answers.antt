@@ -1,7 +1,7 @@
 use Rattle.std.proofs.Common.{rules}
-use Rattle.translator.specs.Messages.{summary_lines}
-use Rattle.translator.proofs.Printing.{both_printed, plan_broke}
-use Rattle.translator.proofs.message.say_report.Goals as goal
+use Rattle.messages.specs.Messages.{summary_lines}
+use Rattle.messages.proofs.Printing.{both_printed, plan_broke}
+use Rattle.messages.proofs.message.say_report.Goals as goal
 use Rattle.tl_device.proofs.Known.{part_of_first}
 
 pub returns-in_err-say_summary-clause-err : goal.returns-in_err-say_summary-clause-err

@@ -1,11 +1,11 @@
 -- The pieces in which lines are printed.
 use Rattle.std.specs.Prelude.{ℕ, List, codes, decimal}
 use Rattle.std.specs.List.{flat_map}
-use Rattle.translator.specs.declared.message.Phrase.{Phrase}
-use Rattle.translator.specs.declared.message.Phrase.TheVariants as phrases
-use Rattle.translator.specs.declared.message.Piece.{Piece}
-use Rattle.translator.specs.declared.message.Piece.TheVariants as pieces
-use Rattle.translator.specs.Messages.{usage_line, memory_line}
+use Rattle.messages.specs.declared.message.Phrase.{Phrase}
+use Rattle.messages.specs.declared.message.Phrase.TheVariants as phrases
+use Rattle.messages.specs.declared.message.Piece.{Piece}
+use Rattle.messages.specs.declared.message.Piece.TheVariants as pieces
+use Rattle.messages.specs.Messages.{usage_line, memory_line}
 
 -- the bytes of a fixed part
 unfoldable pub bytes_of : Phrase → List ℕ

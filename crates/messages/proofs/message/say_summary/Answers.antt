@@ -1,6 +1,6 @@
 use Rattle.std.proofs.Common.{rules, sym}
-use Rattle.translator.proofs.Lines.{summary_pieces}
-use Rattle.translator.proofs.message.say_summary.Goals as goal
+use Rattle.messages.proofs.Lines.{summary_pieces}
+use Rattle.messages.proofs.message.say_summary.Goals as goal
 
 pub returns-clause-ok : goal.returns-clause-ok
 returns-clause-ok g c = rw (sym (summary_pieces c.args.summary.now)) (search rules)

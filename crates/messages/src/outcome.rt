@@ -2,9 +2,9 @@
 
 ghost use Rattle.std.specs.Prelude.{◌≡◌};
 ghost use Rattle.std.specs.Process.{exit_status};
-ghost use Rattle.translator.specs.Messages.{words_of};
-ghost use Rattle.translator.specs.Outcome.{code_of, status_of};
-ghost use Rattle.translator.specs.declared.outcome.End.TheVariants.{NoMemory};
+ghost use Rattle.messages.specs.Messages.{words_of};
+ghost use Rattle.messages.specs.Outcome.{code_of, status_of};
+ghost use Rattle.messages.specs.declared.outcome.End.TheVariants.{NoMemory};
 
 use pddl_lexer::Fault;
 use sas_reader::SasFault;
@@ -41,7 +41,7 @@ impl Status {
     }
 
     /// What the process answers after this end of the work, where the console takes what is said.
-    pub(crate) fn of(outcome: &Result<Report, End<'_>>) -> Status
+    pub fn of(outcome: &Result<Report, End<'_>>) -> Status
         ensures { result ≡ status_of outcome.now }
     {
         match outcome {
@@ -80,10 +80,10 @@ pub struct Summary {
 
 /// What is printed of a written task.
 #[derive(Drop)]
-pub(crate) struct Report {
-    pub(crate) summary: Summary,
+pub struct Report {
+    pub summary: Summary,
     /// The lines on the plan that is mapped back; none where no plan file is named.
-    pub(crate) plan: Vec<u8>,
+    pub plan: Vec<u8>,
 }
 
 /// What is said of a text that is refused, and of which place in it. Lines are counted from 1.
@@ -115,7 +115,7 @@ impl Message {
 
 /// Why no task is written. A file is told by its name.
 #[derive(Clone, Copy)]
-pub(crate) enum End<'a> {
+pub enum End<'a> {
     Usage,
     NoMemory,
     CannotRead(&'a str),

@@ -1,6 +1,6 @@
 use Rattle.std.proofs.Common.{rules, sym}
-use Rattle.translator.proofs.Lines.{position_pieces}
-use Rattle.translator.proofs.message.say_of_position.Goals as goal
+use Rattle.messages.proofs.Lines.{position_pieces}
+use Rattle.messages.proofs.message.say_of_position.Goals as goal
 
 pub returns-clause-ok : goal.returns-clause-ok
 returns-clause-ok g c = rw (sym (position_pieces c.args.name.now c.args.at c.args.words.now)) (search rules)

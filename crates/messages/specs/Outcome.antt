@@ -1,11 +1,11 @@
 -- How the work on the files ends in the code, as an exit status and as what is printed.
 use Rattle.std.specs.Prelude.{ℕ, List, Result, Ok, Err}
-use Rattle.translator.specs.declared.outcome.Status.{Status}
-use Rattle.translator.specs.declared.outcome.Status.TheVariants as statuses
-use Rattle.translator.specs.declared.outcome.Report.{Report}
-use Rattle.translator.specs.declared.outcome.End.{End}
-use Rattle.translator.specs.declared.outcome.End.TheVariants as ends
-use Rattle.translator.specs.Messages.{usage_line, memory_line, unreadable_line, unwritable_line, refusal_line, task_lines}
+use Rattle.messages.specs.declared.outcome.Status.{Status}
+use Rattle.messages.specs.declared.outcome.Status.TheVariants as statuses
+use Rattle.messages.specs.declared.outcome.Report.{Report}
+use Rattle.messages.specs.declared.outcome.End.{End}
+use Rattle.messages.specs.declared.outcome.End.TheVariants as ends
+use Rattle.messages.specs.Messages.{usage_line, memory_line, unreadable_line, unwritable_line, refusal_line, task_lines}
 
 abbrev pub code_of : Status → ℕ
 code_of statuses.Done = 0

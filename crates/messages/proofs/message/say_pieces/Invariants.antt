@@ -1,8 +1,8 @@
 use Rattle.std.proofs.Common.{◌≡◌, take}
 use Rattle.std.specs.List.{flat_map}
 use Rattle.std.specs.Io.KnownBytes.{append_known}
-use Rattle.translator.specs.Pieces.{piece_bytes}
-use Rattle.translator.proofs.message.say_pieces.Given as goal
+use Rattle.messages.specs.Pieces.{piece_bytes}
+use Rattle.messages.proofs.message.say_pieces.Given as goal
 
 abbrev pub invariant-loop-piece : goal.invariant-loop-piece
 invariant-loop-piece g l = record {

@@ -5,9 +5,9 @@ ghost use Rattle.std.specs.List.{flat_map};
 ghost use Rattle.std.specs.Io.KnownBytes.{append_known};
 ghost use Rattle.tl_device.specs.Causes.{HasCause};
 ghost use Rattle.tl_device.specs.Contents.{PrintedInPart};
-ghost use Rattle.translator.specs.Messages.{fault_line, named_line, position_text, refusal_line, summary_lines, task_lines};
-ghost use Rattle.translator.specs.Outcome.{line_of};
-ghost use Rattle.translator.specs.Pieces.{bytes_of, piece_bytes};
+ghost use Rattle.messages.specs.Messages.{fault_line, named_line, position_text, refusal_line, summary_lines, task_lines};
+ghost use Rattle.messages.specs.Outcome.{line_of};
+ghost use Rattle.messages.specs.Pieces.{bytes_of, piece_bytes};
 
 use crate::outcome::{End, Message, Report, Summary};
 use itoa::Buffer;
@@ -212,7 +212,7 @@ fn say_refusal<C: Console>(console: &mut C, name: &str, message: &Message) -> Re
 
 /// Says how the work ended.
 #[tactic(auto, using(crate::proofs::Lines::usage_is, crate::proofs::Lines::memory_is, crate::proofs::Lines::unreadable_is, crate::proofs::Lines::unwritable_is))]
-pub(crate) fn say_outcome<C: Console>(
+pub fn say_outcome<C: Console>(
     console: &mut C,
     outcome: &Result<Report, End<'_>>,
 ) -> Result<(), Failed>

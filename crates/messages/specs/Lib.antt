@@ -1,0 +1,4 @@
+pub mod Messages
+pub mod Outcome
+-- The words of private contracts.
+pub mod Pieces
