@@ -88,9 +88,9 @@ impl Outside {
 
     /// The same, where the pass of the order always wants memory, and there is no other.
     fn answer_in_want(&mut self, alloc: Global, words: &str) -> Result<Status, AllocError> {
-        let mut book = Book::new(alloc);
         let kind = PassKind::Order;
         let run = Box::new(alloc, |_: Global, _: &SasTask| Err(AllocError))?;
+        let mut book = Book::new(alloc);
         if book.add(Pass { kind, run }).is_err() {
             return Err(AllocError);
         }
@@ -147,7 +147,16 @@ fn is_set(outcome: Result<(), AllocError>) -> Result<bool, AllocError> {
     Ok(true)
 }
 
-/// How the call with these words ends, which stand between blanks.
+/// The words of a line, which stand between blanks.
+fn words_of(alloc: Global, line: &str) -> Result<Vec<String>, AllocError> {
+    let mut words = Vec::new(alloc);
+    for word in line.split(' ') {
+        words.push(of_line(alloc, word)?)?;
+    }
+    Ok(words)
+}
+
+/// How the call with the words of this line ends.
 pub fn answer<F: Files, C: Console>(
     alloc: Global,
     line: &str,
@@ -155,9 +164,6 @@ pub fn answer<F: Files, C: Console>(
     console: &mut C,
     book: &Book,
 ) -> Result<Status, AllocError> {
-    let mut words = Vec::new(alloc);
-    for word in line.split(' ') {
-        words.push(of_line(alloc, word)?)?;
-    }
+    let words = words_of(alloc, line)?;
     Ok(translate(alloc, words, files, console, book))
 }

@@ -71,7 +71,16 @@ impl<'a> Call<'a> {
     /// Whether this call, performed once more, ends as it should and writes what it wrote before.
     fn writes_again(&self, alloc: Global, before: &Outside) -> Result<bool, AllocError> {
         let mut outside = Outside::new(alloc);
-        let first = self.perform(alloc, &mut outside)?;
+        self.writes_again_in(alloc, &mut outside, before)
+    }
+
+    fn writes_again_in(
+        &self,
+        alloc: Global,
+        outside: &mut Outside,
+        before: &Outside,
+    ) -> Result<bool, AllocError> {
+        let first = self.perform(alloc, outside)?;
         Ok(first.is_none() && outside.holds(OUTPUT, before.content(OUTPUT)))
     }
 

@@ -72,11 +72,28 @@ fn tell_calls(
 fn tell_row(rt: &HostRuntime, texts: &Texts, name: &str, lines: &str, row: &str) -> io::Result<()> {
     for place in 0..count(row) {
         let row = row_at(rt.alloc(), row, place)?;
-        if let Some(Other { what, at }) = first_other(rt.alloc(), texts, lines, &row)? {
-            return println!(rt; "{name}: {what} {at}: {row}");
+        if tells_other(rt, texts, name, lines, &row)? {
+            return Ok(());
         }
     }
     println!(rt; "{name}: as it stands")
+}
+
+/// Says how the call ended, if that is otherwise, and answers whether it is.
+fn tells_other(
+    rt: &HostRuntime,
+    texts: &Texts,
+    name: &str,
+    lines: &str,
+    row: &str,
+) -> io::Result<bool> {
+    match first_other(rt.alloc(), texts, lines, row)? {
+        Some(Other { what, at }) => {
+            println!(rt; "{name}: {what} {at}: {row}")?;
+            Ok(true)
+        }
+        None => Ok(false),
+    }
 }
 
 /// What is other than it should be where the call of these lines is performed, as the row makes it.

@@ -68,8 +68,8 @@ static MARKS: [(&str, &str); 5] = [
 /// The text that stands in one line.
 pub fn of_line(alloc: Global, line: &str) -> Result<String, AllocError> {
     let mut text = String::from_str(alloc, line)?;
-    for (mark, byte) in MARKS {
-        text = text.replace(alloc, mark, byte)?;
+    for row in &MARKS {
+        text = text.replace(alloc, row.0, row.1)?;
     }
     with_repeated(alloc, &text)
 }
