@@ -3,6 +3,7 @@
 ghost use Rattle.std.specs.Prelude.{◌≡◌, ◌<◌, length};
 ghost use Rattle.sas_task.specs.Examples.{room};
 
+use crate::examples;
 use sas_task::SasTask;
 use std::alloc::{AllocError, Global};
 use std::process::Abort;
@@ -10,7 +11,7 @@ use std::test::*;
 
 /// The room, without what is known of it, so that the proof of a test doesn't carry it.
 fn room(alloc: Global) -> Result<SasTask, AllocError> {
-    sas_examples::room(alloc)
+    examples::room(alloc)
 }
 
 /// Whether these are the values in the state.
@@ -66,7 +67,7 @@ fn flickered(alloc: Global, task: &SasTask, state: &[u64]) -> Result<Option<Vec<
     requires room { task.now ≡ room }
     requires state { length state.now ≡ 4 }
 {
-    let flicker = sas_examples::flicker(alloc)?;
+    let flicker = examples::flicker(alloc)?;
     sas_plain::successor(alloc, task, state, &flicker)
 }
 
@@ -130,6 +131,6 @@ fn assert_flickers(rt: &impl Abort, alloc: Global, task: &SasTask) -> Result<(),
 
 #[test]
 fn firing_effects_may_disagree(rt: HostRuntime) -> Result<(), AllocError> {
-    let task = sas_examples::room(rt.alloc())?;
+    let task = examples::room(rt.alloc())?;
     assert_flickers(&rt, rt.alloc(), &task)
 }

@@ -1,5 +1,6 @@
 //! Tables of plan files: what each comes to beside a small task.
 
+use crate::examples;
 use plan_backmap::{MapEnd, Mapped, Step, map_plan, plan_text};
 use sas_task::SasTask;
 use std::alloc::{AllocError, Global};
@@ -117,7 +118,7 @@ fn assert_switch_plans(rt: &impl Abort, alloc: Global, task: &SasTask) {
 
 #[test]
 fn each_plan_gives_its_steps_or_its_first_faulty_line(rt: HostRuntime) -> Result<(), AllocError> {
-    let task = sas_examples::switch(rt.alloc())?;
+    let task = examples::switch(rt.alloc())?;
     assert_switch_plans(&rt, rt.alloc(), &task);
     Ok(())
 }
@@ -130,7 +131,7 @@ fn assert_room_plan(rt: &impl Abort, alloc: Global, task: &SasTask) {
 
 #[test]
 fn steps_have_their_words_and_costs(rt: HostRuntime) -> Result<(), AllocError> {
-    let task = sas_examples::room(rt.alloc())?;
+    let task = examples::room(rt.alloc())?;
     assert_room_plan(&rt, rt.alloc(), &task);
     Ok(())
 }
@@ -161,6 +162,6 @@ fn assert_room_lines(rt: &impl Abort, alloc: Global, task: &SasTask) -> Result<(
 
 #[test]
 fn a_mapped_plan_has_a_line_for_each_step(rt: HostRuntime) -> Result<(), AllocError> {
-    let task = sas_examples::room(rt.alloc())?;
+    let task = examples::room(rt.alloc())?;
     assert_room_lines(&rt, rt.alloc(), &task)
 }

@@ -1,5 +1,6 @@
 //! The text of a task, written out by hand.
 
+use crate::examples;
 use sas_writer::text_of;
 use std::alloc::Global;
 use std::test::*;
@@ -95,7 +96,7 @@ end_rule
 
 /// Whether this is the text of the room.
 fn is_written(alloc: Global, text: &[u8]) -> bool {
-    let Ok(room) = sas_examples::room(alloc) else {
+    let Ok(room) = examples::room(alloc) else {
         return false;
     };
     match text_of(alloc, &room) {

@@ -1,4 +1,0 @@
-use Rattle.group_tests.proofs.found.reached_of.Given as goal
-
-abbrev pub ghosts-reached_by : goal.ghosts-reached_by
-ghosts-reached_by a = record { name = a.blank.name; parts = a.blank.parts }

@@ -1,0 +1,119 @@
+//! The h2 pass over tasks that are written out by hand.
+
+use crate::examples;
+use crate::tasks::{BACK, GATE, RESTING, SAFE, has_text, have_one_text, task, task_of};
+use pass_h2::prune;
+use sas_task::SasTask;
+use std::alloc::{AllocError, Global};
+use std::test::*;
+
+/// A house with a cellar in which a lamp can be lit, which goes out on the way up. Nobody can fly to the attic or read,
+/// since the lamp never shines in the hall, and what flickers is two things at once. One may descend by one more operator.
+macro_rules! house {
+    (operators $operators:literal $([$($descend:literal),*])*) => {
+        task! {
+            metric 0
+            variables 3
+                ["var0", -1, 3, "Atom at(cellar)", "Atom at(attic)", "Atom at(hall)"]
+                ["var1", -1, 2, "Atom lit()", "NegatedAtom lit()"]
+                ["var2", -1, 2, "Atom read()", "NegatedAtom read()"]
+            groups 4
+                [3, "0 0", "0 1", "0 2"]
+                [3, "0 1", "0 2", "1 0"]
+                [2, "0 1", "1 0"]
+                [2, "0 2", "1 0"]
+            state 2 1 1
+            goal 2 "1 0" "2 0"
+            operators $operators
+                ["climb", 0, 2, "0 0 0 2", "0 1 -1 1", 1]
+                ["descend", 0, 1, "0 0 2 0", 1]
+                $([$($descend),*])*
+                ["flicker", 0, 2, "0 1 -1 0", "0 1 -1 1", 1]
+                ["fly", 1, "1 0", 1, "0 0 2 1", 1]
+                ["light", 1, "0 0", 1, "0 1 -1 0", 1]
+                ["read", 2, "0 2", "1 0", 1, "0 2 -1 0", 1]
+            rules 0
+        }
+    };
+}
+
+/// The house without the attic, without what needs light in the hall and without what flickers. Two groups are one, and
+/// a third has one fact left. That the book is read isn't possible, but the goal.
+macro_rules! pruned_house {
+    (operators $operators:literal $([$($descend:literal),*])*) => {
+        task! {
+            metric 0
+            variables 3
+                ["var0", -1, 2, "Atom at(cellar)", "Atom at(hall)"]
+                ["var1", -1, 2, "Atom lit()", "NegatedAtom lit()"]
+                ["var2", -1, 2, "Atom read()", "NegatedAtom read()"]
+            groups 2
+                [2, "0 0", "0 1"]
+                [2, "0 1", "1 0"]
+            state 1 1 1
+            goal 2 "1 0" "2 0"
+            operators $operators
+                ["climb", 0, 2, "0 0 0 1", "0 1 -1 1", 1]
+                ["descend", 0, 1, "0 0 1 0", 1]
+                $([$($descend),*])*
+                ["light", 1, "0 0", 1, "0 1 -1 0", 1]
+            rules 0
+        }
+    };
+}
+
+const HOUSE: &str = house!(operators 6);
+
+const PRUNED_HOUSE: &str = pruned_house!(operators 3);
+
+/// What the pass makes of the task.
+fn pruned(alloc: Global, task: SasTask) -> Result<SasTask, AllocError> {
+    prune(alloc, &task)
+}
+
+/// Whether the pass makes the wanted text of the text of a task.
+fn makes(alloc: Global, text: &str, wanted: &str) -> Result<bool, AllocError> {
+    let new = pruned(alloc, task_of(alloc, text)?)?;
+    has_text(alloc, new, wanted.as_bytes())
+}
+
+/// Whether the pass makes the text of the task itself.
+fn stays(alloc: Global, task: SasTask) -> Result<bool, AllocError> {
+    let new = prune(alloc, &task)?;
+    have_one_text(alloc, new, &task)
+}
+
+#[test]
+fn what_no_pair_of_facts_allows_is_left_out(rt: HostRuntime) -> Result<(), AllocError> {
+    let alloc = rt.alloc();
+    assert!(rt; makes(alloc, HOUSE, PRUNED_HOUSE)?);
+    assert!(rt; makes(alloc, PRUNED_HOUSE, PRUNED_HOUSE)?);
+    Ok(())
+}
+
+/// Two operators by which one descends.
+#[test]
+fn an_operator_that_stands_twice_stays_twice(rt: HostRuntime) -> Result<(), AllocError> {
+    let house = house!(operators 7 ["descend", 0, 1, "0 0 2 0", 1]);
+    let wanted = pruned_house!(operators 4 ["descend", 0, 1, "0 0 1 0", 1]);
+    assert!(rt; makes(rt.alloc(), house, wanted)?);
+    Ok(())
+}
+
+/// The room has rules, derived variables and effects with conditions.
+#[test]
+fn a_task_that_is_not_plain_stays(rt: HostRuntime) -> Result<(), AllocError> {
+    let alloc = rt.alloc();
+    assert!(rt; stays(alloc, examples::room(alloc)?)?);
+    Ok(())
+}
+
+/// With a rule or an effect with a condition, and where pairs show nothing.
+#[test]
+fn other_tasks_stay(rt: HostRuntime) -> Result<(), AllocError> {
+    let alloc = rt.alloc();
+    for text in [RESTING, SAFE, GATE, BACK] {
+        assert!(rt; makes(alloc, text, text)?, "{text}");
+    }
+    Ok(())
+}

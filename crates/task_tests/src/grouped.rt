@@ -1,0 +1,55 @@
+//! The groups of pairs of texts.
+
+ghost use Rattle.std.specs.Prelude.{◌≡◌, true, IfOk};
+ghost use Rattle.std.specs.List.{list_all};
+ghost use Rattle.normal_task.specs.Lawful.{IsLawful};
+ghost use Rattle.invariant_check.specs.WellFormed.{is_well_formed};
+
+use crate::grounds::reached_of;
+use crate::tasks::normal_task;
+use group_cover::Groups;
+use invariant_guess::laws::finds;
+use invariant_guess::{Found, find};
+use mutex_groups::groups;
+use normal_task::Normal;
+use relaxed_reach::Reached;
+use schema_instances::instances;
+use std::alloc::{AllocError, Global};
+
+/// A reached task, and groups of its facts.
+#[derive(Drop)]
+pub(crate) struct Grouped {
+    pub(crate) reached: Reached,
+    pub(crate) groups: Groups,
+}
+
+/// The accepted ones of at most 100,000 candidates.
+fn found_of(alloc: Global, normal: &Normal) -> Result<Found, AllocError>
+    ensures { IfOk result (λ found. list_all (is_well_formed normal.now) found.accepted ≡ true) }
+{
+    finds();
+    find(alloc, normal, 100000)
+}
+
+/// The reached task of a normal task.
+fn reached_task(alloc: Global, normal: &Normal) -> Result<Reached, AllocError>
+    requires { IsLawful normal.now }
+{
+    let ground = instances(alloc, normal)?;
+    reached_of(alloc, &ground)
+}
+
+fn grouped_by(alloc: Global, normal: &Normal) -> Result<Grouped, AllocError>
+    requires { IsLawful normal.now }
+{
+    let found = found_of(alloc, normal)?;
+    let reached = reached_task(alloc, normal)?;
+    let groups = groups(alloc, normal, found.accepted.as_slice(), &reached)?;
+    Ok(Grouped { reached, groups })
+}
+
+/// The reached task of two texts without a fault, and the groups of the candidates that are accepted.
+pub(crate) fn grouped_of(alloc: Global, domain: &str, problem: &str) -> Option<Grouped> {
+    let normal = normal_task(alloc, domain, problem)?;
+    grouped_by(alloc, &normal).ok()
+}
