@@ -8,9 +8,7 @@ use Rattle.lists.proofs.Members.{range_member, all_from_members, filter_member}
 use Rattle.sas_restriction.specs.Listed.{Listed, chosen}
 use Rattle.task_simplifier.specs.Kept.{AreKept}
 use Rattle.task_simplifier.specs.Projection.{stays, holder, values_in}
-
-abbrev pub staying : List (List ℕ) → ℕ → List ℕ
-staying kept count = filter (stays (values_in kept)) (range_with_len 0 count)
+use Rattle.task_simplifier.specs.Left.{staying, listed, left}
 
 pub staying_below : (kept : List (List ℕ)) → All (λ v. v < length kept) (staying kept (length kept))
 staying_below kept =
@@ -19,12 +17,6 @@ staying_below kept =
 -- the kept values rise
 pub each_rises : (T : Task) (kept : List (List ℕ)) → length kept ≡ length T.variables → AreKept T (values_in kept) → All IsStrictlyIncreasing kept
 each_rises T kept count are = All-from_get_or IsStrictlyIncreasing kept [] (λ var below. are.sorted var (subst (λ n. var < n) count below))
-
-abbrev pub listed : List ℕ → List (List ℕ) → Option ℕ → Listed
-listed vars kept start = record { vars = vars; values = kept; holder = start }
-
-abbrev pub left : List (List ℕ) → Task → Listed
-left kept T = listed (staying kept (length T.variables)) kept (holder (chosen (listed (staying kept (length T.variables)) kept None)) T)
 
 pub left_is : (T : Task) (kept : List (List ℕ)) (vars : List ℕ) (shown new : Listed) (start : Option ℕ) →
     length kept ≡ length T.variables → vars ≡ staying kept (length kept) → shown ≡ listed vars kept None → start ≡ holder (chosen shown) T → new ≡ listed shown.vars shown.values start →

@@ -15,7 +15,7 @@ use Rattle.messages.specs.declared.outcome.Summary.{Summary}
 use Rattle.messages.specs.Messages.{refusal_line, unreadable_line, task_lines}
 use Rattle.translator.specs.Asked.{Asked}
 use Rattle.translator.specs.Ending.{Ending, Gives, Absent, Refused}
-use Rattle.translator.specs.RunTask.{Output}
+use Rattle.run_task.specs.RunTask.{Output}
 use Rattle.translator.specs.Run.{ComesTo, RunsTo, LacksFile, HasFault}
 use Rattle.translator.specs.OneRun.{OneEnding}
 use Rattle.translator.specs.Store.{Store, IsUntouched, Screen}

@@ -9,7 +9,7 @@ use Rattle.messages.specs.declared.outcome.Status.TheVariants as statuses
 use Rattle.messages.specs.Messages.{task_lines, unwritable_line}
 use Rattle.translator.specs.Asked.{Asked}
 use Rattle.translator.specs.Ending.{Gives}
-use Rattle.translator.specs.RunTask.{Output}
+use Rattle.run_task.specs.RunTask.{Output}
 use Rattle.translator.specs.Run.{ComesTo}
 use Rattle.translator.specs.Store.{Store, IsUntouched}
 use Rattle.translator.specs.Call.{Ends, written, unwritten}

@@ -18,11 +18,11 @@ use Rattle.command_line.specs.declared.accepted.Settings.{Settings}
 use Rattle.invariant_guess.specs.declared.types.Found.{Found}
 use Rattle.sas_task.specs.Task.{Task}
 use Rattle.sas_task.specs.Output.{text_of}
-use Rattle.translator.specs.declared.translation.Made.{Made}
+use Rattle.run_task.specs.declared.pair.Made.{Made}
 use Rattle.translator.specs.Ending.{Ending, Gives, Absent, Refused, ◌>>=◌}
 use Rattle.translator.specs.Plan.{of_plan, plan_names}
 use Rattle.pass_book.specs.Passes.{IsChain}
-use Rattle.translator.specs.RunTask.{Output, Start, FromPair, FromTask, IsTaskOf, IsReadTask, PassesTranslate, PassesKeepReadTasks, summary_of, output_of}
+use Rattle.run_task.specs.RunTask.{Output, Start, FromPair, FromTask, IsTaskOf, IsReadTask, PassesTranslate, PassesKeepReadTasks, summary_of, output_of}
 use Rattle.translator.specs.Run.{Text, text, read, of_texts, of_source, inputs, titles, all_inputs, all_titles, names_read, made_domain, made_problem, ComesTo, no_file, faulty, made}
 use Rattle.translator.specs.Store.{Store, IsUntouched, AsksForNoOther}
 use Rattle.translator.specs.Call.{Ends, misused, starved, unread, refused}

@@ -25,7 +25,7 @@ use Rattle.messages.specs.declared.outcome.Message.TheVariants as messages
 use Rattle.messages.specs.declared.outcome.End.{End}
 use Rattle.messages.specs.declared.outcome.End.TheVariants as ends
 use Rattle.translator.specs.Ending.{Ending, Gives, Absent, Refused, ◌>>=◌, unless}
-use Rattle.translator.specs.RunTask.{Start, FromPair}
+use Rattle.run_task.specs.RunTask.{Start, FromPair}
 use Rattle.translator.specs.Run.{Text, text, made_domain, made_problem, tree_of, said, on_side, unless_checked, from_pair, of_texts}
 use Rattle.translator.specs.Stages.{StopsWhere}
 

@@ -15,7 +15,7 @@ use Rattle.sas_task.specs.Task.{Task}
 use Rattle.sas_task.specs.Valid.{IsValid}
 use Rattle.messages.specs.declared.outcome.Message.TheVariants as messages
 use Rattle.translator.specs.Ending.{Ending, Gives, Refused, ◌>>=◌}
-use Rattle.translator.specs.RunTask.{Start, FromTask, nothing_found, PassesKeepReadTasks}
+use Rattle.run_task.specs.RunTask.{Start, FromTask, nothing_found, PassesKeepReadTasks}
 use Rattle.translator.specs.Run.{text, read, unless_broken, of_task_text, of_source}
 use Rattle.translator.specs.Store.{Store}
 use Rattle.translator.specs.Stages.{IsRead, IsMadeOf}

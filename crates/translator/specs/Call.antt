@@ -11,7 +11,7 @@ use Rattle.messages.specs.declared.outcome.Status.TheVariants as statuses
 use Rattle.messages.specs.Messages.{usage_line, memory_line, unreadable_line, unwritable_line, refusal_line, task_lines}
 use Rattle.translator.specs.Asked.{Asked}
 use Rattle.translator.specs.Ending.{Gives, Absent, Refused}
-use Rattle.translator.specs.RunTask.{Output}
+use Rattle.run_task.specs.RunTask.{Output}
 use Rattle.translator.specs.Run.{ComesTo, all_inputs, all_titles}
 use Rattle.translator.specs.Store.{Store, IsUntouched, Screen}
 

@@ -13,7 +13,7 @@ use Rattle.sas_task.specs.Task.{Task}
 use Rattle.translator.specs.declared.translation.Input.{Input}
 use Rattle.translator.specs.declared.work.Written.{Written}
 use Rattle.translator.specs.Ending.{Ending, Gives, Absent, Refused}
-use Rattle.translator.specs.RunTask.{Output, Start, IsMadeFrom}
+use Rattle.run_task.specs.RunTask.{Output, Start, IsMadeFrom}
 use Rattle.translator.specs.Texts.{Text, text}
 use Rattle.translator.specs.Store.{Store}
 use Rattle.translator.specs.Call.{IsUnread, IsRefused}

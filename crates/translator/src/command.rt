@@ -11,11 +11,11 @@ ghost use Rattle.messages.specs.Outcome.{status_of, line_of};
 ghost use Rattle.translator.specs.Ending.{Absent, Refused};
 ghost use Rattle.translator.specs.Run.{RunsTo, LacksFile, HasFault, names_read};
 ghost use Rattle.translator.specs.Asked.{asked_by_words};
-ghost use Rattle.translator.specs.RunTask.{Output};
+ghost use Rattle.run_task.specs.RunTask.{Output};
 ghost use Rattle.translator.specs.Store.{store, screen, IsUntouched, AsksForNoOther};
 ghost use Rattle.translator.specs.Call.{Called, Printed, IsWritten, IsWrittenInPart};
 
-use crate::laws::one_task_of_a_run;
+use crate::laws::one_ending_of_a_run;
 use crate::work::work;
 use messages::{End, Report, Status, say_outcome};
 use pass_book::Book;
@@ -95,7 +95,7 @@ pub fn translate<F: Files, C: Console>(
         → C.printed console.new ≡ Some (before ++ byte ∷ front) → task_lines summary plan ≡ (byte ∷ front) ++ rest
         → IsSomeAnd (asked_by_words (map (λ pass. pass.kind) book.now.passes.items) words.items) (λ asked. (output : Output) × IsWritten (F.files files.old) (F.files files.new) asked output) }
 {
-    one_task_of_a_run();
+    one_ending_of_a_run();
     called(alloc, &words, files, console, book)
 }
 

@@ -1,28 +1,15 @@
-//! The laws of runs. The functions do nothing: their clauses are the laws.
+//! The law of runs. The function does nothing: its clause is the law.
 
-ghost use Rattle.translator.specs.OneRun.{OneRunTask, OneTaskOfPair, OneEnding};
+ghost use Rattle.translator.specs.OneRun.{OneEnding};
 
-use group_cover::laws::one_cover_of_same;
-use invariant_guess::laws::finds;
-use mutex_groups::laws::one_set_of_groups;
 use pass_book::laws::passes_keep;
-use relaxed_reach::laws::one_but_for_order;
-use static_matcher::laws::one_ground_task;
-use task_simplifier::laws::orders_forgotten;
+use run_task::laws::one_task_of_a_run;
 
-/// A pair of files has one task for each number of candidates that may be tried, over whole groups or not, and each list of
-/// passes. So what the files hold and what the words ask for fix how a run ends, each byte that it writes, and its summary.
-pub fn one_task_of_a_run()
-    ensures task { OneRunTask }
-    ensures pair { OneTaskOfPair }
-    ensures ending { OneEnding }
+/// What the files hold and what the words ask for fix how a run ends, each byte that it writes, and its summary, since a pair
+/// of files has one task.
+pub fn one_ending_of_a_run()
+    ensures { OneEnding }
 {
-    finds();
-    one_ground_task();
-    one_but_for_order();
-    one_set_of_groups();
-    one_cover_of_same();
-    fdr_encoder::laws::one_but_for_order();
-    orders_forgotten();
+    one_task_of_a_run();
     passes_keep();
 }

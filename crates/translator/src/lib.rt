@@ -2,7 +2,6 @@
 #![tactic(auto)]
 
 mod command;
-mod law;
 pub mod laws;
 mod plan;
 mod process;

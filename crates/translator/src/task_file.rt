@@ -4,7 +4,7 @@ ghost use Rattle.std.specs.Prelude.{◌≡◌, ◌≤◌, IfOk, IfErr, length};
 ghost use Rattle.sas_task.specs.Valid.{IsValid};
 ghost use Rattle.translator.specs.Ending.{Gives};
 ghost use Rattle.translator.specs.Run.{of_task_text};
-ghost use Rattle.translator.specs.RunTask as run_task;
+ghost use Rattle.run_task.specs.RunTask as run_task;
 ghost use Rattle.translator.specs.Stages.{StopsWhere, text_by};
 
 use crate::translation::Input;

@@ -16,15 +16,16 @@ ghost use Rattle.translator.specs.Plan.{of_plan, plan_names};
 ghost use Rattle.translator.specs.Requests.{asked_by};
 ghost use Rattle.translator.specs.Stages.{IsRead, IsMadeOf, StopsReading, output_by};
 
-use crate::law::{passes_keep_read_tasks, passes_translate};
 use crate::plan::mapped_lines;
 use crate::request::{Request, requested};
 use crate::task_file::{nothing_found, written_task};
-use crate::translation::{Input, Made, made_task, summary, task_of};
+use crate::translation::{Input, made_task, task_of};
 use command_line::{Accepted, Settings, Source};
 use messages::{End, Message, Report};
 use pass_book::{ApplyEnd, Book, PassKind};
 use pddl_lexer::{At, Fault, Kind};
+use run_task::laws::{passes_keep_read_tasks, passes_translate};
+use run_task::{Made, summary};
 use sas_task::SasTask;
 use sas_writer::text_of;
 use std::alloc::{AllocError, Global};

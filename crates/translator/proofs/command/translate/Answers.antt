@@ -2,58 +2,58 @@ use Rattle.translator.proofs.Clauses.{usage, refuses, device, reads_stay, writes
 use Rattle.translator.proofs.command.translate.Goals as goal
 
 pub returns-clause-usage : goal.returns-clause-usage
-returns-clause-usage g c = usage c.one_task_of_a_run.ensures.ending _ _ _ _ _ _ c.called.ensures.called
+returns-clause-usage g c = usage c.one_ending_of_a_run.ensures _ _ _ _ _ _ c.called.ensures.called
 
 pub returns-clause-refuses : goal.returns-clause-refuses
-returns-clause-refuses g c = refuses c.one_task_of_a_run.ensures.ending _ _ _ _ _ _ c.called.ensures.called
+returns-clause-refuses g c = refuses c.one_ending_of_a_run.ensures _ _ _ _ _ _ c.called.ensures.called
 
 pub returns-clause-device : goal.returns-clause-device
-returns-clause-device g c = device c.one_task_of_a_run.ensures.ending _ _ _ _ _ _ c.called.ensures.called
+returns-clause-device g c = device c.one_ending_of_a_run.ensures _ _ _ _ _ _ c.called.ensures.called
 
 pub returns-clause-reads : goal.returns-clause-reads
-returns-clause-reads g c = reads_stay c.one_task_of_a_run.ensures.ending _ _ _ _ _ _ c.called.ensures.called
+returns-clause-reads g c = reads_stay c.one_ending_of_a_run.ensures _ _ _ _ _ _ c.called.ensures.called
 
 pub returns-clause-writes : goal.returns-clause-writes
-returns-clause-writes g c = writes_stay c.one_task_of_a_run.ensures.ending _ _ _ _ _ _ c.called.ensures.called
+returns-clause-writes g c = writes_stay c.one_ending_of_a_run.ensures _ _ _ _ _ _ c.called.ensures.called
 
 pub returns-clause-faults : goal.returns-clause-faults
-returns-clause-faults g c = faults_stay c.one_task_of_a_run.ensures.ending _ _ _ _ _ _ c.called.ensures.called
+returns-clause-faults g c = faults_stay c.one_ending_of_a_run.ensures _ _ _ _ _ _ c.called.ensures.called
 
 pub returns-clause-absent : goal.returns-clause-absent
-returns-clause-absent g c = absent_input c.one_task_of_a_run.ensures.ending _ _ _ _ _ _ c.called.ensures.called
+returns-clause-absent g c = absent_input c.one_ending_of_a_run.ensures _ _ _ _ _ _ c.called.ensures.called
 
 pub returns-clause-input_fault : goal.returns-clause-input_fault
-returns-clause-input_fault g c = input_fault c.one_task_of_a_run.ensures.ending _ _ _ _ _ _ c.called.ensures.called
+returns-clause-input_fault g c = input_fault c.one_ending_of_a_run.ensures _ _ _ _ _ _ c.called.ensures.called
 
 pub returns-clause-refused_input : goal.returns-clause-refused_input
-returns-clause-refused_input g c = refused_input c.one_task_of_a_run.ensures.ending _ _ _ _ _ _ c.called.ensures.called
+returns-clause-refused_input g c = refused_input c.one_ending_of_a_run.ensures _ _ _ _ _ _ c.called.ensures.called
 
 pub returns-clause-complete : goal.returns-clause-complete
-returns-clause-complete g c = complete c.one_task_of_a_run.ensures.ending _ _ _ _ _ _ c.called.ensures.called
+returns-clause-complete g c = complete c.one_ending_of_a_run.ensures _ _ _ _ _ _ c.called.ensures.called
 
 pub returns-clause-done : goal.returns-clause-done
-returns-clause-done g c = done c.one_task_of_a_run.ensures.ending _ _ _ _ _ _ c.called.ensures.called
+returns-clause-done g c = done c.one_ending_of_a_run.ensures _ _ _ _ _ _ c.called.ensures.called
 
 pub returns-clause-untouched : goal.returns-clause-untouched
-returns-clause-untouched g c = untouched_unless_written c.one_task_of_a_run.ensures.ending _ _ _ _ _ _ c.called.ensures.called
+returns-clause-untouched g c = untouched_unless_written c.one_ending_of_a_run.ensures _ _ _ _ _ _ c.called.ensures.called
 
 pub returns-clause-left : goal.returns-clause-left
-returns-clause-left g c = left c.one_task_of_a_run.ensures.ending _ _ _ _ _ _ c.called.ensures.called
+returns-clause-left g c = left c.one_ending_of_a_run.ensures _ _ _ _ _ _ c.called.ensures.called
 
 pub returns-clause-in_part : goal.returns-clause-in_part
-returns-clause-in_part g c = in_part c.one_task_of_a_run.ensures.ending _ _ _ _ _ _ c.called.ensures.called
+returns-clause-in_part g c = in_part c.one_ending_of_a_run.ensures _ _ _ _ _ _ c.called.ensures.called
 
 pub returns-clause-others : goal.returns-clause-others
-returns-clause-others g c = others c.one_task_of_a_run.ensures.ending _ _ _ _ _ _ c.called.ensures.called
+returns-clause-others g c = others c.one_ending_of_a_run.ensures _ _ _ _ _ _ c.called.ensures.called
 
 pub returns-clause-fault_printed : goal.returns-clause-fault_printed
-returns-clause-fault_printed g c = fault_printed c.one_task_of_a_run.ensures.ending _ _ _ _ _ _ c.called.ensures.called
+returns-clause-fault_printed g c = fault_printed c.one_ending_of_a_run.ensures _ _ _ _ _ _ c.called.ensures.called
 
 pub returns-clause-unread_printed : goal.returns-clause-unread_printed
-returns-clause-unread_printed g c = unread_printed c.one_task_of_a_run.ensures.ending _ _ _ _ _ _ c.called.ensures.called
+returns-clause-unread_printed g c = unread_printed c.one_ending_of_a_run.ensures _ _ _ _ _ _ c.called.ensures.called
 
 pub returns-clause-absent_printed : goal.returns-clause-absent_printed
-returns-clause-absent_printed g c = absent_printed c.one_task_of_a_run.ensures.ending _ _ _ _ _ _ c.called.ensures.called
+returns-clause-absent_printed g c = absent_printed c.one_ending_of_a_run.ensures _ _ _ _ _ _ c.called.ensures.called
 
 pub returns-clause-begun : goal.returns-clause-begun
-returns-clause-begun g c = summary_begun c.one_task_of_a_run.ensures.ending _ _ _ _ _ _ c.called.ensures.called
+returns-clause-begun g c = summary_begun c.one_ending_of_a_run.ensures _ _ _ _ _ _ c.called.ensures.called

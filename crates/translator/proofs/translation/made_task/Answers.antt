@@ -1,7 +1,7 @@
 use Rattle.std.proofs.Common.{[], ◌∙◌, subst}
 use Rattle.std.specs.Prelude.{IfOk, IfErr}
 use Rattle.translator.specs.Ending.{Ending}
-use Rattle.translator.specs.RunTask.{Start}
+use Rattle.run_task.specs.RunTask.{Start}
 use Rattle.translator.specs.Stages.{IsMadeOf, StopsWhere}
 use Rattle.translator.proofs.Stages.{starved, made_texts_are}
 use Rattle.translator.proofs.translation.made_task.Goals as goal

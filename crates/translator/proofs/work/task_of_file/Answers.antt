@@ -2,7 +2,7 @@ use Rattle.std.proofs.Common.{[], ◌∷◌, rules}
 use Rattle.lists.proofs.Members.{member_first}
 use Rattle.command_line.specs.Accepted.{WrittenTask}
 use Rattle.translator.specs.Run.{of_source, of_task_text}
-use Rattle.translator.specs.RunTask.{FromTask}
+use Rattle.run_task.specs.RunTask.{FromTask}
 use Rattle.translator.specs.Store.{store}
 use Rattle.translator.proofs.OneFile.{stops_at_file, text_stops, text_given}
 use Rattle.translator.proofs.WrittenTasks.{task_begins, task_told, task_made_so}

@@ -1,8 +1,8 @@
 use Rattle.std.proofs.Common.{subst}
 use Rattle.sas_task.specs.Task.{Task}
 use Rattle.pass_book.specs.Passes.{IsChain}
-use Rattle.translator.proofs.Translated.{tells_too, passed_translates}
-use Rattle.translator.proofs.law.passes_translate.Goals as goal
+use Rattle.run_task.proofs.Translated.{tells_too, passed_translates}
+use Rattle.run_task.proofs.laws.passes_translate.Goals as goal
 
 pub returns : goal.returns
 returns c pair settings passes found first task is chain =

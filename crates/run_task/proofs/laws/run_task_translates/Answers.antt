@@ -7,8 +7,8 @@ use Rattle.static_matcher.specs.GroundTask.{ground_task}
 use Rattle.static_matcher.specs.Literals.{meaning}
 use Rattle.relaxed_reach.specs.Exclusive.{IsExclusive}
 use Rattle.relaxed_reach.specs.ReachedTask.{reached_task}
-use Rattle.translator.proofs.Translated.{sorted_groups, in_turn, translates}
-use Rattle.translator.proofs.law.run_task_translates.Goals as goal
+use Rattle.run_task.proofs.Translated.{sorted_groups, in_turn, translates}
+use Rattle.run_task.proofs.laws.run_task_translates.Goals as goal
 
 pub returns : goal.returns
 returns c pair settings found task checked is_found run =

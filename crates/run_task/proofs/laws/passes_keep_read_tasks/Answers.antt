@@ -1,4 +1,4 @@
-use Rattle.translator.proofs.law.passes_keep_read_tasks.Goals as goal
+use Rattle.run_task.proofs.laws.passes_keep_read_tasks.Goals as goal
 
 pub returns : goal.returns
 returns c passes written task valid chain =

@@ -21,7 +21,7 @@ use Rattle.sas_task.specs.Valid.{IsValid}
 use Rattle.sas_task.specs.Keeps.{Keeps}
 use Rattle.sas_task.specs.Output.{text_of}
 use Rattle.messages.specs.declared.outcome.Summary.{Summary}
-use Rattle.translator.specs.Theorem.{Translates}
+use Rattle.run_task.specs.Theorem.{Translates}
 
 -- The task encodes what can be reached of the instances of the normal task, over the cover of the facts by the mutex groups of the candidates that were found, with `full` by whole groups.
 pub record IsRunEncoding (full : Bool) (made : Normal) (found : Found) (encoded : Task) : Type 0 where

@@ -1,5 +1,5 @@
-use Rattle.translator.proofs.Ranges.{next_sum, next_bound}
-use Rattle.translator.proofs.translation.facts.Goals as goal
+use Rattle.run_task.proofs.Ranges.{next_sum, next_bound}
+use Rattle.run_task.proofs.sizes.facts.Goals as goal
 
 pub loop-i-preserved : goal.loop-i-preserved
 loop-i-preserved c = record {

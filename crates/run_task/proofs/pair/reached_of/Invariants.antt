@@ -1,4 +1,4 @@
-use Rattle.translator.proofs.translation.reached_of.Given as goal
+use Rattle.run_task.proofs.pair.reached_of.Given as goal
 
 abbrev pub ghosts-reached : goal.ghosts-reached
 ghosts-reached a = record { name = a.blank.name; parts = a.blank.parts }

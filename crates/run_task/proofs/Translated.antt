@@ -42,8 +42,8 @@ use Rattle.sas_task.specs.Valid.{IsValid}
 use Rattle.sas_task.specs.Solution.{HasSolution, system as solutions}
 use Rattle.sas_task.specs.Keeps.{HasShorterSolution, Keeps, KeepsChanging}
 use Rattle.sas_task.proofs.KeepsLaws.{shorter_through}
-use Rattle.translator.specs.RunTask.{IsRunEncoding}
-use Rattle.translator.specs.Theorem.{Translates}
+use Rattle.run_task.specs.RunTask.{IsRunEncoding}
+use Rattle.run_task.specs.Theorem.{Translates}
 
 -- the groups of well formed candidates are sorted and have basic facts
 pub sorted_groups : (made : Normal) (candidates : List Candidate) (reached : Reached) (groups : List (List ℕ)) →

@@ -7,20 +7,23 @@ ghost use Rattle.normal_task.specs.Normalised.{normal};
 ghost use Rattle.invariant_guess.specs.declared.types.Found.{Found};
 ghost use Rattle.invariant_guess.specs.Trial.{IsFound};
 ghost use Rattle.sas_task.specs.Task.{Task};
-ghost use Rattle.translator.specs.RunTask.{IsRunTask, IsTaskOf, PassesTranslate, PassesKeepReadTasks};
+ghost use Rattle.run_task.specs.OneTask.{OneRunTask, OneTaskOfPair};
+ghost use Rattle.run_task.specs.RunTask.{IsRunTask, IsTaskOf, PassesTranslate, PassesKeepReadTasks};
 
 use fdr_encoder::laws::{covers, exclusive_covers, simulation, validity};
+use group_cover::laws::one_cover_of_same;
 use invariant_guess::laws::finds;
-use mutex_groups::laws::{groups_are_exclusive, groups_of_facts};
+use mutex_groups::laws::{groups_are_exclusive, groups_of_facts, one_set_of_groups};
 use normal_task::laws::{names_tell_costs, same_task};
 use operator_costs::laws::operators_tell_costs;
 use pass_book::laws::passes_keep;
 use pddl_parser::laws::idle_steps;
 use plan_backmap::solutions_cost_the_total;
-use task_simplifier::laws::projection_keeps;
+use static_matcher::laws::one_ground_task;
+use task_simplifier::laws::{orders_forgotten, projection_keeps};
 
 /// The task that a run without passes makes of a pair without faults is valid, and translates the pair.
-pub(crate) fn run_task_translates()
+pub fn run_task_translates()
     ensures { (pair : Pair) (settings : Settings) (found : Found) (task : Task) → IsChecked pair → IsFound (normal pair.domain pair.problem) settings.max_candidates found →
         IsRunTask settings.full_encoding (normal pair.domain pair.problem) found task → IsTaskOf pair settings [] found task }
 {
@@ -48,7 +51,7 @@ pub(crate) fn run_task_translates()
 }
 
 /// What passes make of it is valid, and translates the pair.
-pub(crate) fn passes_translate()
+pub fn passes_translate()
     ensures { PassesTranslate }
 {
     passes_keep();
@@ -56,8 +59,24 @@ pub(crate) fn passes_translate()
 }
 
 /// What passes make of a written task is valid, and may stand for it.
-pub(crate) fn passes_keep_read_tasks()
+pub fn passes_keep_read_tasks()
     ensures { PassesKeepReadTasks }
 {
+    passes_keep();
+}
+
+/// A pair of files has one task for each number of candidates that may be tried, over whole groups or not, and each list of
+/// passes.
+pub fn one_task_of_a_run()
+    ensures task { OneRunTask }
+    ensures pair { OneTaskOfPair }
+{
+    finds();
+    one_ground_task();
+    relaxed_reach::laws::one_but_for_order();
+    one_set_of_groups();
+    one_cover_of_same();
+    fdr_encoder::laws::one_but_for_order();
+    orders_forgotten();
     passes_keep();
 }

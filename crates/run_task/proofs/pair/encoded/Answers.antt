@@ -2,8 +2,8 @@ use Rattle.std.proofs.Common.{List, subst}
 use Rattle.contradictions.specs.declared.types.Candidate.{Candidate}
 use Rattle.mutex_groups.specs.Groups.{AreGroups}
 use Rattle.group_cover.specs.Cover.{IsCover}
-use Rattle.translator.proofs.Translated.{sorted_groups, encoding_of_run}
-use Rattle.translator.proofs.translation.encoded.Goals as goal
+use Rattle.run_task.proofs.Translated.{sorted_groups, encoding_of_run}
+use Rattle.run_task.proofs.pair.encoded.Goals as goal
 
 pub encode-requires-clause-cover : goal.encode-requires-clause-cover
 encode-requires-clause-cover c = (c.args.full, subst (λ n. IsCover c.args.full n c.in_ok-groups.groups.groups c.in_ok-cover.cover.sets) c.facts_of.ensures c.in_ok-cover.ensures)

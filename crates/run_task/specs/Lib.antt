@@ -1,0 +1,3 @@
+pub mod Theorem
+pub mod RunTask
+pub mod OneTask
