@@ -1,8 +1,10 @@
 -- What the projection leaves, as the code holds it. Words of private contracts: no public clause cites them.
-use Rattle.std.specs.Prelude.{ℕ, List, filter, length, Option, None}
+use Rattle.std.specs.Prelude.{◌≡◌, ℕ, Bool, List, map, filter, length, Option, None}
 use Rattle.std.specs.List.{range_with_len}
 use Rattle.sas_task.specs.Task.{Task}
 use Rattle.sas_restriction.specs.Listed.{Listed, chosen}
+use Rattle.sas_restriction.specs.Choice.{is_busy}
+use Rattle.task_simplifier.specs.Kept.{AreKept}
 use Rattle.task_simplifier.specs.Projection.{stays, holder, values_in}
 
 -- the variables that stay, of so many
@@ -16,3 +18,11 @@ listed vars kept start = record { vars = vars; values = kept; holder = start }
 abbrev pub left : List (List ℕ) → Task → Listed
 left kept task =
     listed (staying kept (length task.variables)) kept (holder (chosen (listed (staying kept (length task.variables)) kept None)) task)
+
+-- This is left of the task, and these of its operators are: those with an effect on a variable that stays.
+pub record IsLeft (task : Task) (shown : Listed) (marks : List Bool) : Type 0 where
+  pub kept : List (List ℕ)
+  pub count : length kept ≡ length task.variables
+  pub are : AreKept task (values_in kept)
+  pub shown_is : shown ≡ left kept task
+  pub marks_are : marks ≡ map (is_busy (chosen shown)) task.operators

@@ -3,7 +3,7 @@ use Rattle.std.proofs.Common.{ℕ, ◌<◌, List, length, sym, ap, subst, ◌∙
 use Rattle.std.specs.List.{All}
 use Rattle.task_simplifier.specs.Left.{staying}
 use Rattle.task_simplifier.proofs.Staying.{staying_below, each_rises, left_is}
-use Rattle.task_simplifier.proofs.projection.left.Goals as goal
+use Rattle.task_simplifier.proofs.projection.shown_of.Goals as goal
 
 pub new-requires : goal.new-requires
 new-requires c =
