@@ -3,7 +3,9 @@
 ghost use Rattle.std.specs.Prelude.{◌≡◌, ◌==◌, ◌&&◌, ◌||◌, ◌<◌, true, length, map, filter, is_none, IfOk};
 ghost use Rattle.std.specs.List.{list_all, list_any, range_with_len};
 ghost use Rattle.sas_task.specs.Valid.{IsValid};
+ghost use Rattle.sas_restriction.specs.Choice.{IsChoice};
 ghost use Rattle.sas_restriction.specs.Everything.{all_values};
+ghost use Rattle.sas_restriction.specs.Listed.{with_operators};
 ghost use Rattle.pass_possible.specs.Possible as possible;
 ghost use Rattle.pass_possible.specs.Pruned.{HasPossibleAlone, IsPruned};
 ghost use Rattle.pass_possible.specs.Pruned as pruned;
@@ -136,6 +138,31 @@ fn variables(alloc: Global, task: &SasTask) -> Result<Vec<u64>, AllocError>
     (0..task.variables()).map(|var| var).collect(alloc)
 }
 
+/// All variables, each with its values that are possible or in the goal.
+fn chosen(alloc: Global, table: &Table, task: &SasTask) -> Result<Chosen, AllocError>
+    ensures { IfOk result (λ shown. with_operators shown (possible.is_possible (found table.now)) ≡ pruned.possible_alone (found table.now) task.now) }
+{
+    let vars = variables(alloc, task)?;
+    let values = wanted_of_each(alloc, table, task)?;
+    Chosen::new(alloc, vars, values, None)
+}
+
+/// The task with the operators and values alone that are possible by the table.
+fn with_found_alone(alloc: Global, table: &Table, task: &SasTask) -> Result<SasTask, AllocError>
+    requires { IsChoice (pruned.possible_alone (found table.now) task.now) task.now }
+    ensures { IfOk result (λ new. new ≡ pruned.pruned (found table.now) task.now) }
+{
+    let shown = chosen(alloc, table, task)?;
+    let marks = possible_marks(alloc, table, task.operator_slice())?;
+    let once = Once {
+        effects: false,
+        operators: false,
+        groups: true,
+        rules: false,
+    };
+    restrict(alloc, once, &shown, marks.as_slice(), task)
+}
+
 /// The task with its possible operators and values alone.
 fn with_possible_alone(alloc: Global, task: &SasTask) -> Result<SasTask, AllocError>
     requires { possible.is_plain task.now ≡ true }
@@ -143,18 +170,7 @@ fn with_possible_alone(alloc: Global, task: &SasTask) -> Result<SasTask, AllocEr
 {
     is_valid(task);
     let table = possible_pairs(alloc, task)?;
-    let vars = variables(alloc, task)?;
-    let values = wanted_of_each(alloc, &table, task)?;
-    let shown = Chosen::new(alloc, vars, values, None)?;
-    let marks = possible_marks(alloc, &table, task.operator_slice())?;
-    let once = Once {
-        effects: false,
-        operators: false,
-        groups: true,
-        rules: false,
-    };
-    let new = restrict(alloc, once, &shown, marks.as_slice(), task)?;
-    Ok(new)
+    with_found_alone(alloc, &table, task)
 }
 
 /// The task without what no pair of facts allows: operators that are never applicable, as far as pairs of facts show (h2,
