@@ -1,6 +1,6 @@
 // The facts of a task, and those of its parts.
 
-ghost use Rattle.std.specs.Prelude.{◌≡◌, ◌<◌, ◌++◌, map, length, IfOk, OnOk};
+ghost use Rattle.std.specs.Prelude.{◌≡◌, ◌<◌, ◌++◌, [], map, length, IfOk, OnOk};
 ghost use Rattle.std.specs.List.{range_with_len};
 ghost use Rattle.sas_task.specs.Pairs.{pair};
 ghost use Rattle.pass_possible.specs.Possible.{fact_of};
@@ -28,28 +28,22 @@ fn add_facts_of(facts: &mut Vec<Pair>, task: &SasTask, var: u64) -> Result<(), A
     Ok(())
 }
 
-/// All facts, variable by variable.
-pub(crate) fn facts(alloc: Global, task: &SasTask) -> Result<Vec<Pair>, AllocError>
-    ensures { IfOk result (λ facts. facts.items ≡ words.all_facts task.now) }
+/// Lists all facts, variable by variable, and for each variable how many facts come before its own.
+pub(crate) fn list_facts(
+    facts: &mut Vec<Pair>,
+    starts: &mut Vec<u64>,
+    task: &SasTask,
+) -> Result<(), AllocError>
+    requires no_facts { facts.now.items ≡ [] }
+    requires no_starts { starts.now.items ≡ [] }
+    ensures facts { OnOk result (facts.new.items ≡ words.all_facts task.now) }
+    ensures starts { OnOk result (starts.new.items ≡ words.starts task.now) }
 {
-    let mut facts = Vec::new(alloc);
-    for var in 0..task.variables() {
-        add_facts_of(&mut facts, task, var)?;
-    }
-    Ok(facts)
-}
-
-/// For each variable how many facts come before its own.
-pub(crate) fn starts(alloc: Global, task: &SasTask) -> Result<Vec<u64>, AllocError>
-    ensures { IfOk result (λ starts. starts.items ≡ words.starts task.now) }
-{
-    let mut facts = Vec::new(alloc);
-    let mut starts = Vec::new(alloc);
     for var in 0..task.variables() {
         starts.push(facts.len() as u64)?;
-        add_facts_of(&mut facts, task, var)?;
+        add_facts_of(facts, task, var)?;
     }
-    Ok(starts)
+    Ok(())
 }
 
 /// The facts of the written state.

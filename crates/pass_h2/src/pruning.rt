@@ -3,15 +3,14 @@
 ghost use Rattle.std.specs.Prelude.{◌≡◌, ◌==◌, ◌&&◌, ◌||◌, ◌<◌, true, length, map, filter, is_none, IfOk};
 ghost use Rattle.std.specs.List.{list_all, list_any, range_with_len};
 ghost use Rattle.sas_task.specs.Valid.{IsValid};
-ghost use Rattle.sas_restriction.specs.Choice.{IsChoice};
 ghost use Rattle.sas_restriction.specs.Everything.{all_values};
 ghost use Rattle.sas_restriction.specs.Listed.{with_operators};
 ghost use Rattle.pass_possible.specs.Possible as possible;
 ghost use Rattle.pass_possible.specs.Pruned.{HasPossibleAlone, IsPruned};
 ghost use Rattle.pass_possible.specs.Pruned as pruned;
-ghost use Rattle.pass_h2.specs.Search.{found};
+ghost use Rattle.pass_h2.specs.Search.{found, nothing};
 
-use crate::search::{is_possible, possible_pairs};
+use crate::search::{is_possible, mark_possible};
 use crate::table::Table;
 use lists::List;
 use sas_restriction::{Chosen, Once, restrict};
@@ -147,13 +146,20 @@ fn chosen(alloc: Global, table: &Table, task: &SasTask) -> Result<Chosen, AllocE
     Chosen::new(alloc, vars, values, None)
 }
 
-/// The task with the operators and values alone that are possible by the table.
-fn with_found_alone(alloc: Global, table: &Table, task: &SasTask) -> Result<SasTask, AllocError>
-    requires { IsChoice (pruned.possible_alone (found table.now) task.now) task.now }
-    ensures { IfOk result (λ new. new ≡ pruned.pruned (found table.now) task.now) }
+/// The task with its possible operators and values alone. The possible pairs are marked in the table, where none is yet.
+fn with_marked_alone(
+    alloc: Global,
+    table: &mut Table,
+    task: &SasTask,
+) -> Result<SasTask, AllocError>
+    requires plain { possible.is_plain task.now ≡ true }
+    requires open { table.now ≡ nothing task.now }
+    ensures { IfOk result (HasPossibleAlone task.now) }
 {
-    let shown = chosen(alloc, table, task)?;
+    is_valid(task);
+    mark_possible(alloc, table, task)?;
     let marks = possible_marks(alloc, table, task.operator_slice())?;
+    let shown = chosen(alloc, table, task)?;
     let once = Once {
         effects: false,
         operators: false,
@@ -163,14 +169,13 @@ fn with_found_alone(alloc: Global, table: &Table, task: &SasTask) -> Result<SasT
     restrict(alloc, once, &shown, marks.as_slice(), task)
 }
 
-/// The task with its possible operators and values alone.
+/// The same, with a table of its own.
 fn with_possible_alone(alloc: Global, task: &SasTask) -> Result<SasTask, AllocError>
     requires { possible.is_plain task.now ≡ true }
     ensures { IfOk result (HasPossibleAlone task.now) }
 {
-    is_valid(task);
-    let table = possible_pairs(alloc, task)?;
-    with_found_alone(alloc, &table, task)
+    let mut table = Table::new(alloc, task)?;
+    with_marked_alone(alloc, &mut table, task)
 }
 
 /// The task without what no pair of facts allows: operators that are never applicable, as far as pairs of facts show (h2,
@@ -184,10 +189,9 @@ fn with_possible_alone(alloc: Global, task: &SasTask) -> Result<SasTask, AllocEr
 pub fn prune(alloc: Global, task: &SasTask) -> Result<SasTask, AllocError>
     ensures { IfOk result (IsPruned task.now) }
 {
-    if !is_plain(task) {
-        let copy = task.copy(alloc)?;
-        return Ok(copy);
+    if is_plain(task) {
+        with_possible_alone(alloc, task)
+    } else {
+        task.copy(alloc)
     }
-    let new = with_possible_alone(alloc, task)?;
-    Ok(new)
 }

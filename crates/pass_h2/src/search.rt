@@ -149,14 +149,14 @@ fn woken(alloc: Global, table: &Table, operators: &[Operator]) -> Result<Vec<u64
         .collect(alloc)
 }
 
-/// The pairs of facts of the written state.
-fn initial_pairs(alloc: Global, task: &SasTask) -> Result<Table, AllocError>
-    ensures { IfOk result (λ table. table ≡ words.initial_pairs task.now) }
+/// Marks the pairs of facts of the written state, where no pair is marked.
+fn mark_initial(alloc: Global, table: &mut Table, task: &SasTask) -> Result<(), AllocError>
+    requires { table.now ≡ words.nothing task.now }
+    ensures { OnOk result (table.new ≡ words.initial_pairs task.now) }
 {
-    let mut table = Table::new(alloc, task)?;
     let facts = initial_facts(alloc, task)?;
     table.add_all(facts.as_slice(), facts.as_slice());
-    Ok(table)
+    Ok(())
 }
 
 /// Looks at the operators of the queue, and answers those that are to be looked at next.
@@ -183,17 +183,22 @@ fn all_places(alloc: Global, operators: &[Operator]) -> Result<Vec<u64>, AllocEr
         .collect(alloc)
 }
 
-/// The possible pairs of facts. Beside the operators that are looked at first, an operator is looked at again only where
-/// a pair that it needs was marked in the turn before.
-pub(crate) fn possible_pairs(alloc: Global, task: &SasTask) -> Result<Table, AllocError>
-    requires { IsValid task.now }
-    ensures { IfOk result (λ table. ArePossible task.now (words.found table)) }
+/// Marks the possible pairs of facts, where no pair is marked. Beside the operators that are looked at first, an operator
+/// is looked at again only where a pair that it needs was marked in the turn before.
+pub(crate) fn mark_possible(
+    alloc: Global,
+    table: &mut Table,
+    task: &SasTask,
+) -> Result<(), AllocError>
+    requires valid { IsValid task.now }
+    requires open { table.now ≡ words.nothing task.now }
+    ensures { OnOk result (ArePossible task.now (words.found table.new)) }
 {
+    mark_initial(alloc, table, task)?;
     let operators = task.operator_slice();
-    let mut table = initial_pairs(alloc, task)?;
     let mut queue = all_places(alloc, operators)?;
     while !queue.is_empty() {
-        queue = turn(alloc, &mut table, operators, queue.as_slice())?;
+        queue = turn(alloc, table, operators, queue.as_slice())?;
     }
-    Ok(table)
+    Ok(())
 }

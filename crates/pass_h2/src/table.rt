@@ -5,7 +5,7 @@ ghost use Rattle.std.specs.List.{list_any};
 ghost use Rattle.pass_h2.specs.Facts as facts_words;
 ghost use Rattle.pass_h2.specs.Search as words;
 
-use crate::facts::{facts, starts};
+use crate::facts::list_facts;
 use crate::marks::Marks;
 use sas_task::{Operator, Pair, SasTask};
 use std::alloc::{AllocError, Global};
@@ -68,8 +68,9 @@ impl Table {
     pub(crate) fn new(alloc: Global, task: &SasTask) -> Result<Table, AllocError>
         ensures { IfOk result (λ table. table ≡ words.nothing task.now) }
     {
-        let facts = facts(alloc, task)?;
-        let starts = starts(alloc, task)?;
+        let mut facts = Vec::new(alloc);
+        let mut starts = Vec::new(alloc);
+        list_facts(&mut facts, &mut starts, task)?;
         let rows = open_rows(alloc, facts.len())?;
         let touched = Marks::new(alloc, facts.len())?;
         Ok(Table {

@@ -1,6 +1,6 @@
 use Rattle.sas_task.specs.Valid.{IsValid}
 use Rattle.pass_h2.proofs.Turns.{Between, measure}
-use Rattle.pass_h2.proofs.search.possible_pairs.Given as goal
+use Rattle.pass_h2.proofs.search.mark_possible.Given as goal
 
 abbrev pub invariant-loop-operators : goal.invariant-loop-operators
 invariant-loop-operators l = (valid : IsValid l.task) → Between l.task valid l.table l.queue.items

@@ -2,7 +2,7 @@ use Rattle.std.proofs.Common.{◌++◌, length, sym, ap, ◌∙◌}
 use Rattle.lists.proofs.LoopSteps.{flat_map_range_next}
 use Rattle.pass_h2.specs.Facts.{facts_at, facts_below}
 use Rattle.pass_h2.proofs.Ranges.{one_more}
-use Rattle.pass_h2.proofs.facts.starts.Goals as goal
+use Rattle.pass_h2.proofs.facts.list_facts.Goals as goal
 
 pub loop-var-preserved : goal.loop-var-preserved
 loop-var-preserved c = (
