@@ -1,6 +1,7 @@
 -- Pieces of lines, appended one after another.
-use Rattle.std.proofs.Common.{◌≡◌, ℕ, zero, suc, ◌+◌, ◌^◌, ◌<◌, List, [], ◌∷◌, ◌++◌, length, get_or, take, Some, sym, ap, ◌∙◌, subst, append_assoc, append-nil, arith}
+use Rattle.std.proofs.Common.{◌≡◌, ℕ, zero, suc, ◌+◌, ◌^◌, ◌<◌, ◌≤◌, List, [], ◌∷◌, ◌++◌, length, get_or, take, Some, sym, ap, ◌∙◌, subst, append_assoc, append-nil, arith}
 use Rattle.std.specs.List.{flat_map, slice_get, enumerate_from}
+use Rattle.std.proofs.lemmas.List.{take_all}
 use Rattle.std.proofs.lemmas.List.Concat.{flat_map-append}
 use Rattle.std.proofs.lemmas.List.FromFn.{length-enumerate_from, get_or-enumerate_from}
 use Rattle.std.proofs.lemmas.Option.{slice_get_within, slice_get-get_or, get_or_from_slice_get}
@@ -8,7 +9,7 @@ use Rattle.std.proofs.lemmas.Fmt.{decimal-digits_of, decimal_digit}
 use Rattle.std.specs.Fmt.{decimal}
 use Rattle.lists.proofs.LoopSteps.{flat_map_got}
 use Rattle.sas_task.specs.declared.parts.Variable.{Variable}
-use Rattle.sas_task.specs.Output.{Line, bytes_of, numeral, spaced}
+use Rattle.sas_task.specs.Output.{Line, bytes_of, counted, numeral, spaced}
 
 -- what a number below 2^64 is printed as
 pub printed : (n : ℕ) → n < 2 ^ 64 → decimal n ≡ numeral n
@@ -24,6 +25,15 @@ then_lines a b out out1 out2 first second =
 pub next_lines : {X : Type 0} (lines : X → List Line) (xs : List X) (i : ℕ) (x : X) (out out1 out2 : List ℕ) → slice_get xs i ≡ Some x → out1 ≡ out ++ bytes_of (flat_map lines (take i xs)) → out2 ≡ out1 ++ bytes_of (lines x) → out2 ≡ out ++ bytes_of (flat_map lines (take (i + 1) xs))
 next_lines lines xs i x out out1 out2 at first second =
     then_lines (flat_map lines (take i xs)) (lines x) out out1 out2 first second ∙ ap (λ l. out ++ bytes_of l) (sym (flat_map_got lines xs i x at))
+
+-- the item at a place
+pub item_at : {X : Type 0} (xs : List X) (i : ℕ) (x : X) → i < length xs → x ≡ get_or xs i x → slice_get xs i ≡ Some x
+item_at xs i x within is = slice_get-get_or xs i x within ∙ ap Some (sym is)
+
+-- the number of items, and then the lines of all of them
+pub all_counted : {X : Type 0} (lines : X → List Line) (xs : List X) (i : ℕ) (out out1 out2 : List ℕ) → length xs ≤ i → out1 ≡ out ++ bytes_of (numeral (length xs) ∷ []) → out2 ≡ out1 ++ bytes_of (flat_map lines (take i xs)) → out2 ≡ out ++ bytes_of (counted lines xs)
+all_counted lines xs i out out1 out2 done first second =
+    then_lines (numeral (length xs) ∷ []) (flat_map lines xs) out out1 out2 first (second ∙ ap (λ l. out1 ++ bytes_of (flat_map lines l)) (take_all i xs done))
 
 -- each word with a space before it
 abbrev pub after_spaces : List Line → List ℕ
