@@ -9,7 +9,6 @@ use crate::{Console, Failed, Files};
 use std::alloc::{AllocError, Global};
 
 /// Prints all the bytes. Where it fails, a front of them was printed.
-#[tactic(auto, using(crate::proofs::Known::append_nothing, crate::proofs::Known::printed_part))]
 pub fn say_all<C: Console>(console: &mut C, bytes: &[u8]) -> Result<(), Failed>
     ensures ok { OnOk result
         (C.printed console.new ≡ append_known (C.printed console.old) bytes.now) }
@@ -25,7 +24,6 @@ pub fn say_all<C: Console>(console: &mut C, bytes: &[u8]) -> Result<(), Failed>
 }
 
 /// Appends all the bytes to the name being written. Where it fails, a front of them was appended.
-#[tactic(auto, using(crate::proofs::Grown::grown_nothing, crate::proofs::Grown::grown_part))]
 pub fn put_all<F: Files>(files: &mut F, bytes: &[u8]) -> Result<(), Failed>
     requires { IsTrue (F.is_created files.old) }
     ensures ok { OnOk result

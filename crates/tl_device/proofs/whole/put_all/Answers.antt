@@ -1,8 +1,24 @@
-use Rattle.std.proofs.Common.{◌∙◌, sym, ap, arith, length-drop}
+use Rattle.std.proofs.Common.{rules, ◌<◌, refl, ◌∙◌, sym, ap, arith, length-drop}
 use Rattle.std.proofs.lemmas.List.{take_all}
-use Rattle.tl_device.specs.Contents.{grown}
-use Rattle.tl_device.proofs.Grown.{grown_next, held_before, holds_grown, others_grown}
+use Rattle.tl_device.specs.Contents.{GrownInPart, grown}
+use Rattle.tl_device.proofs.Grown.{grown_nothing, grown_next, grown_part, held_before, holds_grown, others_grown}
 use Rattle.tl_device.proofs.whole.put_all.Goals as goal
+
+pub loop-done-init : goal.loop-done-init
+loop-done-init g c = record {
+  within = omega arith;
+  files = sym (grown_nothing _ _);
+  held = λ (some : 0 < 0). let none : ⊥ = omega (arith, some) in absurd none;
+  asked = refl;
+  write_faults = refl;
+  created = c.requires;
+  writing = refl;
+  begun = refl;
+  reading = refl;
+  rest = λ _. refl;
+  taken = refl;
+  read_faults = refl;
+}
 
 pub loop-done-preserved : goal.loop-done-preserved
 loop-done-preserved g c = record {
@@ -20,6 +36,16 @@ loop-done-preserved g c = record {
   taken = c.in_ok-done.ensures.taken ∙ c.loop-done.invariant.taken;
   read_faults = c.in_ok-done.ensures.read_faults ∙ c.loop-done.invariant.read_faults;
 }
+
+pub returns-in_err-done-clause-err : goal.returns-in_err-done-clause-err
+returns-in_err-done-clause-err g c =
+    let part : GrownInPart (g.F.Files.files c.args.files.now) (g.F.Files.files c.write.new.self) (g.F.Files.writing c.args.files.now) c.args.bytes.now =
+    grown_part _ _ _ _ c.loop-done.done (c.in_err-done.ensures.err ∙ c.loop-done.invariant.files) in
+    search rules
+
+pub returns-in_err-done-clause-held : goal.returns-in_err-done-clause-held
+returns-in_err-done-clause-held g c _ = held_before _ _ _ _ _ _ c.in_err-done.ensures.created (c.in_err-done.ensures.writing ∙ c.loop-done.invariant.writing)
+    (c.in_err-done.ensures.err ∙ c.loop-done.invariant.files) c.in_err-done.ensures.held
 
 pub returns-in_err-done-clause-others : goal.returns-in_err-done-clause-others
 returns-in_err-done-clause-others g c =
