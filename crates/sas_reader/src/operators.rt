@@ -4,6 +4,7 @@ ghost use Rattle.std.specs.Prelude.{◌≡◌, List, [], IfOk};
 ghost use Rattle.sas_reader.specs.Answers.{Gives};
 ghost use Rattle.sas_reader.specs.Forms.{listed, line};
 ghost use Rattle.sas_reader.specs.Operators as operators;
+ghost use Rattle.sas_reader.specs.Tables as steps;
 ghost use Rattle.sas_reader.specs.Contexts.{so_far};
 
 use crate::fault::ReadTaskEnd;
@@ -109,8 +110,41 @@ fn cost(reader: &mut Reader<'_>, metric: bool) -> Result<u64, ReadTaskEnd>
     reader.passing(cost <= 2_147_483_647 && (metric || cost == 1), cost)
 }
 
+/// The first two lines of an operator: its name.
+#[tactic(auto, unfolding(crate::specs::Tables::begun_name))]
+fn begun_name(alloc: Global, reader: &mut Reader<'_>) -> Result<Text, ReadTaskEnd>
+    ensures { Gives (λ x. x) result reader.new (steps.begun_name reader.old) }
+{
+    reader.fixed(b"begin_operator")?;
+    name(alloc, reader)
+}
+
+/// The prevail conditions and the effect lines of an operator: its conditions and its effects.
+#[tactic(auto, unfolding(crate::specs::Tables::conditions_and_effects))]
+fn conditions_and_effects(
+    alloc: Global,
+    reader: &mut Reader<'_>,
+    variables: &[Variable],
+) -> Result<(List<Pair>, List<Effect>), ReadTaskEnd>
+    ensures { Gives (λ x. x) result reader.new (steps.conditions_and_effects (so_far variables.now []) reader.old) }
+{
+    let prevail = conditions(alloc, reader, variables)?;
+    let count = reader.number_line()?;
+    let required = effect_lines(alloc, reader, variables, prevail, count)?;
+    Ok((required.conditions(alloc)?, required.into_effects(alloc)?))
+}
+
+/// The last two lines of an operator: its cost.
+#[tactic(auto, unfolding(crate::specs::Tables::cost_and_end))]
+fn cost_and_end(reader: &mut Reader<'_>, metric: bool) -> Result<u64, ReadTaskEnd>
+    ensures { Gives (λ x. x) result reader.new (steps.cost_and_end metric reader.old) }
+{
+    let cost = cost(reader, metric)?;
+    reader.fixed(b"end_operator")?;
+    Ok(cost)
+}
+
 /// The lines of an operator.
-#[tactic(auto, unfolding(crate::specs::Operators::operator))]
 fn operator(
     alloc: Global,
     reader: &mut Reader<'_>,
@@ -119,17 +153,13 @@ fn operator(
 ) -> Result<Operator, ReadTaskEnd>
     ensures { Gives (λ x. x) result reader.new (operators.operator metric (so_far variables.now []) reader.old) }
 {
-    reader.fixed(b"begin_operator")?;
-    let name = name(alloc, reader)?;
-    let prevail = conditions(alloc, reader, variables)?;
-    let count = reader.number_line()?;
-    let required = effect_lines(alloc, reader, variables, prevail, count)?;
-    let cost = cost(reader, metric)?;
-    reader.fixed(b"end_operator")?;
+    let name = begun_name(alloc, reader)?;
+    let (conditions, effects) = conditions_and_effects(alloc, reader, variables)?;
+    let cost = cost_and_end(reader, metric)?;
     Ok(Operator {
         name,
-        conditions: required.conditions(alloc)?,
-        effects: required.into_effects(alloc)?,
+        conditions,
+        effects,
         cost,
     })
 }

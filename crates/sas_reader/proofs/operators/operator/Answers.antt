@@ -1,47 +1,24 @@
-use Rattle.std.proofs.Common.{◌≡◌, ◌<◌, ℕ, [], List, length, map, Some, Ok, sym, ◌∙◌, subst}
+use Rattle.std.proofs.Common.{[], refl, ◌∙◌}
 use Rattle.std.proofs.lemmas.Result.{err_from_is_err_and}
-use Rattle.sas_task.specs.declared.parts.Pair.{Pair}
 use Rattle.sas_reader.specs.Contexts.{so_far}
-use Rattle.sas_reader.specs.Operators.{Told, operator, required}
-use Rattle.sas_reader.specs.Tables.{requirement}
-use Rattle.sas_reader.specs.declared.requirements.Requirement.{Requirement}
 use Rattle.sas_reader.proofs.Listed.{stops}
-use Rattle.sas_reader.proofs.Conditions.{conditions_read}
-use Rattle.sas_reader.proofs.ToldEffects.{effects_read, required_below}
-use Rattle.sas_reader.proofs.Finished.{operator_is}
+use Rattle.sas_reader.proofs.Finished.{in_steps}
 use Rattle.sas_reader.proofs.operators.operator.Goals as goal
 
-pub returns-in_err-required : goal.returns-in_err-required
-unfolding operator
-returns-in_err-required c =
-    let p = err_from_is_err_and c.from_residual-in_err-required.result c.from_residual-in_err-required.ensures.1 in
-    rw (p.1, p.2, c.in_ok-fixed.ensures, c.in_ok-name.ensures, c.in_ok-prevail.ensures, c.in_ok-count.ensures) (stops c.in_err-required.field-0.0 _ _ c.in_err-required.ensures.read)
+pub returns-in_err-name : goal.returns-in_err-name
+returns-in_err-name c =
+    let p = err_from_is_err_and c.from_residual.result c.from_residual.ensures.1 in
+    rw (p.1, p.2, in_steps c.args.metric (so_far c.args.variables.now []) c.args.reader.now) (stops c.in_err-name.field-0.0 _ _ c.in_err-name.ensures)
+
+pub returns-in_err-conditions : goal.returns-in_err-conditions
+returns-in_err-conditions c =
+    let p = err_from_is_err_and c.from_residual-in_err-conditions.result c.from_residual-in_err-conditions.ensures.1 in
+    rw (p.1, p.2, in_steps c.args.metric (so_far c.args.variables.now []) c.args.reader.now, c.in_ok-name.ensures) (stops c.in_err-conditions.field-0.0 _ _ c.in_err-conditions.ensures)
 
 pub returns-in_err-cost : goal.returns-in_err-cost
-unfolding operator
 returns-in_err-cost c =
     let p = err_from_is_err_and c.from_residual-in_err-cost.result c.from_residual-in_err-cost.ensures.1 in
-    rw (p.1, p.2, c.in_ok-fixed.ensures, c.in_ok-name.ensures, c.in_ok-prevail.ensures, c.in_ok-count.ensures, c.in_ok-required.ensures.read) (stops c.in_err-cost.field-0.0 _ _ c.in_err-cost.ensures)
-
-pub returns-in_err-fixed-2 : goal.returns-in_err-fixed-2
-unfolding operator
-returns-in_err-fixed-2 c =
-    let p = err_from_is_err_and c.from_residual-in_err-fixed-2.result c.from_residual-in_err-fixed-2.ensures.1 in
-    rw (p.1, p.2, c.in_ok-fixed.ensures, c.in_ok-name.ensures, c.in_ok-prevail.ensures, c.in_ok-count.ensures, c.in_ok-required.ensures.read, c.in_ok-cost.ensures) (stops c.in_err-fixed-2.field-0.0 _ _ c.in_err-fixed-2.ensures)
+    rw (p.1, p.2, in_steps c.args.metric (so_far c.args.variables.now []) c.args.reader.now, c.in_ok-name.ensures, c.in_ok-conditions.ensures) (stops c.in_err-cost.field-0.0 _ _ c.in_err-cost.ensures)
 
 pub returns : goal.returns
-returns c =
-    let task = so_far c.args.variables.now [] in
-    let n = length c.args.variables.now in
-    let r = c.in_ok-required.required in
-    let prevail = c.in_ok-prevail.prevail in
-    let told = r.1 in
-    let facts = (conditions_read task c.name.new.reader prevail c.conditions.new.reader c.in_ok-prevail.ensures).1.facts in
-    let are = (effects_read task prevail c.in_ok-count.count c.number_line.new.self told c.effect_lines.new.reader c.in_ok-required.ensures.read).0.are in
-    let conds : c.in_ok-conditions.field-0 ≡ required n prevail told =
-    subst (λ (ps : List Pair). (variables : ℕ) → ((var : ℕ) (q : Requirement) → requirement ps told var ≡ Some q → var < variables) → c.in_ok-conditions.field-0 ≡ required variables ps told) c.in_ok-required.ensures.prevail c.in_ok-conditions.ensures n (required_below task prevail told facts are) in
-    let effs : c.in_ok-into_effects.field-0 ≡ map (λ (t : Told). t.0) told = c.in_ok-into_effects.ensures in
-    operator_is c.args.metric task c.args.reader.now c.fixed.new.self c.name.new.reader c.conditions.new.reader c.number_line.new.self c.effect_lines.new.reader c.cost.new.reader c.fixed-2.new.self
-    c.in_ok-name.name prevail c.in_ok-count.count told c.in_ok-cost.cost
-    c.in_ok-fixed.ensures c.in_ok-name.ensures c.in_ok-prevail.ensures c.in_ok-count.ensures c.in_ok-required.ensures.read c.in_ok-cost.ensures c.in_ok-fixed-2.ensures
-    ∙ (λ i. Ok (record { name = sym c.name-2.view_is i; conditions = sym conds i; effects = sym effs i; cost = c.in_ok-cost.cost }, c.fixed-2.new.self))
+returns c = in_steps c.args.metric (so_far c.args.variables.now []) c.args.reader.now ∙ rw (c.in_ok-name.ensures, c.in_ok-conditions.ensures, c.in_ok-cost.ensures) refl
