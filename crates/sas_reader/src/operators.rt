@@ -131,7 +131,7 @@ fn conditions_and_effects(
     let prevail = conditions(alloc, reader, variables)?;
     let count = reader.number_line()?;
     let required = effect_lines(alloc, reader, variables, prevail, count)?;
-    Ok((required.conditions(alloc)?, required.into_effects(alloc)?))
+    Ok(required.into_parts(alloc)?)
 }
 
 /// The last two lines of an operator: its cost.

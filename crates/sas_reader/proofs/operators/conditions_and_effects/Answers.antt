@@ -25,8 +25,8 @@ returns c =
     let told = c.in_ok-required.required.1 in
     let facts = (conditions_read task c.args.reader.now prevail c.conditions.new.reader c.in_ok-prevail.ensures).1.facts in
     let are = (effects_read task prevail c.in_ok-count.count c.number_line.new.self told c.effect_lines.new.reader c.in_ok-required.ensures.read).0.are in
-    let conds : c.in_ok-conditions.field-0 ≡ required n prevail told =
-    subst (λ (ps : List Pair). (variables : ℕ) → ((var : ℕ) (q : Requirement) → requirement ps told var ≡ Some q → var < variables) → c.in_ok-conditions.field-0 ≡ required variables ps told) c.in_ok-required.ensures.prevail c.in_ok-conditions.ensures n (required_below task prevail told facts are) in
-    let effs : c.in_ok-into_effects.field-0 ≡ map (λ (t : Told). t.0) told = c.in_ok-into_effects.ensures in
+    let conds : c.in_ok-into_parts.field-0.0 ≡ required n prevail told =
+    subst (λ (ps : List Pair). (variables : ℕ) → ((var : ℕ) (q : Requirement) → requirement ps told var ≡ Some q → var < variables) → c.in_ok-into_parts.field-0.0 ≡ required variables ps told) c.in_ok-required.ensures.prevail c.in_ok-into_parts.ensures.conditions n (required_below task prevail told facts are) in
+    let effs : c.in_ok-into_parts.field-0.1 ≡ map (λ (t : Told). t.0) told = c.in_ok-into_parts.ensures.effects in
     between_is task c.args.reader.now c.conditions.new.reader c.number_line.new.self c.effect_lines.new.reader prevail c.in_ok-count.count told c.in_ok-prevail.ensures c.in_ok-count.ensures c.in_ok-required.ensures.read
     ∙ (λ i. Ok ((sym conds i, sym effs i), c.effect_lines.new.reader))
