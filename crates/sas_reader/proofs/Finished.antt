@@ -1,5 +1,5 @@
 -- Operators, rules and whole texts that were read are valid, and are written as they were read.
-use Rattle.std.proofs.Common.{◌≡◌, ◌≢◌, ℕ, ◌<◌, ◌≤◌, Bool, true, false, not, ◌&&◌, cond, eqb, ltb, List, [], ◌∷◌, ◌++◌, length, map, get_or, Option, Some, None, Ok, Err, refl, sym, ap, ◌∙◌, subst, append_assoc, arith}
+use Rattle.std.proofs.Common.{◌≡◌, ◌≢◌, ℕ, ◌<◌, ◌≤◌, Bool, true, false, not, ◌&&◌, cond, eqb, ltb, List, [], ◌∷◌, ◌++◌, length, map, get_or, Option, Some, None, Ok, refl, sym, ap, ◌∙◌, subst, append_assoc, arith}
 use Rattle.std.specs.Prelude.{codes, filter, IsSome, IfSome, IsSomeAnd, is_some}
 use Rattle.std.specs.List.{All, AllPairs, find, list_all, list_any, flat_map}
 use Rattle.std.specs.Option.{option_map, option_map_or}
@@ -16,12 +16,12 @@ use Rattle.sas_task.specs.Output.{Line, numeral, counted, pair_lines, prevail, e
 use Rattle.sas_task.specs.Task.{Task}
 use Rattle.sas_task.specs.Valid.{IsValue, AreConditions, IsValidEffect, IsValidRule, IsBelow, SetAlike, layer_of, default_of}
 use Rattle.sas_reader.specs.Contexts.{so_far, is_below}
-use Rattle.sas_reader.specs.Forms.{◌>>=◌, ◌>>◌, Unread, Reading, Form, followed, line, listed, fixed, passing, given}
+use Rattle.sas_reader.specs.Forms.{◌>>=◌, ◌>>◌, Unread, Form, line, listed, fixed, passing, given}
 use Rattle.sas_reader.specs.Numbers.{number, number_line}
 use Rattle.sas_reader.specs.Operators.{Told, name, effect, cost, required, operator, operators}
 use Rattle.sas_reader.specs.Pairs.{value, conditions}
 use Rattle.sas_reader.specs.Rules.{may_set, change, rule, rules}
-use Rattle.sas_reader.specs.Tables.{first_of, begun_name, conditions_and_effects, cost_and_end}
+use Rattle.sas_reader.specs.Tables.{first_of, after_name}
 use Rattle.sas_reader.specs.Words.{less_space}
 use Rattle.sas_reader.proofs.Kept.{parts, passed, read_same, kept, TakesLines, TakesWords, then_lines, then_words}
 use Rattle.sas_reader.proofs.Lines.{IsClean, clean_after, fixed_is, number_line_is, number_is, line_is_words}
@@ -45,111 +45,52 @@ named o written = record { name = written; conditions = o.conditions; effects = 
 valid_effects : (task : Task) (told : List Told) → All (IsTold task) told → All (IsValidEffect task) (map (λ (t : Told). t.0) told)
 valid_effects task told are = All-map (IsValidEffect task) (λ (t : Told). t.0) told (All-weaker (IsTold task) (λ t. IsValidEffect task t.0) (λ t good. good.valid) told are)
 
--- an operator with these conditions and effects
-abbrev with_parts : Line → List Pair × List Effect → ℕ → Operator
-with_parts name parts cost = record { name = name; conditions = parts.0; effects = parts.1; cost = cost }
+-- the lines of an operator after its name, and what is shown of it
+record IsAfterName (metric : Bool) (task : Task) (name : Line) (now : Unread) (o : Operator) (after : Unread) : Type 0 where
+  called : o.name ≡ name
+  taken : TakesLines now ((counted pair_lines (prevail o) ++ counted (λ e. effect_line o e ∷ []) o.effects ++ numeral o.cost ∷ []) ++ codes "end_operator" ∷ []) after
+  good : IsName name → IsGood metric task o
 
--- where more is read after the second of two forms
-in_two : {A B C : Type 0} (r : Reading A) (all : A → Form C) (second : A → Form B) (more : B → Form C) → ((x : A) (now : Unread) → all x now ≡ followed (second x now) more) → followed r all ≡ followed (followed r second) more
-in_two (Ok x) all second more same = same x.0 x.1
-in_two (Err fault) all second more same = refl
-
-cost_then : (metric : Bool) (made : ℕ → Operator) (now : Unread) → (cost metric >>= λ n. fixed (codes "end_operator") >> given (made n)) now ≡ (cost_and_end metric >>= λ n. given (made n)) now
-unfolding cost_and_end
-cost_then metric made now =
-    let more : ℕ → Form Operator = λ n. given (made n) in
-    in_two (cost metric now) (λ n. fixed (codes "end_operator") >> given (made n)) (λ n. fixed (codes "end_operator") >> given n) more
-    (λ n now. in_two (fixed (codes "end_operator") now) (λ _. given (made n)) (λ _. given n) more (λ _ now. refl))
-
-between_then : (metric : Bool) (task : Task) (name : Line) (now : Unread)
-    → (conditions task >>= λ pairs. number_line >>= λ count. listed (λ earlier. line (effect task pairs earlier)) count [] >>= λ told. cost metric >>= λ n. fixed (codes "end_operator") >> given (with_parts name (required (length task.variables) pairs told, map (λ (t : Told). t.0) told) n)) now
-    ≡ (conditions_and_effects task >>= λ parts. cost_and_end metric >>= λ n. given (with_parts name parts n)) now
-unfolding conditions_and_effects
-between_then metric task name now =
-    let made : List Pair → List Told → List Pair × List Effect = λ pairs told. (required (length task.variables) pairs told, map (λ (t : Told). t.0) told) in
+after_name_read : (metric : Bool) (task : Task) (name : Line) (now : Unread) (o : Operator) (after : Unread) → after_name metric task name now ≡ Ok (o, after) → IsAfterName metric task name now o after
+unfolding after_name
+after_name_read metric task name now o after e =
+    let made : List Pair → List Told → ℕ → Operator = λ pairs told cost. record { name = name; conditions = required (length task.variables) pairs told; effects = map (λ (t : Told). t.0) told; cost = cost } in
+    let last : List Pair → List Told → ℕ → Form Operator = λ pairs told cost. fixed (codes "end_operator") >> given (made pairs told cost) in
     let lines : List Pair → ℕ → Form (List Told) = λ pairs count. listed (λ earlier. line (effect task pairs earlier)) count [] in
-    let more : List Pair × List Effect → Form Operator = λ parts. cost_and_end metric >>= λ n. given (with_parts name parts n) in
-    let last : List Pair → List Told → Form Operator = λ pairs told. cost metric >>= λ n. fixed (codes "end_operator") >> given (with_parts name (made pairs told) n) in
-    in_two (conditions task now) (λ pairs. number_line >>= λ count. lines pairs count >>= last pairs) (λ pairs. number_line >>= λ count. lines pairs count >>= λ told. given (made pairs told)) more
-    (λ pairs now. in_two (number_line now) (λ count. lines pairs count >>= last pairs) (λ count. lines pairs count >>= λ told. given (made pairs told)) more
-    (λ count now. in_two (lines pairs count now) (last pairs) (λ told. given (made pairs told)) more (λ told now. cost_then metric (with_parts name (made pairs told)) now)))
-
--- an operator is read in three steps
-pub in_steps : (metric : Bool) (task : Task) (now : Unread) → operator metric task now ≡ (begun_name >>= λ name. conditions_and_effects task >>= λ parts. cost_and_end metric >>= λ n. given (record { name = name; conditions = parts.0; effects = parts.1; cost = n })) now
-unfolding operator begun_name
-in_steps metric task now = λ i. followed (followed (fixed (codes "begin_operator") now) (λ _. name)) (λ name now. between_then metric task name now i)
-
-begun_read : (now : Unread) (n : Line) (after : Unread) → IsClean now → begun_name now ≡ Ok (n, after) → (written : Line) × (less_space written ≡ n) × IsName n × TakesLines now (codes "begin_operator" ∷ written ∷ []) after
-unfolding begun_name
-begun_read now n after clean e =
-    let a = parts (fixed (codes "begin_operator") now) (λ _. name) n after e in
-    let begun = fixed_is (codes "begin_operator") now a.0 a.1 a.2 in
-    let called = name_read a.1 n after (clean_after now (codes "begin_operator" ∷ []) a.1 begun clean) a.3 in
-    (called.0, called.1, called.2, then_lines now a.1 after (codes "begin_operator" ∷ []) (called.0 ∷ []) begun called.3)
-
--- the lines between an operator's name and its cost
-record AreBetween (task : Task) (now : Unread) (o : Operator) (after : Unread) : Type 0 where
-  taken : TakesLines now (counted pair_lines (prevail o) ++ counted (λ e. effect_line o e ∷ []) o.effects) after
-  conditions : AreConditions task o.conditions
-  effects : All (IsValidEffect task) o.effects
-
-between_read : (task : Task) (now : Unread) (x : List Pair × List Effect) (after : Unread) (name : Line) (costs : ℕ) → conditions_and_effects task now ≡ Ok (x, after) → AreBetween task now (with_parts name x costs) after
-unfolding conditions_and_effects
-between_read task now x after name costs e =
-    let made : List Pair → List Told → List Pair × List Effect = λ pairs told. (required (length task.variables) pairs told, map (λ (t : Told). t.0) told) in
-    let lines : List Pair → ℕ → Form (List Told) = λ pairs count. listed (λ earlier. line (effect task pairs earlier)) count [] in
-    let c = parts (conditions task now) (λ pairs. number_line >>= λ count. lines pairs count >>= λ told. given (made pairs told)) x after e in
-    let d = parts (number_line c.1) (λ count. lines c.0 count >>= λ told. given (made c.0 told)) x after c.3 in
-    let t = parts (lines c.0 d.0 d.1) (λ told. given (made c.0 told)) x after d.3 in
-    let same = read_same (made c.0 t.0) x t.1 after t.3 in
+    let c = parts (conditions task now) (λ pairs. number_line >>= λ count. lines pairs count >>= λ told. cost metric >>= last pairs told) o after e in
+    let d = parts (number_line c.1) (λ count. lines c.0 count >>= λ told. cost metric >>= last c.0 told) o after c.3 in
+    let t = parts (lines c.0 d.0 d.1) (λ told. cost metric >>= last c.0 told) o after d.3 in
+    let k = parts (cost metric t.1) (last c.0 t.0) o after t.3 in
+    let h = parts (fixed (codes "end_operator") k.1) (λ _. given (made c.0 t.0 k.0)) o after k.3 in
+    let same = read_same (made c.0 t.0 k.0) o h.1 after h.3 in
     let before = conditions_read task now c.0 c.1 c.2 in
     let told = effects_read task c.0 d.0 d.1 t.0 t.1 t.2 in
-    let o : Operator = with_parts name (made c.0 t.0) costs in
-    let shown : TakesLines now (counted pair_lines (prevail o)) c.1 = subst (λ ps. TakesLines now (counted pair_lines ps) c.1) (sym (prevail_is task c.0 t.0 d.1 t.1 before.1 told.0)) before.0 in
-    let len : d.0 ≡ length o.effects = omega (arith, told.1, length-map t.0 (λ (t : Told). t.0)) in
-    let effect-lines : TakesLines d.1 (flat_map (λ e. effect_line o e ∷ []) o.effects) t.1 = subst (λ l. TakesLines d.1 l t.1) (sym (lines_are task c.0 t.0 d.1 t.1 before.1 told.0 o refl)) told.0.taken in
-    let all-effects : TakesLines c.1 (counted (λ e. effect_line o e ∷ []) o.effects) t.1 = subst (λ m. TakesLines c.1 (numeral m ∷ flat_map (λ e. effect_line o e ∷ []) o.effects) t.1) len (then_lines c.1 d.1 t.1 (numeral d.0 ∷ []) (flat_map (λ e. effect_line o e ∷ []) o.effects) (number_line_is c.1 d.0 d.1 d.2).0 effect-lines) in
-    let all : AreBetween task now o t.1 = record {
-      taken = then_lines now c.1 t.1 (counted pair_lines (prevail o)) (counted (λ e. effect_line o e ∷ []) o.effects) shown all-effects;
-      conditions = wanted_valid task c.0 t.0 d.1 t.1 before.1 told.0;
-      effects = valid_effects task t.0 told.0.are;
+    let costs = cost_read metric t.1 k.0 k.1 k.2 in
+    let one : Operator = made c.0 t.0 k.0 in
+    let shown : TakesLines now (counted pair_lines (prevail one)) c.1 = subst (λ ps. TakesLines now (counted pair_lines ps) c.1) (sym (prevail_is task c.0 t.0 d.1 t.1 before.1 told.0)) before.0 in
+    let len : d.0 ≡ length one.effects = omega (arith, told.1, length-map t.0 (λ (t : Told). t.0)) in
+    let effect-lines : TakesLines d.1 (flat_map (λ e. effect_line one e ∷ []) one.effects) t.1 = subst (λ l. TakesLines d.1 l t.1) (sym (lines_are task c.0 t.0 d.1 t.1 before.1 told.0 one refl)) told.0.taken in
+    let all-effects : TakesLines c.1 (counted (λ e. effect_line one e ∷ []) one.effects) t.1 = subst (λ m. TakesLines c.1 (numeral m ∷ flat_map (λ e. effect_line one e ∷ []) one.effects) t.1) len (then_lines c.1 d.1 t.1 (numeral d.0 ∷ []) (flat_map (λ e. effect_line one e ∷ []) one.effects) (number_line_is c.1 d.0 d.1 d.2).0 effect-lines) in
+    let both = then_lines now c.1 t.1 (counted pair_lines (prevail one)) (counted (λ e. effect_line one e ∷ []) one.effects) shown all-effects in
+    let body = then_lines now t.1 k.1 (counted pair_lines (prevail one) ++ counted (λ e. effect_line one e ∷ []) one.effects) (numeral k.0 ∷ []) both costs.0 in
+    let all : IsAfterName metric task name now one h.1 = record {
+      called = refl;
+      taken = then_lines now k.1 h.1 (counted pair_lines (prevail one) ++ counted (λ e. effect_line one e ∷ []) one.effects ++ numeral k.0 ∷ []) (codes "end_operator" ∷ []) body (fixed_is (codes "end_operator") k.1 h.0 h.1 h.2);
+      good = λ named. record { name = named; conditions = wanted_valid task c.0 t.0 d.1 t.1 before.1 told.0; effects = valid_effects task t.0 told.0.are; cost = costs.1; unit_cost = costs.2 };
     } in
-    subst (AreBetween task now (with_parts name x costs)) same.1 (subst (λ y. AreBetween task now (with_parts name y costs) t.1) same.0 all)
-
-ended_read : (metric : Bool) (now : Unread) (n : ℕ) (after : Unread) → cost_and_end metric now ≡ Ok (n, after) → TakesLines now (numeral n ∷ codes "end_operator" ∷ []) after × (n ≤ 2147483647) × (metric ≡ false → n ≡ 1)
-unfolding cost_and_end
-ended_read metric now n after e =
-    let k = parts (cost metric now) (λ n. fixed (codes "end_operator") >> given n) n after e in
-    let h = parts (fixed (codes "end_operator") k.1) (λ _. given k.0) n after k.3 in
-    let same = read_same k.0 n h.1 after h.3 in
-    let costs = cost_read metric now k.0 k.1 k.2 in
-    let lines : TakesLines now (numeral k.0 ∷ codes "end_operator" ∷ []) h.1 = then_lines now k.1 h.1 (numeral k.0 ∷ []) (codes "end_operator" ∷ []) costs.0 (fixed_is (codes "end_operator") k.1 h.0 h.1 h.2) in
-    let all : TakesLines now (numeral k.0 ∷ codes "end_operator" ∷ []) h.1 × (k.0 ≤ 2147483647) × (metric ≡ false → k.0 ≡ 1) = (lines, costs.1, costs.2) in
-    let moved = subst (λ m. TakesLines now (numeral m ∷ codes "end_operator" ∷ []) h.1 × (m ≤ 2147483647) × (metric ≡ false → m ≡ 1)) same.0 all in
-    (subst (λ a. TakesLines now (numeral n ∷ codes "end_operator" ∷ []) a) same.1 moved.0, moved.1, moved.2)
-
--- the three together
-three_steps : (first name number last : Line) (between : List Line) (a b c d : Unread) → TakesLines a (first ∷ name ∷ []) b → TakesLines b between c → TakesLines c (number ∷ last ∷ []) d → TakesLines a ((first ∷ name ∷ (between ++ number ∷ [])) ++ last ∷ []) d
-three_steps first name number last between a b c d x y z =
-    subst (λ l. TakesLines a (first ∷ name ∷ l) d) (sym (append_assoc between (number ∷ []) (last ∷ [])))
-    (then_lines a b d (first ∷ name ∷ []) (between ++ number ∷ last ∷ []) x (then_lines b c d between (number ∷ last ∷ []) y z))
+    subst (IsAfterName metric task name now o) same.1 (subst (λ o. IsAfterName metric task name now o h.1) same.0 all)
 
 pub operator_read : (metric : Bool) (task : Task) (now : Unread) (o : Operator) (after : Unread) → IsClean now → operator metric task now ≡ Ok (o, after)
     → (written : Line) × (less_space written ≡ o.name) × TakesLines now (operator_lines (named o written)) after × IsGood metric task o
+unfolding operator after_name
 operator_read metric task now o after clean e =
-    let a = parts (begun_name now) (λ name. conditions_and_effects task >>= λ parts. cost_and_end metric >>= λ n. given (with_parts name parts n)) o after (sym (in_steps metric task now) ∙ e) in
-    let b = parts (conditions_and_effects task a.1) (λ parts. cost_and_end metric >>= λ n. given (with_parts a.0 parts n)) o after a.3 in
-    let c = parts (cost_and_end metric b.1) (λ n. given (with_parts a.0 b.0 n)) o after b.3 in
-    let same = read_same (with_parts a.0 b.0 c.0) o c.1 after c.3 in
-    let called = begun_read now a.0 a.1 clean a.2 in
-    let one : Operator = with_parts called.0 b.0 c.0 in
-    let between : AreBetween task a.1 one b.1 = between_read task a.1 b.0 b.1 called.0 c.0 b.2 in
-    let costs = ended_read metric b.1 c.0 c.1 c.2 in
-    let whole : TakesLines now (operator_lines one) c.1 = three_steps (codes "begin_operator") called.0 (numeral c.0) (codes "end_operator") (counted pair_lines (prevail one) ++ counted (λ e. effect_line one e ∷ []) one.effects) now a.1 b.1 c.1 called.3 between.taken costs.0 in
-    let good : IsGood metric task (with_parts a.0 b.0 c.0) = record { name = called.2; conditions = between.conditions; effects = between.effects; cost = costs.1; unit_cost = costs.2 } in
-    let result : (less_space called.0 ≡ a.0) × TakesLines now (operator_lines one) c.1 × IsGood metric task (with_parts a.0 b.0 c.0) = (called.1, whole, good) in
-    let moved = subst (λ w. (less_space called.0 ≡ w.name) × TakesLines now (operator_lines (named w called.0)) c.1 × IsGood metric task w) same.0 result in
-    (called.0, moved.0, subst (λ n. TakesLines now (operator_lines (named o called.0)) n) same.1 moved.1, moved.2)
+    let b = parts ((fixed (codes "begin_operator") >> name) now) (after_name metric task) o after e in
+    let a = parts (fixed (codes "begin_operator") now) (λ _. name) b.0 b.1 b.2 in
+    let begun = fixed_is (codes "begin_operator") now a.0 a.1 a.2 in
+    let called = name_read a.1 b.0 b.1 (clean_after now (codes "begin_operator" ∷ []) a.1 begun clean) a.3 in
+    let rest = after_name_read metric task b.0 b.1 o after b.3 in
+    let head : TakesLines now (codes "begin_operator" ∷ called.0 ∷ []) b.1 = then_lines now a.1 b.1 (codes "begin_operator" ∷ []) (called.0 ∷ []) begun called.3 in
+    (called.0, called.1 ∙ sym rest.called, then_lines now b.1 after (codes "begin_operator" ∷ called.0 ∷ []) ((counted pair_lines (prevail o) ++ counted (λ e. effect_line o e ∷ []) o.effects ++ numeral o.cost ∷ []) ++ codes "end_operator" ∷ []) head rest.taken, rest.good called.2)
 
 -- operators in lines, some names with one space more
 pub record AreGood (metric : Bool) (task : Task) (start : Unread) (os : List Operator) (now : Unread) : Type 0 where
@@ -297,9 +238,9 @@ rules_read variables state now rs after e =
     let len : a.0 ≡ length rs = omega (arith, all.1) in
     (subst (λ n. TakesLines now (numeral n ∷ flat_map rule_lines rs) after) len (then_lines now a.1 after (numeral a.0 ∷ []) (flat_map rule_lines rs) (number_line_is now a.0 a.1 a.2).0 all.0.taken), all.0.are, set_alike rs all.0.alike)
 
--- the lines between, by what was read
-pub between_is : (task : Task) (n0 n1 n2 n3 : Unread) (pairs : List Pair) (count : ℕ) (told : List Told)
-    → conditions task n0 ≡ Ok (pairs, n1) → number_line n1 ≡ Ok (count, n2) → listed (λ earlier. line (effect task pairs earlier)) count [] n2 ≡ Ok (told, n3)
-    → conditions_and_effects task n0 ≡ Ok ((required (length task.variables) pairs told, map (λ (t : Told). t.0) told), n3)
-unfolding conditions_and_effects
-between_is task n0 n1 n2 n3 pairs count told e1 e2 e3 = rw (e1, e2, e3) refl
+-- an operator after its name, by its parts
+pub after_name_is : (metric : Bool) (task : Task) (name : Line) (n0 n1 n2 n3 n4 n5 : Unread) (pairs : List Pair) (count : ℕ) (told : List Told) (costs : ℕ)
+    → conditions task n0 ≡ Ok (pairs, n1) → number_line n1 ≡ Ok (count, n2) → listed (λ earlier. line (effect task pairs earlier)) count [] n2 ≡ Ok (told, n3) → cost metric n3 ≡ Ok (costs, n4) → fixed (codes "end_operator") n4 ≡ Ok (tt, n5)
+    → after_name metric task name n0 ≡ Ok (record { name = name; conditions = required (length task.variables) pairs told; effects = map (λ (t : Told). t.0) told; cost = costs }, n5)
+unfolding after_name
+after_name_is metric task name n0 n1 n2 n3 n4 n5 pairs count told costs e1 e2 e3 e4 e5 = rw (e1, e2, e3, e4, e5) refl

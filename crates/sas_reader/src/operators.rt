@@ -13,17 +13,16 @@ use crate::parts::{conditions, effect_conditions, value};
 use crate::reader::Reader;
 use crate::requirements::Requirements;
 use crate::values::{is_value, layer_of};
-use sas_task::{Effect, List, Operator, Pair, Text, Variable};
+use sas_task::{Effect, List, Operator, Pair, Variable};
 use std::alloc::Global;
 
 /// The line of an operator's name, which may have one space more at its end.
 #[tactic(auto, unfolding(crate::specs::Operators::name))]
-fn name(alloc: Global, reader: &mut Reader<'_>) -> Result<Text, ReadTaskEnd>
-    ensures { Gives (λ x. x) result reader.new (operators.name reader.old) }
+fn name<'a>(reader: &mut Reader<'a>) -> Result<&'a [u8], ReadTaskEnd>
+    ensures { Gives (λ name. name.now) result reader.new (operators.name reader.old) }
 {
     let name = less_space(reader.next_line()?);
-    reader.passing(is_name(name), ())?;
-    Ok(text(alloc, name)?)
+    reader.passing(is_name(name), name)
 }
 
 /// A word that is a value of the variable, or -1.
@@ -110,41 +109,34 @@ fn cost(reader: &mut Reader<'_>, metric: bool) -> Result<u64, ReadTaskEnd>
     reader.passing(cost <= 2_147_483_647 && (metric || cost == 1), cost)
 }
 
-/// The first two lines of an operator: its name.
-#[tactic(auto, unfolding(crate::specs::Tables::begun_name))]
-fn begun_name(alloc: Global, reader: &mut Reader<'_>) -> Result<Text, ReadTaskEnd>
-    ensures { Gives (λ x. x) result reader.new (steps.begun_name reader.old) }
-{
-    reader.fixed(b"begin_operator")?;
-    name(alloc, reader)
-}
-
-/// The prevail conditions and the effect lines of an operator: its conditions and its effects.
-#[tactic(auto, unfolding(crate::specs::Tables::conditions_and_effects))]
-fn conditions_and_effects(
+/// The lines of an operator after its name.
+#[tactic(auto, unfolding(crate::specs::Tables::after_name))]
+fn after_name(
     alloc: Global,
     reader: &mut Reader<'_>,
+    metric: bool,
     variables: &[Variable],
-) -> Result<(List<Pair>, List<Effect>), ReadTaskEnd>
-    ensures { Gives (λ x. x) result reader.new (steps.conditions_and_effects (so_far variables.now []) reader.old) }
+    name: &[u8],
+) -> Result<Operator, ReadTaskEnd>
+    ensures { Gives (λ x. x) result reader.new (steps.after_name metric (so_far variables.now []) name.now reader.old) }
 {
     let prevail = conditions(alloc, reader, variables)?;
     let count = reader.number_line()?;
     let required = effect_lines(alloc, reader, variables, prevail, count)?;
-    Ok(required.into_parts(alloc)?)
-}
-
-/// The last two lines of an operator: its cost.
-#[tactic(auto, unfolding(crate::specs::Tables::cost_and_end))]
-fn cost_and_end(reader: &mut Reader<'_>, metric: bool) -> Result<u64, ReadTaskEnd>
-    ensures { Gives (λ x. x) result reader.new (steps.cost_and_end metric reader.old) }
-{
     let cost = cost(reader, metric)?;
     reader.fixed(b"end_operator")?;
-    Ok(cost)
+    let name = text(alloc, name)?;
+    let (conditions, effects) = required.into_parts(alloc)?;
+    Ok(Operator {
+        name,
+        conditions,
+        effects,
+        cost,
+    })
 }
 
 /// The lines of an operator.
+#[tactic(auto, unfolding(crate::specs::Operators::operator))]
 fn operator(
     alloc: Global,
     reader: &mut Reader<'_>,
@@ -153,15 +145,9 @@ fn operator(
 ) -> Result<Operator, ReadTaskEnd>
     ensures { Gives (λ x. x) result reader.new (operators.operator metric (so_far variables.now []) reader.old) }
 {
-    let name = begun_name(alloc, reader)?;
-    let (conditions, effects) = conditions_and_effects(alloc, reader, variables)?;
-    let cost = cost_and_end(reader, metric)?;
-    Ok(Operator {
-        name,
-        conditions,
-        effects,
-        cost,
-    })
+    reader.fixed(b"begin_operator")?;
+    let name = name(reader)?;
+    after_name(alloc, reader, metric, variables, name)
 }
 
 /// So many operators.
