@@ -30,7 +30,14 @@ fn closing(alloc: Global, pairs: &[Ends]) -> Result<Vec<bool>, AllocError>
     ensures { IfOk result (λ answers. answers.items ≡ map (closes (links_of pairs.now)) (links_of pairs.now)) }
 {
     let names = names_of(alloc, pairs)?;
-    let arcs = arcs_of(alloc, &names, pairs)?;
+    closing_among(alloc, &names, pairs)
+}
+
+/// The same by searches among these names.
+fn closing_among(alloc: Global, names: &Names, pairs: &[Ends]) -> Result<Vec<bool>, AllocError>
+    ensures { IfOk result (λ answers. answers.items ≡ map (closes (links_of pairs.now)) (links_of pairs.now)) }
+{
+    let arcs = arcs_of(alloc, names, pairs)?;
     let searches = Searches::new(alloc, names.len(), &arcs)?;
     if searches.are_right(names.len(), &arcs) {
         searches.stay(alloc, &arcs)
@@ -70,10 +77,15 @@ fn leads(pairs: &[Ends], steps: usize, from: &[u8], to: &[u8]) -> bool
 fn names_of<'a>(alloc: Global, pairs: &[Ends<'a>]) -> Result<Names<'a>, AllocError> {
     let mut names = Names::new(alloc);
     for pair in pairs {
-        names.add(pair.from)?;
-        names.add(pair.to)?;
+        add_ends(&mut names, pair)?;
     }
     Ok(names)
+}
+
+fn add_ends<'a>(names: &mut Names<'a>, pair: &Ends<'a>) -> Result<(), AllocError> {
+    names.add(pair.from)?;
+    names.add(pair.to)?;
+    Ok(())
 }
 
 /// The links as arcs between the positions of the names.
