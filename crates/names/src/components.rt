@@ -33,20 +33,37 @@ pub struct Searches {
 impl Searches {
     /// Searches all numbers below `count`. What they find is right; no contract says so, and `are_right` tells.
     pub fn new(alloc: Global, count: usize, arcs: &[Arc]) -> Result<Searches, AllocError> {
-        let mut along = Search::new(alloc, count, arcs)?;
-        for start in 0..count {
-            along.search_from(start)?;
-        }
+        let along = search_along(alloc, count, arcs)?;
         let turned = turned(alloc, arcs)?;
-        let mut against = Search::new(alloc, count, turned.as_slice())?;
-        for start in along.left.iter().rev() {
-            against.search_from(*start)?;
-        }
+        let against = search_back(alloc, count, turned.as_slice(), along.left.as_slice())?;
         Ok(Searches {
             along: along.places,
-            against: against.places,
+            against,
         })
     }
+}
+
+/// Searches from all numbers below `count`, in order.
+fn search_along(alloc: Global, count: usize, arcs: &[Arc]) -> Result<Search<'_>, AllocError> {
+    let mut search = Search::new(alloc, count, arcs)?;
+    for start in 0..count {
+        search.search_from(start)?;
+    }
+    Ok(search)
+}
+
+/// The places of a search from these numbers, the last one first.
+fn search_back(
+    alloc: Global,
+    count: usize,
+    arcs: &[Arc],
+    starts: &[usize],
+) -> Result<Vec<Option<Place>>, AllocError> {
+    let mut search = Search::new(alloc, count, arcs)?;
+    for start in starts.iter().rev() {
+        search.search_from(*start)?;
+    }
+    Ok(search.places)
 }
 
 fn turned(alloc: Global, arcs: &[Arc]) -> Result<Vec<Arc>, AllocError> {
