@@ -1,9 +1,11 @@
 // The restriction as a whole.
 
-ghost use Rattle.std.specs.Prelude.{◌≡◌, ◌++◌, ◌<◌, Bool, [], ◌∷◌, map, length, All, IfOk, OnOk, slice_index};
+ghost use Rattle.std.specs.Prelude.{◌≡◌, ◌++◌, ◌<◌, Bool, [], ◌∷◌, map, filter, length, All, IfOk, OnOk, slice_index};
 ghost use Rattle.std.specs.Option.{option_map_or};
 ghost use Rattle.sas_task.specs.declared.parts.Operator.{Operator as AnOperator};
 ghost use Rattle.sas_task.specs.Valid.{IsValid};
+ghost use Rattle.sas_task.specs.Orders.{operator_cmp};
+ghost use Rattle.sas_orders.specs.InOrder.{arranged};
 ghost use Rattle.sas_restriction.specs.Listed.{chosen, with_operators};
 ghost use Rattle.sas_restriction.specs.Choice.{IsChoice};
 ghost use Rattle.sas_restriction.specs.Choice as choice;
@@ -166,6 +168,22 @@ fn beside_operators(
     })
 }
 
+/// What is left of the operators that stay, in order. The marks tell which operators are left.
+fn whole_operators(
+    alloc: Global,
+    once: Once,
+    shown: &Chosen,
+    marks: &[bool],
+    old: List<Operator>,
+) -> Result<List<Operator>, AllocError>
+    requires { length marks.now ≡ length old }
+    ensures { IfOk result (λ operators. (leaves : AnOperator → Bool) → marks.now ≡ map leaves old →
+        operators ≡ arranged once.operators operator_cmp (map (restriction.new_operator once (with_operators shown.now leaves)) (filter (choice.operator_stays (with_operators shown.now leaves)) old))) }
+{
+    let operators = operators_left(alloc, once, shown, marks, old.into_vec())?;
+    Ok(List::from_vec(arrange(once.operators, operators)?))
+}
+
 /// The restriction of the task to these variables, values and operators, with all lists in order. The marks tell which
 /// operators are left; the lists of those are handed on. `laws::restriction_keeps` says when the restriction may stand
 /// for the task. Where memory is wanting, the task is dropped.
@@ -181,12 +199,8 @@ pub fn into_restriction(
         new ≡ restriction.restriction once (with_operators shown.now leaves) task) }
 {
     let beside = beside_operators(alloc, once, shown, &task)?;
-    let old = task.into_operators().into_vec();
-    let operators = arrange(
-        once.operators,
-        operators_left(alloc, once, shown, marks, old)?,
-    )?;
-    Ok(beside.with(List::from_vec(operators)))
+    let operators = whole_operators(alloc, once, shown, marks, task.into_operators())?;
+    Ok(beside.with(operators))
 }
 
 /// The same of a task that stays, of which a copy is restricted.

@@ -15,10 +15,9 @@ use Rattle.sas_restriction.proofs.whole.into_restriction.Goals as goal
 pub beside_operators-requires : goal.beside_operators-requires
 beside_operators-requires c = c.requires.marks.2.inside
 
-pub operators_left-requires : goal.operators_left-requires
-operators_left-requires c =
-    let old = c.into_vec-old.ensures ∙ c.into_operators.ensures in
-    ap length c.requires.marks.1 ∙ length-map c.args.task.operators c.requires.marks.0 ∙ sym (ap length old)
+pub whole_operators-requires : goal.whole_operators-requires
+whole_operators-requires c =
+    ap length c.requires.marks.1 ∙ length-map c.args.task.operators c.requires.marks.0 ∙ sym (ap length c.into_operators.ensures)
 
 pub with-requires : goal.with-requires
 with-requires c =
@@ -26,16 +25,14 @@ with-requires c =
     let left = with_operators c.args.shown.now leaves in
     let valid = subst IsValid c.task.view_is c.task.invariant in
     let choice = c.requires.marks.2 in
-    let old = c.into_vec-old.ensures ∙ c.into_operators.ensures in
-    let marked = c.requires.marks.1 ∙ ap (map leaves) (sym old) in
-    let operators = c.from_vec.ensures ∙ c.in_ok-operators.ensures ∙ ap (arranged c.args.once.operators operator_cmp) (c.in_ok-operators_left.ensures leaves marked ∙ ap (λ os. map (new_operator c.args.once left) (filter (operator_stays left) os)) old) in
-    subst IsValid (sym (joined c.args.once left c.args.task c.in_ok-beside.beside c.from_vec.result c.in_ok-beside.ensures operators))
+    let old = c.into_operators.ensures in
+    let operators = c.in_ok-operators.ensures leaves (c.requires.marks.1 ∙ ap (map leaves) (sym old)) ∙ ap (λ os. arranged c.args.once.operators operator_cmp (map (new_operator c.args.once left) (filter (operator_stays left) os))) old in
+    subst IsValid (sym (joined c.args.once left c.args.task c.in_ok-beside.beside c.in_ok-operators.operators c.in_ok-beside.ensures operators))
     (restriction_valid left c.args.task (restriction c.args.once left c.args.task) valid choice (restricts c.args.once left c.args.task valid choice))
 
 pub returns : goal.returns
 returns c leaves marks =
     let left = with_operators c.args.shown.now leaves in
-    let old = c.into_vec-old.ensures ∙ c.into_operators.ensures in
-    let marked = marks ∙ ap (map leaves) (sym old) in
-    let operators = c.from_vec.ensures ∙ c.in_ok-operators.ensures ∙ ap (arranged c.args.once.operators operator_cmp) (c.in_ok-operators_left.ensures leaves marked ∙ ap (λ os. map (new_operator c.args.once left) (filter (operator_stays left) os)) old) in
-    c.with.ensures ∙ joined c.args.once left c.args.task c.in_ok-beside.beside c.from_vec.result c.in_ok-beside.ensures operators
+    let old = c.into_operators.ensures in
+    let operators = c.in_ok-operators.ensures leaves (marks ∙ ap (map leaves) (sym old)) ∙ ap (λ os. arranged c.args.once.operators operator_cmp (map (new_operator c.args.once left) (filter (operator_stays left) os))) old in
+    c.with.ensures ∙ joined c.args.once left c.args.task c.in_ok-beside.beside c.in_ok-operators.operators c.in_ok-beside.ensures operators
