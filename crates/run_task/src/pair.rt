@@ -42,11 +42,7 @@ pub struct Made {
 
 /// The task that a pair means, stage by stage, with as many candidates for invariants as the settings say. Where memory is
 /// wanting, there is none.
-pub fn task_of_pair(
-    alloc: Global,
-    checked: Checked,
-    settings: Settings,
-) -> Result<Made, AllocError>
+pub fn task_of_pair(alloc: Global, checked: Checked, settings: Settings) -> Result<Made, AllocError>
     requires { IsChecked checked }
     ensures { IfOk result (λ made. IsTaskOf checked settings [] made.found made.task) }
 {
