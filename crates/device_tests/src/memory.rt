@@ -36,12 +36,17 @@ fn is_absent(files: &MemFiles, name: &str) -> bool {
     files.content(name).is_none()
 }
 
-fn three_files(alloc: Global) -> Result<MemFiles, AllocError> {
-    let mut files = MemFiles::new(alloc);
+fn add_three(files: &mut MemFiles) -> Result<(), AllocError> {
     files.add("first", b"abcde")?;
     files.add("second", b"")?;
     files.add("first", b"vwxyz")?;
     files.add("out", b"older")?;
+    Ok(())
+}
+
+fn three_files(alloc: Global) -> Result<MemFiles, AllocError> {
+    let mut files = MemFiles::new(alloc);
+    add_three(&mut files)?;
     Ok(files)
 }
 

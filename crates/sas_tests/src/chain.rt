@@ -92,13 +92,27 @@ fn chain(alloc: Global, count: u64, reversed: bool) -> Result<SasTask, AllocErro
 /// How many values the variable has.
 const LENGTH: u64 = 20000;
 
+/// The text of the projection of the reversed chain.
+fn projected(alloc: Global) -> Result<Vec<u8>, AllocError> {
+    let new = simplify(alloc, chain(alloc, LENGTH, true)?)?;
+    text_of(alloc, &new)
+}
+
+/// The text of the chain.
+fn written(alloc: Global) -> Result<Vec<u8>, AllocError> {
+    let task = chain(alloc, LENGTH, false)?;
+    text_of(alloc, &task)
+}
+
+fn are_equal(alloc: Global) -> Result<bool, AllocError> {
+    let found = projected(alloc)?;
+    let expected = written(alloc)?;
+    Ok(found.as_slice() == expected.as_slice())
+}
+
 /// Each value is kept, and only the order of the operators changes.
 #[test]
 fn a_long_chain_is_put_in_order(rt: HostRuntime) -> Result<(), Fail> {
-    let alloc = rt.alloc();
-    let projected = simplify(alloc, chain(alloc, LENGTH, true)?)?;
-    let found = text_of(alloc, &projected)?;
-    let expected = text_of(alloc, &chain(alloc, LENGTH, false)?)?;
-    assert!(rt; found.as_slice() == expected.as_slice());
+    assert!(rt; are_equal(rt.alloc())?);
     Ok(())
 }
