@@ -5,9 +5,9 @@ ghost use Rattle.std.specs.Prelude.{◌≡◌, ℕ, ◌+◌, ◌^◌, ◌<◌, A
 ghost use Rattle.sas_tests.specs.Chain.{name, place, IsStep};
 ghost use Rattle.sas_tests.specs.Chain as chain;
 
+use crate::tasks::last_text;
 use lists::{List, Text};
 use sas_task::{Effect, Operator, Pair, SasTask, Variable};
-use sas_writer::text_of;
 use std::alloc::{AllocError, Global};
 use std::test::*;
 use task_simplifier::simplify;
@@ -95,18 +95,17 @@ const LENGTH: u64 = 20000;
 /// The text of the projection of the reversed chain.
 fn projected(alloc: Global) -> Result<Vec<u8>, AllocError> {
     let new = simplify(alloc, chain(alloc, LENGTH, true)?)?;
-    text_of(alloc, &new)
+    last_text(alloc, new)
 }
 
 /// The text of the chain.
-fn written(alloc: Global) -> Result<Vec<u8>, AllocError> {
-    let task = chain(alloc, LENGTH, false)?;
-    text_of(alloc, &task)
+fn in_order(alloc: Global) -> Result<Vec<u8>, AllocError> {
+    last_text(alloc, chain(alloc, LENGTH, false)?)
 }
 
 fn are_equal(alloc: Global) -> Result<bool, AllocError> {
     let found = projected(alloc)?;
-    let expected = written(alloc)?;
+    let expected = in_order(alloc)?;
     Ok(found.as_slice() == expected.as_slice())
 }
 

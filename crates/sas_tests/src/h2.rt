@@ -1,7 +1,7 @@
 //! The h2 pass over tasks that are written out by hand.
 
 use crate::examples;
-use crate::tasks::{BACK, GATE, RESTING, SAFE, has_text, have_one_text, task, task_of};
+use crate::tasks::{BACK, GATE, RESTING, SAFE, has_text, task, task_of, written};
 use pass_h2::prune;
 use sas_task::SasTask;
 use std::alloc::{AllocError, Global};
@@ -79,8 +79,9 @@ fn makes(alloc: Global, text: &str, wanted: &str) -> Result<bool, AllocError> {
 
 /// Whether the pass makes the text of the task itself.
 fn stays(alloc: Global, task: SasTask) -> Result<bool, AllocError> {
-    let new = prune(alloc, &task)?;
-    have_one_text(alloc, new, &task)
+    let text = written(alloc, &task)?;
+    let new = pruned(alloc, task)?;
+    has_text(alloc, new, text.as_slice())
 }
 
 #[test]

@@ -1,11 +1,10 @@
 //! Copies, the order of variables, and a book with that pass, applied to the room with a lamp.
 
 use crate::examples::{room, switch};
-use crate::tasks::{gives, has_text, have_one_text, task, task_of};
+use crate::tasks::{gives, has_text, task, task_of, written};
 use order_variables::order_variables;
 use pass_book::{AddEnd, ApplyEnd, Book, Pass, PassKind};
 use sas_task::SasTask;
-use sas_writer::text_of;
 use std::alloc::{AllocError, Global};
 use std::test::*;
 
@@ -46,8 +45,9 @@ const REORDERED: &str = task! {
 
 /// Whether a copy of the task has its text.
 fn copies_have_one_text(alloc: Global, task: SasTask) -> Result<bool, AllocError> {
-    let copy = task.copy(alloc)?;
-    have_one_text(alloc, copy, &task)
+    let text = written(alloc, &task)?;
+    let copy = copy_of(alloc, task)?;
+    has_text(alloc, copy, text.as_slice())
 }
 
 #[test]
@@ -146,15 +146,11 @@ fn an_empty_book_has_no_pass(rt: HostRuntime) -> Result<(), AllocError> {
     Ok(())
 }
 
-/// The text of the task.
-fn written(alloc: Global, task: SasTask) -> Result<Vec<u8>, AllocError> {
-    text_of(alloc, &task)
-}
-
 /// Whether no passes leave the room as it is.
 fn leaves_the_room(alloc: Global, book: &Book) -> Result<bool, AllocError> {
-    let text = written(alloc, room(alloc)?)?;
-    gives(alloc, book, &[], room(alloc)?, text.as_slice())
+    let room = room(alloc)?;
+    let text = written(alloc, &room)?;
+    gives(alloc, book, &[], room, text.as_slice())
 }
 
 /// Whether the book has a pass that finds no memory, and no passes leave the room as it is.

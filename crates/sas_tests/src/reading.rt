@@ -1,8 +1,8 @@
 //! Texts with a line changed, and what reading them gives.
 
+use crate::tasks::has_text;
 use sas_reader::{ReadTaskEnd, SasPlace, read_task};
 use sas_task::SasTask;
-use sas_writer::text_of;
 use std::alloc::{AllocError, Global};
 use std::process::Abort;
 
@@ -48,7 +48,7 @@ pub(crate) fn is_refused(alloc: Global, text: &[u8], line: u64, place: SasPlace)
 /// Whether the text is that of a task whose text is the other.
 pub(crate) fn is_read_as(alloc: Global, text: &[u8], other: &[u8]) -> Result<bool, AllocError> {
     match read(alloc, text) {
-        Ok(task) => Ok(text_of(alloc, &task)?.as_slice() == other),
+        Ok(task) => has_text(alloc, task, other),
         Err(_) => Ok(false),
     }
 }

@@ -1,7 +1,7 @@
 //! The relevance pass over tasks that are written out by hand.
 
 use crate::examples;
-use crate::tasks::{self, has_text, have_one_text, task, task_of};
+use crate::tasks::{self, has_text, task, task_of, written};
 use pass_relevance::relevant;
 use sas_task::SasTask;
 use std::alloc::{AllocError, Global};
@@ -104,8 +104,9 @@ fn leaves(alloc: Global, text: &str, wanted: &str) -> Result<bool, AllocError> {
 
 /// Whether the pass leaves the text of the task itself.
 fn stays(alloc: Global, task: SasTask) -> Result<bool, AllocError> {
-    let new = relevant(alloc, &task)?;
-    have_one_text(alloc, new, &task)
+    let text = written(alloc, &task)?;
+    let new = left(alloc, task)?;
+    has_text(alloc, new, text.as_slice())
 }
 
 #[test]

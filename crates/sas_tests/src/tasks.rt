@@ -141,21 +141,25 @@ pub(crate) fn task_of(alloc: Global, text: &str) -> Result<SasTask, AllocError> 
     }
 }
 
-// A function that is handed a task lets go of it, so that those above it don't.
+/// The text of the task, without what is known of it, so that no proof of a test carries that.
+pub(crate) fn written(alloc: Global, task: &SasTask) -> Result<Vec<u8>, AllocError> {
+    text_of(alloc, task)
+}
+
+// A function that is handed a task lets go of it, so that those above it don't, and by a call, since each end of a function
+// that owns a task costs its proof some seconds.
+
+/// The text of the task, which goes.
+pub(crate) fn last_text(alloc: Global, task: SasTask) -> Result<Vec<u8>, AllocError> {
+    let text = written(alloc, &task);
+    drop(task);
+    text
+}
 
 /// Whether this is the text of the task.
 pub(crate) fn has_text(alloc: Global, task: SasTask, wanted: &[u8]) -> Result<bool, AllocError> {
-    Ok(text_of(alloc, &task)?.as_slice() == wanted)
-}
-
-/// Whether both tasks have one text.
-pub(crate) fn have_one_text(
-    alloc: Global,
-    task: SasTask,
-    other: &SasTask,
-) -> Result<bool, AllocError> {
-    let text = text_of(alloc, other)?;
-    has_text(alloc, task, text.as_slice())
+    let text = last_text(alloc, task)?;
+    Ok(text.as_slice() == wanted)
 }
 
 /// Whether passes of these kinds make a task of this text of the given one.

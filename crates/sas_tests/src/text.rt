@@ -1,7 +1,7 @@
 //! The text of a task, written out by hand.
 
 use crate::examples;
-use sas_writer::text_of;
+use crate::tasks::last_text;
 use std::alloc::Global;
 use std::test::*;
 
@@ -99,7 +99,7 @@ fn is_written(alloc: Global, text: &[u8]) -> bool {
     let Ok(room) = examples::room(alloc) else {
         return false;
     };
-    match text_of(alloc, &room) {
+    match last_text(alloc, room) {
         Ok(written) => written.as_slice() == text,
         Err(_) => false,
     }
