@@ -2,7 +2,6 @@
 
 use names::Links;
 use std::alloc::{AllocError, Global};
-use std::process::Abort;
 use std::test::*;
 
 /// As many numbers, each as the four bytes of a name.
@@ -41,26 +40,33 @@ fn are_told(
     Ok(all_found && others.iter().all(|name| !cycle.has(name)))
 }
 
-fn assert_told(rt: &impl Abort, alloc: Global, names: &[[u8; 4]]) -> Result<(), AllocError> {
+/// Whether a chain of names is no cycle, and a link back from the last one of them to the seventh makes one.
+fn is_closed<'a>(
+    alloc: Global,
+    links: &mut Links<'a>,
+    sixth: &[u8],
+    seventh: &'a [u8],
+    last: &'a [u8],
+) -> Result<bool, AllocError> {
+    let is_open = are_told(alloc, links, &[], &[b"first"])?;
+    links.add(last, seventh)?;
+    links.add(last, b"other")?;
+    let told = are_told(alloc, links, &[seventh, last], &[b"first", b"other", sixth])?;
+    Ok(is_open && told)
+}
+
+fn closes(alloc: Global, names: &[[u8; 4]]) -> Result<bool, AllocError> {
     let (sixth, seventh) = (6_u32.to_be_bytes(), 7_u32.to_be_bytes());
     let last = 99_999_u32.to_be_bytes();
     let mut links = chain(alloc, b"first", names)?;
-    assert!(rt; are_told(alloc, &links, &[], &[b"first"])?);
-    links.add(&last, &seventh)?;
-    links.add(&last, b"other")?;
-    assert!(rt;
-        are_told(
-            alloc,
-            &links,
-            &[&seventh, &last],
-            &[b"first", b"other", &sixth]
-        )?
-    );
-    Ok(())
+    let is_closed = is_closed(alloc, &mut links, &sixth, &seventh, &last);
+    drop(links);
+    is_closed
 }
 
 #[test]
 fn long_chains_are_no_cycles(rt: HostRuntime) -> Result<(), AllocError> {
     let names = numbers(rt.alloc(), 100_000)?;
-    assert_told(&rt, rt.alloc(), &names)
+    assert!(rt; closes(rt.alloc(), &names)?);
+    Ok(())
 }

@@ -96,7 +96,9 @@ fn stated(alloc: Global, problem: &str) -> Result<Vec<GroundAtom>, AllocError> {
     let Ok(problem) = problem_of(alloc, problem) else {
         return Err(AllocError);
     };
-    state(alloc, &problem)
+    let state = state(alloc, &problem);
+    drop(problem);
+    state
 }
 
 fn is_within(atom: &GroundAtom, others: &[GroundAtom]) -> bool {
@@ -111,7 +113,8 @@ fn are_same(atoms: &[GroundAtom], others: &[GroundAtom]) -> bool {
     are_within(atoms, others) && are_within(others, atoms)
 }
 
-// A function owns little, and hands on references: the proof of a function that owns much lets go of it at each end.
+// A function owns little, and hands on references: the proof of a function that owns much lets go of it at each end. What is
+// read goes by a call, which costs the proof next to nothing.
 
 /// Where the step leads from the initial state of the problem.
 fn next_in(
@@ -121,7 +124,10 @@ fn next_in(
     objects: &str,
 ) -> Result<Option<Vec<GroundAtom>>, AllocError> {
     let (domain, problem) = read(alloc, domain, problem)?;
-    after_step(alloc, &domain, &problem, objects)
+    let next = after_step(alloc, &domain, &problem, objects);
+    drop(domain);
+    drop(problem);
+    next
 }
 
 /// Where the step leads from the state with these entries.
@@ -302,7 +308,10 @@ fn cost(
     object: &str,
 ) -> Result<Option<u64>, AllocError> {
     let (domain, problem) = read(alloc, domain, problem)?;
-    cost_in(alloc, &domain, &problem, object)
+    let cost = cost_in(alloc, &domain, &problem, object);
+    drop(domain);
+    drop(problem);
+    cost
 }
 
 const FIVE: &str = "(define (domain five) (:predicates (p ?x))
@@ -362,7 +371,10 @@ fn are_given_at_first(
 
 fn is_full_in(alloc: Global, problem: &str, derived: &[GroundAtom]) -> Result<bool, AllocError> {
     let (domain, problem) = read(alloc, LIGHT, problem)?;
-    are_given_at_first(alloc, &domain, &problem, derived)
+    let are_given = are_given_at_first(alloc, &domain, &problem, derived);
+    drop(domain);
+    drop(problem);
+    are_given
 }
 
 /// Whether the entries, over the objects `a` of type `t` and `b` and `c` of type `u`, are those of a full state.
@@ -411,11 +423,14 @@ fn is_reached(alloc: Global, domain: &Domain, problem: &Problem) -> Result<bool,
 
 /// Whether the goal holds in the initial state of a problem with the boat `ship`, (p) twice and (not (q)).
 fn holds_at_first(alloc: Global, goal: &str) -> Result<bool, AllocError> {
-    let problem = format!(in alloc;
+    let text = format!(in alloc;
         "(define (problem p) (:domain d) (:objects ship - boat) (:init (p) (p) (not (q))) (:goal {goal}))"
     )?;
-    let (domain, problem) = read(alloc, PORT, &problem)?;
-    is_reached(alloc, &domain, &problem)
+    let (domain, problem) = read(alloc, PORT, &text)?;
+    let holds = is_reached(alloc, &domain, &problem);
+    drop(domain);
+    drop(problem);
+    holds
 }
 
 static CONDITIONS: &[(&str, bool)] = &[

@@ -57,11 +57,21 @@ fn is_lamp(problem: &Problem) -> bool {
 }
 
 fn is_switch_read(alloc: Global) -> bool {
-    matches!(&domain_of(alloc, DOMAIN), Ok(domain) if is_switch(domain))
+    let Ok(domain) = domain_of(alloc, DOMAIN) else {
+        return false;
+    };
+    let is_read = is_switch(&domain);
+    drop(domain);
+    is_read
 }
 
 fn is_lamp_read(alloc: Global) -> bool {
-    matches!(&problem_of(alloc, PROBLEM), Ok(problem) if is_lamp(problem))
+    let Ok(problem) = problem_of(alloc, PROBLEM) else {
+        return false;
+    };
+    let is_read = is_lamp(&problem);
+    drop(problem);
+    is_read
 }
 
 #[test]
