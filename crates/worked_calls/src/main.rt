@@ -95,5 +95,6 @@ fn main(rt: HostRuntime) -> Ended {
     let mut texts = Texts::new(rt.alloc());
     // A line that can't be printed is missing from the stored output.
     let _told = tell_files(&rt, &mut texts);
+    drop(texts);
     run(&rt)
 }

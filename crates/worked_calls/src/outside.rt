@@ -80,7 +80,7 @@ impl Outside {
     /// How the call with these words ends, by this book: `empty`, `wanting memory` or, else, one of every pass.
     pub fn answer(&mut self, alloc: Global, words: &str, book: &str) -> Result<Status, AllocError> {
         match book {
-            "empty" => self.answer_by(alloc, words, &Book::new(alloc)),
+            "empty" => self.answer_by_last(alloc, words, Book::new(alloc)),
             "wanting memory" => self.answer_in_want(alloc, words),
             _ => self.answer_by_all(alloc, words),
         }
@@ -94,7 +94,7 @@ impl Outside {
         if book.add(Pass { kind, run }).is_err() {
             return Err(AllocError);
         }
-        self.answer_by(alloc, words, &book)
+        self.answer_by_last(alloc, words, book)
     }
 
     /// The same, with a book of every pass.
@@ -115,11 +115,19 @@ impl Outside {
         if !(has_order && has_relevance && has_h2) {
             return Err(AllocError);
         }
-        self.answer_by(alloc, words, &book)
+        self.answer_by_last(alloc, words, book)
     }
 
-    fn answer_by(&mut self, alloc: Global, words: &str, book: &Book) -> Result<Status, AllocError> {
-        answer(alloc, words, &mut self.files, &mut self.console, book)
+    /// The same, with this book, which goes.
+    fn answer_by_last(
+        &mut self,
+        alloc: Global,
+        words: &str,
+        book: Book,
+    ) -> Result<Status, AllocError> {
+        let status = answer(alloc, words, &mut self.files, &mut self.console, &book);
+        drop(book);
+        status
     }
 
     /// What the file of this name holds, if there is one.

@@ -53,7 +53,9 @@ impl<'a> Call<'a> {
             return Ok(differs(NOT_UNDERSTOOD, at));
         }
         let mut outside = Outside::new(alloc);
-        self.first_other_in(alloc, &mut outside)
+        let other = self.first_other_in(alloc, &mut outside);
+        drop(outside);
+        other
     }
 
     fn first_other_in(
@@ -71,7 +73,9 @@ impl<'a> Call<'a> {
     /// Whether this call, performed once more, ends as it should and writes what it wrote before.
     fn writes_again(&self, alloc: Global, before: &Outside) -> Result<bool, AllocError> {
         let mut outside = Outside::new(alloc);
-        self.writes_again_in(alloc, &mut outside, before)
+        let writes_again = self.writes_again_in(alloc, &mut outside, before);
+        drop(outside);
+        writes_again
     }
 
     fn writes_again_in(

@@ -15,7 +15,9 @@ fn status(rt: &HostRuntime, words: &str) -> Result<Status, AllocError> {
     let mut files = RealFiles::new(rt);
     let mut console = RealConsole::new(rt);
     let book = Book::new(rt.alloc());
-    answer(rt.alloc(), words, &mut files, &mut console, &book)
+    let status = answer(rt.alloc(), words, &mut files, &mut console, &book);
+    drop(book);
+    status
 }
 
 fn holds(rt: &HostRuntime, name: &str, text: &str) -> bool {

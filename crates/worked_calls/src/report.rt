@@ -104,7 +104,9 @@ fn first_other<'a>(
     row: &'a str,
 ) -> Result<Option<Other<'a>>, AllocError> {
     let mut call = Call::new(alloc);
-    call.read_and_perform(alloc, texts, lines, row)
+    let other = call.read_and_perform(alloc, texts, lines, row);
+    drop(call);
+    other
 }
 
 impl<'a> Call<'a> {
