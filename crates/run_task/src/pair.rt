@@ -5,11 +5,12 @@ ghost use Rattle.std.specs.List.{list_all};
 ghost use Rattle.type_checker.specs.Checked.{IsChecked};
 ghost use Rattle.normal_task.specs.Lawful.{IsLawful as IsLawfulNormal};
 ghost use Rattle.invariant_check.specs.WellFormed.{is_well_formed};
+ghost use Rattle.invariant_guess.specs.Trial.{IsFound};
 ghost use Rattle.static_matcher.specs.Lawful.{IsLawful as IsLawfulGround};
 ghost use Rattle.relaxed_reach.specs.Lawful.{IsLawful};
 ghost use Rattle.relaxed_reach.specs.Reachable.{IsReachedTask};
 ghost use Rattle.mutex_groups.specs.Laws.{IsReachedOf};
-ghost use Rattle.run_task.specs.RunTask.{IsRunEncoding, IsTaskOf};
+ghost use Rattle.run_task.specs.RunTask.{IsRunEncoding, IsRunTask, IsTaskOf};
 
 use crate::laws::run_task_translates;
 use axiom_layers::layers;
@@ -46,17 +47,43 @@ pub fn task_of_pair(alloc: Global, checked: Checked, settings: Settings) -> Resu
     requires { IsChecked checked }
     ensures { IfOk result (λ made. IsTaskOf checked settings [] made.found made.task) }
 {
-    finds();
     run_task_translates();
-    let normal = normalise(alloc, &checked)?;
+    let normalised = normalise(alloc, &checked);
     drop(checked);
-    let found = find(alloc, &normal, settings.max_candidates as u64)?;
-    let reached = reached_of(alloc, &normal)?;
-    let encoded = encoded(alloc, &normal, &found, &reached, settings.full_encoding)?;
-    drop(reached);
+    let normal = normalised?;
+    let made = task_of_normal(alloc, &normal, settings);
     drop(normal);
-    let task = simplify(alloc, encoded)?;
+    made
+}
+
+/// The invariants of a normal task, and the task that is made of it with these.
+fn task_of_normal(alloc: Global, normal: &Normal, settings: Settings) -> Result<Made, AllocError>
+    requires { IsLawfulNormal normal.now }
+    ensures { IfOk result (λ made. IsFound normal.now settings.max_candidates made.found × IsRunTask settings.full_encoding normal.now made.found made.task) }
+{
+    finds();
+    let found = find(alloc, normal, settings.max_candidates as u64)?;
+    let task = simplified(alloc, normal, &found, settings.full_encoding)?;
     Ok(Made { found, task })
+}
+
+/// The task that is made of a normal task with these invariants.
+fn simplified(
+    alloc: Global,
+    normal: &Normal,
+    found: &Found,
+    full: bool,
+) -> Result<SasTask, AllocError>
+    requires lawful { IsLawfulNormal normal.now }
+    requires well_formed { list_all (is_well_formed normal.now) found.now.accepted ≡ true }
+    ensures { IfOk result (IsRunTask full normal.now found.now) }
+{
+    let reached = reached_of(alloc, normal)?;
+    let encoding = encoded(alloc, normal, found, &reached, full);
+    drop(reached);
+    let encoded = encoding?;
+    let task = simplify(alloc, encoded)?;
+    Ok(task)
 }
 
 /// The encoding of the reached task over the cover by the groups of the invariants, with `full` by whole groups.
