@@ -7,6 +7,8 @@ ghost use Rattle.command_line.specs.declared.accepted.Settings.{Settings as Made
 ghost use Rattle.command_line.specs.Accepted.{Files as OfFiles, WrittenTask, source_by};
 ghost use Rattle.pass_book.specs.Passes.{IsChain, first_missing};
 ghost use Rattle.messages.specs.Outcome.{status_of, line_of};
+ghost use Rattle.sas_task.specs.Output.{text_of as task_text};
+ghost use Rattle.run_task.specs.RunTask.{summary_of};
 ghost use Rattle.translator.specs.Asked.{asked_by_words};
 ghost use Rattle.translator.specs.Ending.{Gives};
 ghost use Rattle.translator.specs.Run.{text, read, of_source, inputs, titles, all_inputs, all_titles, names_read, ComesTo};
@@ -78,7 +80,25 @@ fn prepared<'a, F: Files>(
     let accepted = &request.accepted;
     let first = made(alloc, accepted, files)?;
     let made = passed(alloc, first, request.passes.as_slice(), book)?;
-    let plan = plan_lines(alloc, accepted.plan, &made.task, files)?;
+    let written = to_be_written(alloc, accepted.plan, &made, files);
+    drop(made);
+    written
+}
+
+/// The text of a task, and what is printed of it, with the lines on the plan of the file that is named.
+fn to_be_written<'a, F: Files>(
+    alloc: Global,
+    plan: Option<&'a str>,
+    made: &Made,
+    files: &mut F,
+) -> Result<Written, End<'a>>
+    ensures ok { IfOk result (λ written. (written.text.items ≡ task_text made.now.task) × (written.report.summary ≡ summary_of made.now.found made.now.task)
+        × IsRead (store F.Files files.old) (store F.Files files.new) (λ held. of_plan held (option_map (λ name. name.now) plan.entry) made.now.task ≡ Gives written.report.plan.items)) }
+    ensures err { IfErr result (StopsReading (store F.Files files.old) (store F.Files files.new) (plan_names (option_map (λ name. name.now) plan.entry)) (plan_names (option_map (λ name. name.now) plan.entry)) (λ held e. of_plan held (option_map (λ name. name.now) plan.entry) made.now.task ≡ e)) }
+    ensures untouched { IsUntouched (store F.Files files.old) (store F.Files files.new) }
+    ensures asks { AsksForNoOther (store F.Files files.old) (store F.Files files.new) (plan_names (option_map (λ name. name.now) plan.entry)) }
+{
+    let plan = plan_lines(alloc, plan, &made.task, files)?;
     let text = text_of(alloc, &made.task)?;
     let summary = summary(&made.found, &made.task);
     Ok(Written {
