@@ -3,7 +3,7 @@
 ghost use Rattle.static_matcher.specs.Lawful.{IsLawful as IsLawfulGround};
 ghost use Rattle.relaxed_reach.specs.Lawful.{IsLawful};
 
-use crate::grounds::{grounds_of, reached_of};
+use crate::grounds::{Grounds, grounds_of, reached_of};
 use crate::lines::{Names, are_named, are_shown, is_goal};
 use crate::texts::{CHAIN, CIRCLE, ENDS, HALF, LAYERS, LOW, ROADS, START};
 use axiom_layers::layers;
@@ -82,19 +82,32 @@ fn is_reached_so(alloc: Global, ground: &Ground, row: &Row) -> bool
     requires { IsLawfulGround ground.now }
 {
     match reached_of(alloc, ground) {
-        Ok(reached) => is_reached(ground, &reached, &row.reached)
-            && has_facts(alloc, &reached, row.facts),
+        Ok(reached) => {
+            let is_so = is_reached(ground, &reached, &row.reached)
+                && has_facts(alloc, &reached, row.facts);
+            drop(reached);
+            is_so
+        }
         Err(_) => false,
     }
+}
+
+fn are_worked(alloc: Global, grounds: &Grounds, row: &Row) -> bool
+    requires whole { IsLawfulGround grounds.now.whole }
+    requires part { IsLawfulGround grounds.now.part }
+{
+    is_ground(&grounds.whole, &row.ground, row.ground.actions)
+        && is_ground(&grounds.part, &row.ground, row.made)
+        && is_reached_so(alloc, &grounds.whole, row)
+        && is_reached_so(alloc, &grounds.part, row)
 }
 
 fn is_worked(alloc: Global, row: &Row) -> bool {
     match grounds_of(alloc, row.domain, row.problem) {
         Some(grounds) => {
-            is_ground(&grounds.whole, &row.ground, row.ground.actions)
-                && is_ground(&grounds.part, &row.ground, row.made)
-                && is_reached_so(alloc, &grounds.whole, row)
-                && is_reached_so(alloc, &grounds.part, row)
+            let are_worked = are_worked(alloc, &grounds, row);
+            drop(grounds);
+            are_worked
         }
         None => false,
     }

@@ -28,7 +28,10 @@ fn both(alloc: Global, normal: &Normal) -> Result<Grounds, AllocError>
     ensures part { IfOk result (λ grounds. IsLawfulGround grounds.part) }
 {
     let whole = instances(alloc, normal)?;
-    let part = reachable(alloc, normal)?;
+    let Ok(part) = reachable(alloc, normal) else {
+        drop(whole);
+        return Err(AllocError);
+    };
     Ok(Grounds { whole, part })
 }
 
@@ -38,7 +41,9 @@ pub(crate) fn grounds_of(alloc: Global, domain: &str, problem: &str) -> Option<G
     ensures part { IfSome result (λ grounds. IsLawfulGround grounds.part) }
 {
     let normal = normal_task(alloc, domain, problem)?;
-    both(alloc, &normal).ok()
+    let grounds = both(alloc, &normal);
+    drop(normal);
+    grounds.ok()
 }
 
 fn reached_by<L: Ledger>(

@@ -36,7 +36,9 @@ fn reached_task(alloc: Global, normal: &Normal) -> Result<Reached, AllocError>
     requires { IsLawful normal.now }
 {
     let ground = instances(alloc, normal)?;
-    reached_of(alloc, &ground)
+    let reached = reached_of(alloc, &ground);
+    drop(ground);
+    reached
 }
 
 fn grouped_by(alloc: Global, normal: &Normal) -> Result<Grouped, AllocError>
@@ -51,5 +53,7 @@ fn grouped_by(alloc: Global, normal: &Normal) -> Result<Grouped, AllocError>
 /// The reached task of two texts without a fault, and the groups of the candidates that are accepted.
 pub(crate) fn grouped_of(alloc: Global, domain: &str, problem: &str) -> Option<Grouped> {
     let normal = normal_task(alloc, domain, problem)?;
-    grouped_by(alloc, &normal).ok()
+    let grouped = grouped_by(alloc, &normal);
+    drop(normal);
+    grouped.ok()
 }

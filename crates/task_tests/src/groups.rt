@@ -41,7 +41,9 @@ fn are_groups(grouped: &Grouped, rows: &[Names]) -> bool {
 
 fn has_groups(alloc: Global, row: &Row) -> Option<bool> {
     let grouped = grouped_of(alloc, row.domain, row.problem)?;
-    Some(are_groups(&grouped, row.groups))
+    let are_groups = are_groups(&grouped, row.groups);
+    drop(grouped);
+    Some(are_groups)
 }
 
 /// Whether the sets are those of the rows, in their order.
@@ -61,7 +63,9 @@ fn is_covered(alloc: Global, grouped: &Grouped, rows: &[Names]) -> Option<bool> 
 
 fn has_cover(alloc: Global, domain: &str, problem: &str, rows: &[Names]) -> Option<bool> {
     let grouped = grouped_of(alloc, domain, problem)?;
-    is_covered(alloc, &grouped, rows)
+    let is_covered = is_covered(alloc, &grouped, rows);
+    drop(grouped);
+    is_covered
 }
 
 /// A pair of texts, and the groups of the candidates that are accepted.

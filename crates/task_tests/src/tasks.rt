@@ -39,7 +39,10 @@ pub fn checked_of(alloc: Global, domain: &str, problem: &str) -> Option<Checked>
     ensures { IfSome result IsChecked }
 {
     let domain = domain_of(alloc, domain)?;
-    let problem = problem_of(alloc, problem)?;
+    let Some(problem) = problem_of(alloc, problem) else {
+        drop(domain);
+        return None;
+    };
     check_pair(alloc, domain, problem).ok()
 }
 
@@ -48,5 +51,7 @@ pub fn normal_task(alloc: Global, domain: &str, problem: &str) -> Option<Normal>
     ensures { IfSome result IsLawful }
 {
     let checked = checked_of(alloc, domain, problem)?;
-    normalise(alloc, &checked).ok()
+    let normal = normalise(alloc, &checked);
+    drop(checked);
+    normal.ok()
 }
