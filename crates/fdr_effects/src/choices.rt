@@ -103,19 +103,10 @@ fn push_copies(
 fn extended(choice: Cond<u64>, more: &Cond<u64>) -> Result<Cond<u64>, AllocError>
     ensures { IfOk result (λ all. all ≡ words.both choice more.now) }
 {
-    let Cond { positive, negative } = choice;
-    Ok(Cond {
-        positive: longer(positive, more.positive.as_slice())?,
-        negative: longer(negative, more.negative.as_slice())?,
-    })
-}
-
-fn longer(front: List<u64>, back: &[u64]) -> Result<List<u64>, AllocError>
-    ensures { IfOk result (λ all. all ≡ front ++ back.now) }
-{
-    let mut all = front.into_vec();
-    all.extend_from_slice(back)?;
-    Ok(List::from_vec(all))
+    let mut all = choice;
+    all.positive.extend_from_slice(more.positive.as_slice())?;
+    all.negative.extend_from_slice(more.negative.as_slice())?;
+    Ok(all)
 }
 
 /// The choice with each of these. The last takes the choice itself, so that one alone copies nothing.

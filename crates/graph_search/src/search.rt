@@ -18,10 +18,15 @@ pub struct Arc {
 }
 
 /// The numbers that are found, in the order in which they were found, with a mark for each number below a count.
-#[derive(Drop)]
 struct Found {
     marks: Vec<bool>,
     numbers: Vec<u64>,
+}
+
+impl Drop for Found {
+    fn drop(self) {
+        let Found { marks: _, numbers: _ } = self;
+    }
 }
 
 impl Model for Found {

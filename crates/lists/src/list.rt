@@ -1,12 +1,18 @@
-ghost use Rattle.std.specs.Prelude.{◌≡◌};
+ghost use Rattle.std.specs.Prelude.{◌≡◌, ◌++◌, ◌∷◌, [], is_ok, IfErr, if◌then◌else◌};
 ghost use Rattle.std.specs.Cmp.Lexicographic.{pointwise, lists_per, lists_equiv};
 
+use std::alloc::{AllocError, AllocFailed};
 use std::marker::Model;
 
 /// A list of items. Contracts see the items, in order.
-#[derive(Drop)]
 pub struct List<T> {
     items: Vec<T>,
+}
+
+impl<T: Drop> Drop for List<T> {
+    fn drop(self) {
+        let List { items: _ } = self;
+    }
 }
 
 impl<T> Model for List<T> {
@@ -50,11 +56,28 @@ impl<T> List<T> {
         self.items.as_slice()
     }
 
+    /// Adds an item at the end. Where memory is wanting, the list stays and the item comes back.
+    pub fn push(&mut self, item: T) -> Result<(), AllocFailed<T>>
+        ensures items { self.new ≡ (if is_ok result then self.old ++ item ∷ [] else self.old) }
+        ensures returned { IfErr result (λ failed. failed.value ≡ item) }
+    {
+        self.items.push(item)
+    }
+
     /// The items, in a `Vec` that may grow.
     pub fn into_vec(self) -> Vec<T>
         ensures { result.items ≡ self }
     {
         let List { items } = self;
         items
+    }
+}
+
+impl<T: Copy> List<T> {
+    /// Adds these items at the end. Where memory is wanting, the list stays.
+    pub fn extend_from_slice(&mut self, more: &[T]) -> Result<(), AllocError>
+        ensures { self.new ≡ (if is_ok result then self.old ++ more.now else self.old) }
+    {
+        self.items.extend_from_slice(more)
     }
 }

@@ -8,9 +8,14 @@ use std::alloc::{AllocFailed, Global};
 use std::marker::Model;
 
 /// A set of names. A look-up goes through a table. Contracts see its names, each once, in the order in which they were added.
-#[derive(Drop)]
 pub struct Names<'a> {
     table: IndexSet<&'a [u8]>,
+}
+
+impl Drop for Names<'_> {
+    fn drop(self) {
+        let Names { table: _ } = self;
+    }
 }
 
 impl<'a> Model for Names<'a> {

@@ -10,9 +10,14 @@ use std::marker::Model;
 
 /// A set of lists of numbers. A look-up goes through a table. Contracts see the lists, each once, in the order in which
 /// they were added.
-#[derive(Drop)]
 pub struct NumberLists {
     table: IndexSet<Vec<u64>>,
+}
+
+impl Drop for NumberLists {
+    fn drop(self) {
+        let NumberLists { table: _ } = self;
+    }
 }
 
 impl Model for NumberLists {

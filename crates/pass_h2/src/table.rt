@@ -13,13 +13,18 @@ use std::marker::Model;
 
 /// A mark for each pair of facts, a bit in the row of the greater of their numbers, and for each fact whether a pair with
 /// it was marked since the marks were settled. The rows take their memory before the first mark is set.
-#[derive(Drop)]
 pub(crate) struct Table {
     facts: Vec<Pair>,
     /// For each variable how many facts come before its own.
     starts: Vec<u64>,
     rows: Vec<Marks>,
     touched: Marks,
+}
+
+impl Drop for Table {
+    fn drop(self) {
+        let Table { facts: _, starts: _, rows: _, touched: _ } = self;
+    }
 }
 
 impl Model for Table {

@@ -52,9 +52,14 @@ impl<'a> Content<'a> {
 ///
 /// The words and lists in it are its nodes. They are numbered from 0 in pre-order: node 0 is the whole list, and
 /// the members of a list come after it, each with what stands in it.
-#[derive(Drop)]
 pub struct Tree<'a> {
     nodes: Vec<Node<'a>>,
+}
+
+impl Drop for Tree<'_> {
+    fn drop(self) {
+        let Tree { nodes: _ } = self;
+    }
 }
 
 impl<'a> Model for Tree<'a> {

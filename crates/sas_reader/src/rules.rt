@@ -19,11 +19,16 @@ use std::collections::BTreeMap;
 use std::marker::Model;
 
 /// The rules that were read so far. Contracts see them as a list.
-#[derive(Drop)]
 struct RulesSoFar {
     rules: Vec<Rule>,
     /// The new value of each variable that they set.
     afters: BTreeMap<u64, u64>,
+}
+
+impl Drop for RulesSoFar {
+    fn drop(self) {
+        let RulesSoFar { rules: _, afters: _ } = self;
+    }
 }
 
 impl Model for RulesSoFar {
@@ -75,7 +80,8 @@ impl RulesSoFar {
     fn into_list(self) -> List<Rule>
         ensures { result ≡ self }
     {
-        List::from_vec(self.rules)
+        let RulesSoFar { rules, afters: _ } = self;
+        List::from_vec(rules)
     }
 }
 

@@ -73,7 +73,6 @@ fn goal(alloc: Global, shown: &Chosen, task: &SasTask) -> Result<List<Pair>, All
 }
 
 /// What a restriction has beside its operators.
-#[derive(Drop)]
 struct Beside {
     metric: bool,
     variables: List<Variable>,
@@ -81,6 +80,19 @@ struct Beside {
     state: List<u64>,
     goal: List<Pair>,
     rules: List<Rule>,
+}
+
+impl Drop for Beside {
+    fn drop(self) {
+        let Beside {
+            metric: _,
+            variables: _,
+            groups: _,
+            state: _,
+            goal: _,
+            rules: _,
+        } = self;
+    }
 }
 
 impl Beside {

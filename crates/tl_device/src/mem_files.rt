@@ -17,7 +17,6 @@ use std::marker::Model;
 ///
 /// A call of `Files` on them takes no memory. A name that no file has makes `open_file` fail, which
 /// isn't counted; reading fails else only where the call is listed.
-#[derive(Drop)]
 pub struct MemFiles {
     alloc: Global,
     entries: Entries,
@@ -27,6 +26,21 @@ pub struct MemFiles {
     calls: FileCalls,
     read_faults: u64,
     write_faults: u64,
+}
+
+impl Drop for MemFiles {
+    fn drop(self) {
+        let MemFiles {
+            alloc: _,
+            entries: _,
+            reading: _,
+            writing: _,
+            most: _,
+            calls: _,
+            read_faults: _,
+            write_faults: _,
+        } = self;
+    }
 }
 
 impl Model for MemFiles {
