@@ -15,7 +15,12 @@ struct Waiting<'a> {
 
 impl Drop for Waiting<'_> {
     fn drop(self) {
-        let Waiting { arcs: _, rest: _, open: _, ready: _ } = self;
+        let Waiting {
+            arcs: _,
+            rest: _,
+            open: _,
+            ready: _,
+        } = self;
     }
 }
 

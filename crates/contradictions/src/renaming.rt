@@ -140,7 +140,10 @@ pub struct Renamed {
 
 impl Drop for Renamed {
     fn drop(self) {
-        let Renamed { condition: _, places: _ } = self;
+        let Renamed {
+            condition: _,
+            places: _,
+        } = self;
     }
 }
 

@@ -18,7 +18,10 @@ pub struct Candidate {
 
 impl Drop for Candidate {
     fn drop(self) {
-        let Candidate { parameters: _, parts: _ } = self;
+        let Candidate {
+            parameters: _,
+            parts: _,
+        } = self;
     }
 }
 
@@ -60,7 +63,11 @@ pub struct Part {
 
 impl Drop for Part {
     fn drop(self) {
-        let Part { predicate: _, places: _, counted: _ } = self;
+        let Part {
+            predicate: _,
+            places: _,
+            counted: _,
+        } = self;
     }
 }
 

@@ -19,7 +19,10 @@ pub struct Index<'a> {
 
 impl Drop for Index<'_> {
     fn drop(self) {
-        let Index { sets: _, of_fact: _ } = self;
+        let Index {
+            sets: _,
+            of_fact: _,
+        } = self;
     }
 }
 

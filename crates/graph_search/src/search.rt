@@ -25,7 +25,10 @@ struct Found {
 
 impl Drop for Found {
     fn drop(self) {
-        let Found { marks: _, numbers: _ } = self;
+        let Found {
+            marks: _,
+            numbers: _,
+        } = self;
     }
 }
 

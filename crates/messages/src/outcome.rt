@@ -87,7 +87,10 @@ pub struct Report {
 
 impl Drop for Report {
     fn drop(self) {
-        let Report { summary: _, plan: _ } = self;
+        let Report {
+            summary: _,
+            plan: _,
+        } = self;
     }
 }
 

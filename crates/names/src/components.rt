@@ -31,7 +31,10 @@ pub struct Searches {
 
 impl Drop for Searches {
     fn drop(self) {
-        let Searches { along: _, against: _ } = self;
+        let Searches {
+            along: _,
+            against: _,
+        } = self;
     }
 }
 

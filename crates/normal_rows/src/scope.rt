@@ -24,7 +24,10 @@ pub struct Scope<'n, 'a> {
 
 impl Drop for Scope<'_, '_> {
     fn drop(self) {
-        let Scope { variables: _, numbers: _ } = self;
+        let Scope {
+            variables: _,
+            numbers: _,
+        } = self;
     }
 }
 

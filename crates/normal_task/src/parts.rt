@@ -19,6 +19,9 @@ pub struct Fresh {
 
 impl Drop for Fresh {
     fn drop(self) {
-        let Fresh { arguments: _, parts: _ } = self;
+        let Fresh {
+            arguments: _,
+            parts: _,
+        } = self;
     }
 }

@@ -18,7 +18,11 @@ pub(crate) struct Hierarchy<'a> {
 
 impl Drop for Hierarchy<'_> {
     fn drop(self) {
-        let Hierarchy { entries: _, supertypes: _, below: _ } = self;
+        let Hierarchy {
+            entries: _,
+            supertypes: _,
+            below: _,
+        } = self;
     }
 }
 

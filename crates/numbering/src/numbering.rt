@@ -27,7 +27,10 @@ pub(crate) struct OfType<'a> {
 
 impl Drop for OfType<'_> {
     fn drop(self) {
-        let OfType { name: _, objects: _ } = self;
+        let OfType {
+            name: _,
+            objects: _,
+        } = self;
     }
 }
 

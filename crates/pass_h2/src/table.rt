@@ -23,7 +23,12 @@ pub(crate) struct Table {
 
 impl Drop for Table {
     fn drop(self) {
-        let Table { facts: _, starts: _, rows: _, touched: _ } = self;
+        let Table {
+            facts: _,
+            starts: _,
+            rows: _,
+            touched: _,
+        } = self;
     }
 }
 

@@ -27,7 +27,10 @@ struct RulesSoFar {
 
 impl Drop for RulesSoFar {
     fn drop(self) {
-        let RulesSoFar { rules: _, afters: _ } = self;
+        let RulesSoFar {
+            rules: _,
+            afters: _,
+        } = self;
     }
 }
 

@@ -24,7 +24,10 @@ struct Room {
 
 impl Drop for Room {
     fn drop(self) {
-        let Room { changed: _, prevail: _ } = self;
+        let Room {
+            changed: _,
+            prevail: _,
+        } = self;
     }
 }
 

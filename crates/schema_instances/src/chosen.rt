@@ -25,7 +25,10 @@ pub struct Candidate<'a> {
 
 impl Drop for Candidate<'_> {
     fn drop(self) {
-        let Candidate { schema: _, objects: _ } = self;
+        let Candidate {
+            schema: _,
+            objects: _,
+        } = self;
     }
 }
 

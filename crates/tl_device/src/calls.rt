@@ -23,7 +23,10 @@ pub(crate) struct Calls {
 
 impl Drop for Calls {
     fn drop(self) {
-        let Calls { made: _, failing: _ } = self;
+        let Calls {
+            made: _,
+            failing: _,
+        } = self;
     }
 }
 
@@ -83,7 +86,12 @@ pub(crate) struct FileCalls {
 
 impl Drop for FileCalls {
     fn drop(self) {
-        let FileCalls { open_file: _, read: _, create_file: _, write: _ } = self;
+        let FileCalls {
+            open_file: _,
+            read: _,
+            create_file: _,
+            write: _,
+        } = self;
     }
 }
 

@@ -18,7 +18,12 @@ pub(crate) struct Entry {
 
 impl Drop for Entry {
     fn drop(self) {
-        let Entry { name: _, bytes: _, exists: _, room: _ } = self;
+        let Entry {
+            name: _,
+            bytes: _,
+            exists: _,
+            room: _,
+        } = self;
     }
 }
 

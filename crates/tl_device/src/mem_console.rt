@@ -20,7 +20,13 @@ pub struct MemConsole {
 
 impl Drop for MemConsole {
     fn drop(self) {
-        let MemConsole { text: _, room: _, most: _, calls: _, faults: _ } = self;
+        let MemConsole {
+            text: _,
+            room: _,
+            most: _,
+            calls: _,
+            faults: _,
+        } = self;
     }
 }
 

@@ -21,7 +21,10 @@ pub(crate) struct Request<'a> {
 
 impl Drop for Request<'_> {
     fn drop(self) {
-        let Request { accepted: _, passes: _ } = self;
+        let Request {
+            accepted: _,
+            passes: _,
+        } = self;
     }
 }
 

@@ -12,9 +12,10 @@ loop-atom-preserved c =
     let i = c.loop-atom.atom-index in
     let atom = c.atom-item.result in
     let told = sym c.number.ensures ∙ c.in-Some.is in
-    let found = cond_some (is_among facts atom) (number_of facts atom) c.in-Some.number told in
-    (c.in_ok-push.ensures.items ∙ number_turn facts atoms i atom c.loop-atom-test.true c.atom-item.is c.loop-atom.numbers.items c.loop-atom.invariant.0 c.in-Some.number told,
-    all_next facts atoms i atom c.loop-atom-test.true c.atom-item.is _ c.loop-atom.invariant.1 true found.0)
+    let found = cond_some (is_among facts atom) (number_of facts atom) c.in-Some.number told in (
+      c.in_ok-push.ensures.items ∙ number_turn facts atoms i atom c.loop-atom-test.true c.atom-item.is c.loop-atom.numbers.items c.loop-atom.invariant.0 c.in-Some.number told,
+      all_next facts atoms i atom c.loop-atom-test.true c.atom-item.is _ c.loop-atom.invariant.1 true found.0,
+    )
 
 pub returns-in_default : goal.returns-in_default
 returns-in_default c =
