@@ -9,22 +9,12 @@ use std::alloc::{AllocError, Global};
 use std::marker::Model;
 
 // A name, what it holds if there is such a file, and how many bytes it can hold when it is written.
+#[derive(Drop)]
 pub(crate) struct Entry {
     name: String,
     bytes: Vec<u8>,
     exists: bool,
     room: Option<u64>,
-}
-
-impl Drop for Entry {
-    fn drop(self) {
-        let Entry {
-            name: _,
-            bytes: _,
-            exists: _,
-            room: _,
-        } = self;
-    }
 }
 
 impl Model for Entry {
