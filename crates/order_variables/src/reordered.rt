@@ -1,20 +1,12 @@
 // The task in the order of its variables.
 
 ghost use Rattle.std.specs.Prelude.{IfOk};
-ghost use Rattle.sas_task.specs.Valid.{IsValid};
 ghost use Rattle.sas_restriction.specs.Reordered.{IsReordered};
 
 use crate::counted::variable_order;
-use sas_restriction::{Once, all_marks, all_values, restrict};
+use sas_restriction::{Once, all_marks, all_values, is_valid, restrict};
 use sas_task::SasTask;
 use std::alloc::{AllocError, Global};
-
-/// Every task is valid. This does nothing: its clause says so.
-fn is_valid(task: &SasTask)
-    ensures { IsValid task.now }
-{
-    task.metric();
-}
 
 /// The task with its variables ordered by how many operators have an effect on them, fewest first, and those with as
 /// many by their old numbers. All lists are in order again. `sas_restriction::laws::reordering_keeps` says what this

@@ -2,7 +2,6 @@
 
 ghost use Rattle.std.specs.Prelude.{◌≡◌, ◌==◌, ◌&&◌, ◌||◌, ◌<◌, true, length, map, filter, is_none, IfOk};
 ghost use Rattle.std.specs.List.{list_all, list_any, range_with_len};
-ghost use Rattle.sas_task.specs.Valid.{IsValid};
 ghost use Rattle.sas_restriction.specs.Everything.{all_values};
 ghost use Rattle.sas_restriction.specs.Listed.{with_operators};
 ghost use Rattle.pass_possible.specs.Possible as possible;
@@ -13,16 +12,9 @@ ghost use Rattle.pass_h2.specs.Search.{found, nothing};
 use crate::search::{is_possible, mark_possible};
 use crate::table::Table;
 use lists::List;
-use sas_restriction::{Chosen, Once, restrict};
+use sas_restriction::{Chosen, Once, is_valid, restrict};
 use sas_task::{Operator, Pair, SasTask};
 use std::alloc::{AllocError, Global};
-
-/// Every task is valid. This does nothing: its clause says so.
-fn is_valid(task: &SasTask)
-    ensures { IsValid task.now }
-{
-    task.metric();
-}
 
 /// Whether no effect of the operator has a condition.
 fn is_unconditional(operator: &Operator) -> bool

@@ -1,20 +1,12 @@
 // The task without what can't influence its goal.
 
 ghost use Rattle.std.specs.Prelude.{◌≡◌, ◌==◌, length, IfOk};
-ghost use Rattle.sas_task.specs.Valid.{IsValid};
 ghost use Rattle.sas_restriction.specs.Reduced.{HasRelevantAlone, IsReduced};
 
 use crate::search::relevant_variables;
-use sas_restriction::{Once, all_values, busy_marks, restrict};
+use sas_restriction::{Once, all_values, busy_marks, is_valid, restrict};
 use sas_task::SasTask;
 use std::alloc::{AllocError, Global};
-
-/// Every task is valid. This does nothing: its clause says so.
-fn is_valid(task: &SasTask)
-    ensures { IsValid task.now }
-{
-    task.metric();
-}
 
 /// The task with its relevant variables alone.
 fn with_relevant_alone(alloc: Global, task: &SasTask) -> Result<SasTask, AllocError>

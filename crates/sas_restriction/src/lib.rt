@@ -12,4 +12,4 @@ mod whole;
 pub use all::{all_marks, all_values};
 pub use chosen::{Chosen, Once};
 pub use parts::busy_marks;
-pub use whole::{into_restriction, restrict};
+pub use whole::{into_restriction, is_valid, restrict};

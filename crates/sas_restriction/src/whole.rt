@@ -196,6 +196,13 @@ fn whole_operators(
     Ok(List::from_vec(arrange(once.operators, operators)?))
 }
 
+/// Every task is valid. This does nothing: its clause says so.
+pub fn is_valid(task: &SasTask)
+    ensures { IsValid task.now }
+{
+    task.metric();
+}
+
 /// The restriction of the task to these variables, values and operators, with all lists in order. The marks tell which
 /// operators are left; the lists of those are handed on. `laws::restriction_keeps` says when the restriction may stand
 /// for the task. Where memory is wanting, the task is dropped.
@@ -210,6 +217,7 @@ pub fn into_restriction(
     ensures { IfOk result (λ new. (leaves : AnOperator → Bool) → marks.now ≡ map leaves task.operators →
         new ≡ restriction.restriction once (with_operators shown.now leaves) task) }
 {
+    is_valid(&task);
     let beside = beside_operators(alloc, once, shown, &task)?;
     let operators = whole_operators(alloc, once, shown, marks, task.into_operators())?;
     Ok(beside.with(operators))

@@ -23,7 +23,7 @@ pub with-requires : goal.with-requires
 with-requires c =
     let leaves = c.requires.marks.0 in
     let left = with_operators c.args.shown.now leaves in
-    let valid = subst IsValid c.task.view_is c.task.invariant in
+    let valid = c.is_valid.ensures in
     let choice = c.requires.marks.2 in
     let old = c.into_operators.ensures in
     let operators = c.in_ok-operators.ensures leaves (c.requires.marks.1 ∙ ap (map leaves) (sym old)) ∙ ap (λ os. arranged c.args.once.operators operator_cmp (map (new_operator c.args.once left) (filter (operator_stays left) os))) old in

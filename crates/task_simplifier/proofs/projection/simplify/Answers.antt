@@ -2,7 +2,6 @@
 use Rattle.std.proofs.Common.{◌≡◌, Bool, map, sym, ap, subst, ◌∙◌}
 use Rattle.std.proofs.lemmas.Result.{IfOk-weaker}
 use Rattle.sas_task.specs.declared.parts.Operator.{Operator}
-use Rattle.sas_task.specs.Valid.{IsValid}
 use Rattle.sas_restriction.specs.Listed.{Listed, chosen, with_operators}
 use Rattle.sas_restriction.specs.Choice.{IsChoice, is_busy}
 use Rattle.sas_restriction.specs.Restriction.{restriction}
@@ -12,7 +11,7 @@ use Rattle.task_simplifier.proofs.projection.simplify.Goals as goal
 
 pub into_restriction-requires : goal.into_restriction-requires
 into_restriction-requires c =
-    let valid = subst IsValid c.task.view_is c.task.invariant in
+    let valid = c.is_valid.ensures in
     let left = c.in_ok-left.ensures in
     let operators = (projected (values_in left.kept) c.args.task).operators in
     record {
