@@ -12,7 +12,7 @@ returns c =
     c.in_ok-predicate_rows.field-0 c.as_slice.result.now (c.as_slice.ensures ∙ c.requires.fresh)
     (c.in_ok-predicate_rows.ensures c.args.numbering.now.problem
     ∙ ap (λ (d : Domain). map (declared_row d c.args.numbering.now.problem) d.predicates ++ fresh_predicates d c.args.numbering.now.problem 0 c.as_slice.result.now) c.domain.ensures)
-    c.schemas.inside.items.items (c.schemas.view_is ∙ c.requires.schemas)
+    c.args.made.schemas c.requires.schemas
     c.in_ok-all_axioms.field-0 c.args.made.axioms c.as_slice-2.result.now (c.as_slice-2.ensures ∙ c.requires.fresh) c.requires.axioms c.in_ok-all_axioms.ensures
     c.as_slice-entries.result.now (c.as_slice-entries.ensures ∙ ap (λ (p : Problem). p.init) c.problem.ensures)
     c.in_ok-stated_atoms.field-0 c.in_ok-stated_atoms.ensures
