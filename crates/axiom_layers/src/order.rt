@@ -3,6 +3,7 @@ use names::{Arc, ArcsBySource};
 use std::alloc::{AllocError, Global};
 
 /// What is left to wait for. Facts are taken one by one, each after the facts on which it rests.
+#[derive(Drop)]
 struct Waiting<'a> {
     arcs: &'a [Arc],
     /// The arcs that weren't taken, by their lower facts.
@@ -11,17 +12,6 @@ struct Waiting<'a> {
     open: Vec<u64>,
     /// The facts that wait for none, and weren't taken.
     ready: Vec<usize>,
-}
-
-impl Drop for Waiting<'_> {
-    fn drop(self) {
-        let Waiting {
-            arcs: _,
-            rest: _,
-            open: _,
-            ready: _,
-        } = self;
-    }
 }
 
 impl<'a> Waiting<'a> {

@@ -133,18 +133,10 @@ pub fn push_denied(
 }
 
 /// The condition and the places of an effect, whose variables are renamed.
+#[derive(Drop)]
 pub struct Renamed {
     pub condition: Vec<Literal>,
     pub places: List<Place>,
-}
-
-impl Drop for Renamed {
-    fn drop(self) {
-        let Renamed {
-            condition: _,
-            places: _,
-        } = self;
-    }
 }
 
 /// The effect's condition and places, their variables renamed.

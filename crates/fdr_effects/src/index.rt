@@ -12,18 +12,10 @@ use std::alloc::{AllocError, Global};
 use std::marker::Model;
 
 /// A cover with the places of each fact, seen as the cover.
+#[derive(Drop)]
 pub struct Index<'a> {
     sets: &'a [List<u64>],
     of_fact: Vec<Vec<Pair>>,
-}
-
-impl Drop for Index<'_> {
-    fn drop(self) {
-        let Index {
-            sets: _,
-            of_fact: _,
-        } = self;
-    }
 }
 
 impl<'a> Model for Index<'a> {

@@ -15,14 +15,9 @@ enum Weight {
 }
 
 /// The weights of instances. Contracts see the instances with their weights.
+#[derive(Drop)]
 pub(crate) struct Weights {
     table: IndexMap<Vec<u64>, Weight>,
-}
-
-impl Drop for Weights {
-    fn drop(self) {
-        let Weights { table: _ } = self;
-    }
 }
 
 impl Model for Weights {

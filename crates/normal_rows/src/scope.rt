@@ -15,20 +15,12 @@ use std::marker::Model;
 
 /// The variables of the lists around a condition. A look-up goes through a table. Contracts see the variables, the
 /// innermost first.
+#[derive(Drop)]
 pub struct Scope<'n, 'a> {
     /// The variables, the outermost first.
     variables: Vec<Variable<'n, 'a>>,
     /// The number of the innermost variable of each name.
     numbers: IndexMap<&'a [u8], u64>,
-}
-
-impl Drop for Scope<'_, '_> {
-    fn drop(self) {
-        let Scope {
-            variables: _,
-            numbers: _,
-        } = self;
-    }
 }
 
 impl<'n, 'a> Model for Scope<'n, 'a> {

@@ -9,21 +9,12 @@ use pddl_parser::{Named, Typed};
 use std::alloc::{AllocError, Global};
 
 /// The entries of `:types`, with a table of those that stand below each type.
+#[derive(Drop)]
 pub(crate) struct Hierarchy<'a> {
     entries: &'a [Typed],
     supertypes: Names<'a>,
     /// For each supertype the positions of the entries below it.
     below: Vec<Vec<usize>>,
-}
-
-impl Drop for Hierarchy<'_> {
-    fn drop(self) {
-        let Hierarchy {
-            entries: _,
-            supertypes: _,
-            below: _,
-        } = self;
-    }
 }
 
 impl<'a> Hierarchy<'a> {

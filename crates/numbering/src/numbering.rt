@@ -20,22 +20,15 @@ use std::marker::Model;
 use type_checker::Checked;
 
 /// The objects of a type, by their numbers.
+#[derive(Drop)]
 pub(crate) struct OfType<'a> {
     name: &'a [u8],
     objects: ObjectRange,
 }
 
-impl Drop for OfType<'_> {
-    fn drop(self) {
-        let OfType {
-            name: _,
-            objects: _,
-        } = self;
-    }
-}
-
 /// The objects, the declared predicates and the declared functions of two files, by their positions. A look-up goes
 /// through a table. Contracts see the two files.
+#[derive(Drop)]
 pub struct Numbering<'a> {
     domain: &'a Domain,
     problem: &'a Problem,
@@ -46,21 +39,6 @@ pub struct Numbering<'a> {
     /// The names of the types whose objects are known, in the order of what is known of them.
     types: Names<'a>,
     of_types: Vec<OfType<'a>>,
-}
-
-impl Drop for Numbering<'_> {
-    fn drop(self) {
-        let Numbering {
-            domain: _,
-            problem: _,
-            objects: _,
-            predicates: _,
-            functions: _,
-            hierarchy: _,
-            types: _,
-            of_types: _,
-        } = self;
-    }
 }
 
 impl<'a> Model for Numbering<'a> {

@@ -18,18 +18,10 @@ use static_matcher::{GroundAction, Tables, condition, cost, shown_objects};
 use std::alloc::{AllocError, Global};
 
 /// A schema with an object for each parameter, of which an instance may be made.
+#[derive(Drop)]
 pub struct Candidate<'a> {
     pub schema: &'a Schema,
     pub objects: List<u64>,
-}
-
-impl Drop for Candidate<'_> {
-    fn drop(self) {
-        let Candidate {
-            schema: _,
-            objects: _,
-        } = self;
-    }
 }
 
 impl<'a> Candidate<'a> {
