@@ -23,7 +23,7 @@ from_parts-requires c =
       operators = c.in_ok-operators.operators;
       rules = c.in_ok-rules.rules;
     } in
-    let encoding = assembled cover mutexes layers reached members task c.requires.members refl (c.in_ok-variables.ensures (length cover)) c.in_ok-groups.ensures (c.in_ok-state.ensures (length cover) above) (c.in_ok-goal.ensures above ∙ ap (λ var. (goal_part var above members).goal) c.variables-2.ensures) c.in_ok-operators.ensures (c.in_ok-rules.ensures above) in
+    let encoding = assembled cover mutexes layers reached members task c.requires.members refl (c.in_ok-variables.ensures (length cover)) c.in_ok-groups.ensures (c.in_ok-state.ensures (length cover) above) (c.in_ok-goal.ensures above ∙ ap (λ var. (goal_part var above members).goal) c.variables.ensures) c.in_ok-operators.ensures (c.in_ok-rules.ensures above) in
     encoding_is_valid reached c.requires.lawful cover c.requires.cover mutexes c.requires.groups layers c.requires.layers c.requires.few task encoding
 
 pub returns : goal.returns
@@ -36,7 +36,7 @@ returns c =
     let above = layer_above reached layers in
     let task = c.from_parts.result in
     let is = c.from_parts.ensures in
-    let encoding = assembled cover mutexes layers reached members task c.requires.members (ap (λ (t : Task). t.metric) is) (ap (λ (t : Task). t.variables) is ∙ c.in_ok-variables.ensures (length cover)) (ap (λ (t : Task). t.groups) is ∙ c.in_ok-groups.ensures) (ap (λ (t : Task). t.state) is ∙ c.in_ok-state.ensures (length cover) above) (ap (λ (t : Task). t.goal) is ∙ c.in_ok-goal.ensures above ∙ ap (λ var. (goal_part var above members).goal) c.variables-2.ensures) (ap (λ (t : Task). t.operators) is ∙ c.in_ok-operators.ensures) (ap (λ (t : Task). t.rules) is ∙ c.in_ok-rules.ensures above) in
+    let encoding = assembled cover mutexes layers reached members task c.requires.members (ap (λ (t : Task). t.metric) is) (ap (λ (t : Task). t.variables) is ∙ c.in_ok-variables.ensures (length cover)) (ap (λ (t : Task). t.groups) is ∙ c.in_ok-groups.ensures) (ap (λ (t : Task). t.state) is ∙ c.in_ok-state.ensures (length cover) above) (ap (λ (t : Task). t.goal) is ∙ c.in_ok-goal.ensures above ∙ ap (λ var. (goal_part var above members).goal) c.variables.ensures) (ap (λ (t : Task). t.operators) is ∙ c.in_ok-operators.ensures) (ap (λ (t : Task). t.rules) is ∙ c.in_ok-rules.ensures above) in
     record {
       encoding = encoding;
       valid = encoding_is_valid reached c.requires.lawful cover c.requires.cover mutexes c.requires.groups layers c.requires.layers c.requires.few task encoding;
