@@ -6,14 +6,9 @@ use std::marker::Model;
 
 /// The numbers of objects. Up to three stand in the value itself, so that most atoms take no memory of their own; more
 /// stand in an allocation. Contracts see the numbers, in order.
+#[derive(Drop)]
 pub struct Objects {
     numbers: SmallVec<u64, 3>,
-}
-
-impl Drop for Objects {
-    fn drop(self) {
-        let Objects { numbers: _ } = self;
-    }
 }
 
 impl Model for Objects {

@@ -10,19 +10,10 @@ use std::hash::{Hash, Hasher};
 
 /// A candidate for an invariant: with an object for each parameter, it covers the atoms that have these objects at the
 /// places of a part.
-#[derive(PartialEq, Eq)]
+#[derive(PartialEq, Eq, Drop)]
 pub struct Candidate {
     pub parameters: u64,
     pub parts: List<Part>,
-}
-
-impl Drop for Candidate {
-    fn drop(self) {
-        let Candidate {
-            parameters: _,
-            parts: _,
-        } = self;
-    }
 }
 
 impl Candidate {
@@ -54,21 +45,11 @@ impl Hash for Candidate {
 
 /// The atoms of a predicate that have the parameters at these argument positions, in the order of the parameters. At most
 /// one position is left, which is counted.
-#[derive(PartialEq, Eq)]
+#[derive(PartialEq, Eq, Drop)]
 pub struct Part {
     pub predicate: u64,
     pub places: List<u64>,
     pub counted: Option<u64>,
-}
-
-impl Drop for Part {
-    fn drop(self) {
-        let Part {
-            predicate: _,
-            places: _,
-            counted: _,
-        } = self;
-    }
 }
 
 impl Part {

@@ -7,14 +7,9 @@ use std::alloc::{AllocError, Global};
 use std::marker::Model;
 
 /// A list of items for each number below a count.
+#[derive(Drop)]
 pub struct Rows<T> {
     rows: Vec<Vec<T>>,
-}
-
-impl<T: Drop> Drop for Rows<T> {
-    fn drop(self) {
-        let Rows { rows: _ } = self;
-    }
 }
 
 impl<T> Model for Rows<T> {

@@ -5,14 +5,9 @@ ghost use Rattle.std.specs.Cmp.{nat_eq_equiv, partial_equiv_from_equiv};
 use std::marker::Model;
 
 /// A text. Contracts see its bytes, in order.
+#[derive(Drop)]
 pub struct Text {
     bytes: Vec<u8>,
-}
-
-impl Drop for Text {
-    fn drop(self) {
-        let Text { bytes: _ } = self;
-    }
 }
 
 impl Model for Text {

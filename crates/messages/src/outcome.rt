@@ -79,19 +79,11 @@ pub struct Summary {
 }
 
 /// What is printed of a written task.
+#[derive(Drop)]
 pub struct Report {
     pub summary: Summary,
     /// The lines on the plan that is mapped back; none where no plan file is named.
     pub plan: Vec<u8>,
-}
-
-impl Drop for Report {
-    fn drop(self) {
-        let Report {
-            summary: _,
-            plan: _,
-        } = self;
-    }
 }
 
 /// What is said of a text that is refused, and of which place in it. Lines are counted from 1.

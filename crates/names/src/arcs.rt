@@ -14,14 +14,9 @@ pub struct Arc {
 }
 
 /// The positions of a graph's arcs in rows, one for each number, of those that lead from it and weren't taken.
+#[derive(Drop)]
 pub struct ArcsBySource {
     rows: Vec<Vec<usize>>,
-}
-
-impl Drop for ArcsBySource {
-    fn drop(self) {
-        let ArcsBySource { rows: _ } = self;
-    }
 }
 
 impl Model for ArcsBySource {

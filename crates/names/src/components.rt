@@ -24,18 +24,10 @@ pub struct Place {
 // ---- the searches
 
 /// The places of the numbers in the two searches.
+#[derive(Drop)]
 pub struct Searches {
     pub along: Vec<Option<Place>>,
     pub against: Vec<Option<Place>>,
-}
-
-impl Drop for Searches {
-    fn drop(self) {
-        let Searches {
-            along: _,
-            against: _,
-        } = self;
-    }
 }
 
 impl Searches {

@@ -17,14 +17,9 @@ pub(crate) struct Ends<'a> {
 }
 
 /// Links between names that stand in the files. Contracts see them in the order in which they were added.
+#[derive(Drop)]
 pub struct Links<'a> {
     pairs: Vec<Ends<'a>>,
-}
-
-impl Drop for Links<'_> {
-    fn drop(self) {
-        let Links { pairs: _ } = self;
-    }
 }
 
 impl<'a> Model for Links<'a> {

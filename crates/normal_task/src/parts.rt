@@ -12,16 +12,8 @@ pub struct Part {
 }
 
 /// A new derived predicate: what its arguments range over, and the parts of its axioms.
+#[derive(Drop)]
 pub struct Fresh {
     pub arguments: List<ObjectRange>,
     pub parts: List<Part>,
-}
-
-impl Drop for Fresh {
-    fn drop(self) {
-        let Fresh {
-            arguments: _,
-            parts: _,
-        } = self;
-    }
 }

@@ -7,14 +7,9 @@ use std::rc::Rc;
 
 /// The objects that a variable ranges over, by their numbers. All variables that share a range share one list. Contracts
 /// see the numbers, in order.
+#[derive(Drop)]
 pub struct ObjectRange {
     objects: Rc<Vec<u64>>,
-}
-
-impl Drop for ObjectRange {
-    fn drop(self) {
-        let ObjectRange { objects: _ } = self;
-    }
 }
 
 impl Model for ObjectRange {

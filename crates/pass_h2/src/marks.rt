@@ -8,15 +8,10 @@ use std::alloc::{AllocError, Global};
 use std::marker::Model;
 
 /// Marks by their places, each a bit.
+#[derive(Drop)]
 pub(crate) struct Marks {
     words: Vec<u64>,
     count: u64,
-}
-
-impl Drop for Marks {
-    fn drop(self) {
-        let Marks { words: _, count: _ } = self;
-    }
 }
 
 impl Model for Marks {

@@ -7,27 +7,17 @@ use lists::{List, Text};
 use std::alloc::{AllocError, AllocFailed};
 
 /// A step of a plan: the operator's name and its objects, lowered, and what it costs.
+#[derive(Drop)]
 pub struct Step {
     pub words: List<Text>,
     pub cost: u64,
 }
 
-impl Drop for Step {
-    fn drop(self) {
-        let Step { words: _, cost: _ } = self;
-    }
-}
-
 /// The steps of a plan, and what they cost together.
+#[derive(Drop)]
 pub struct Mapped {
     pub steps: List<Step>,
     pub total: u64,
-}
-
-impl Drop for Mapped {
-    fn drop(self) {
-        let Mapped { steps: _, total: _ } = self;
-    }
 }
 
 /// Why a plan file isn't mapped. Lines are counted from 1.

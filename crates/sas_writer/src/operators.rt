@@ -15,20 +15,12 @@ use std::alloc::{AllocError, Global};
 
 /// What is found of an operator before its lines are written. The lists are filled again for each operator, so that none takes
 /// memory of its own.
+#[derive(Drop)]
 struct Room {
     /// The variables that its effects change.
     changed: Vec<u64>,
     /// Its prevail conditions.
     prevail: Vec<Pair>,
-}
-
-impl Drop for Room {
-    fn drop(self) {
-        let Room {
-            changed: _,
-            prevail: _,
-        } = self;
-    }
 }
 
 /// Makes them the variables of the effects.

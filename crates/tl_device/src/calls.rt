@@ -16,18 +16,10 @@ pub enum FileCall {
 }
 
 // The calls of one kind.
+#[derive(Drop)]
 pub(crate) struct Calls {
     made: u64,
     failing: Vec<u64>,
-}
-
-impl Drop for Calls {
-    fn drop(self) {
-        let Calls {
-            made: _,
-            failing: _,
-        } = self;
-    }
 }
 
 impl Model for Calls {
@@ -77,22 +69,12 @@ fn has_next(failing: &[u64], made: u64) -> bool
 }
 
 // The calls on files, by their kinds.
+#[derive(Drop)]
 pub(crate) struct FileCalls {
     pub(crate) open_file: Calls,
     pub(crate) read: Calls,
     pub(crate) create_file: Calls,
     pub(crate) write: Calls,
-}
-
-impl Drop for FileCalls {
-    fn drop(self) {
-        let FileCalls {
-            open_file: _,
-            read: _,
-            create_file: _,
-            write: _,
-        } = self;
-    }
 }
 
 impl Model for FileCalls {

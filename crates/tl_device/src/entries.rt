@@ -126,14 +126,9 @@ impl Entry {
 }
 
 // The entries by their places. No two have one name.
+#[derive(Drop)]
 pub(crate) struct Entries {
     items: Vec<Entry>,
-}
-
-impl Drop for Entries {
-    fn drop(self) {
-        let Entries { items: _ } = self;
-    }
 }
 
 // A place in the file of an entry.

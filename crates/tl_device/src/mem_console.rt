@@ -10,24 +10,13 @@ use std::alloc::{AllocError, Global};
 use std::marker::Model;
 
 /// A console that keeps what is printed, up to the bytes that there is room for. The calls that are listed fail.
+#[derive(Drop)]
 pub struct MemConsole {
     text: Vec<u8>,
     room: u64,
     most: u64,
     calls: Calls,
     faults: u64,
-}
-
-impl Drop for MemConsole {
-    fn drop(self) {
-        let MemConsole {
-            text: _,
-            room: _,
-            most: _,
-            calls: _,
-            faults: _,
-        } = self;
-    }
 }
 
 impl Model for MemConsole {

@@ -14,18 +14,10 @@ use pass_book::{Book, PassKind};
 use std::alloc::{AllocError, Global};
 
 /// What the words ask for, where each pass that they name is in the book: its kinds, in the order of the words.
+#[derive(Drop)]
 pub(crate) struct Request<'a> {
     pub(crate) accepted: Accepted<'a>,
     pub(crate) passes: Vec<PassKind>,
-}
-
-impl Drop for Request<'_> {
-    fn drop(self) {
-        let Request {
-            accepted: _,
-            passes: _,
-        } = self;
-    }
 }
 
 /// What the words ask for.
