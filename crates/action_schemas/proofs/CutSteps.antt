@@ -32,9 +32,6 @@ member-more false around done after make grows next items fresh are start starts
 module _ (around : ℕ) (one other : ℕ → Made Part) (next : ℕ)
     (first_items : List Part) (first_fresh : List Fresh) (first_is : (first_items ≡ (one next).items) × (first_fresh ≡ (one next).fresh))
     (start : ℕ) (starts : start ≡ next + length first_fresh) (second_items : List Part) (second_fresh : List Fresh) (second_is : (second_items ≡ (other start).items) × (second_fresh ≡ (other start).fresh)) where
-  later : ℕ
-  later = next + length (one next).fresh
-
   at : start ≡ next + length (one next).fresh
   at = starts ∙ ap (λ (l : List Fresh). next + length l) first_is.1
 

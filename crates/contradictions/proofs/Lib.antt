@@ -6,5 +6,4 @@ pub mod SamePlaces
 pub mod Cases
 -- lemmas of this crate
 mod MergeSteps
-mod Renamings
 mod Shared

@@ -1,14 +1,14 @@
 -- Objects that lists have in common: leaping over lists that rise finds one exactly where there is one.
 use Rattle.std.proofs.Common.{◌≡◌, ℕ, ◌+◌, ◌<◌, ◌≤◌, Bool, true, false, not, ◌&&◌, List, [], ◌∷◌, ◌++◌, map, length, take, drop, get_or, inl, inr, Some, None, Ok, Err, refl, sym, ap, ◌∙◌, subst, arith}
 use Rattle.std.specs.Prelude.{nat_eq}
-use Rattle.std.specs.List.{list_all, filter}
+use Rattle.std.specs.List.{filter}
 use Rattle.std.specs.List.Sorted.{IsNonDecreasing, IsBinarySearchResult}
 use Rattle.std.specs.Ordering.{nat_cmp}
 use Rattle.std.proofs.lemmas.Bool.{eqb-true, eq-eqb, cases_lt, and_parts, and_from, or_cases, or_left, or_right, not-true}
 use Rattle.std.proofs.lemmas.List.{get_or_default, map-append, take-append-drop}
 use Rattle.std.proofs.lemmas.List.Sorted.{searched}
 use Rattle.lists.proofs.Items.{Among, among_at, contains_among, all_passes, each_passes, any_passes, passing, none_passes, any_append, among_map, map_source, among_filter, filter_among}
-use Rattle.lists.proofs.LoopSteps.{map_next, filter_next_kept, filter_next_left}
+use Rattle.lists.proofs.LoopSteps.{map_next}
 use Rattle.normal_task.specs.declared.task.Place.{Place}
 use Rattle.contradictions.specs.Contradictory.{objects_of, is_lacked, has_no_object, is_among}
 use Rattle.contradictions.specs.declared.common.Member.{Member}
@@ -128,25 +128,6 @@ module _ (class : List Member) (i : ℕ) (member : Member) (within : i < length 
       (missed_longer (map objects_in (take (i + 1) class)) (map objects_in (drop (i + 1) class)) object
       (subst (λ lists. is_missed lists object ≡ true) (sym next-lists) (none_more (map objects_in (take i class)) (objects_in member) least next held none object from)))
 
--- one leap of the search for an object that all share
-pub leap : (lists : List (List ℕ)) (least next : ℕ) → ((object : ℕ) → object < least → is_missed lists object ≡ true) → IsNextShared lists least (Some next) → (object : ℕ) → object < next → is_missed lists object ≡ true
-leap lists least next before shared object less =
-    elim (cases_lt object least) [ inl earlier ↦ before object earlier | inr from ↦ shared.1 object from less ]
-
-pub none_left : (lists : List (List ℕ)) (least : ℕ) → ((object : ℕ) → object < least → is_missed lists object ≡ true) → IsNextShared lists least None → TellsShared lists false
-none_left lists least before none object = elim (cases_lt object least) [ inl earlier ↦ before object earlier | inr from ↦ none object from ]
-
--- one more term of the class, or one that isn't of it
-pub class_more : (same : Place → Bool) (objects_at : Place → List ℕ) (own : List ℕ) (terms : List Place) (i : ℕ) (term : Place) → i < length terms → term ≡ get_or terms i term → (class new : List (List ℕ)) →
-    class ≡ own ∷ map objects_at (filter same (take i terms)) → same term ≡ true → new ≡ class ++ objects_at term ∷ [] → new ≡ own ∷ map objects_at (filter same (take (i + 1) terms))
-class_more same objects_at own terms i term within is class new held kept made =
-    made ∙ ap (λ c. c ++ objects_at term ∷ []) held
-    ∙ ap (λ l. own ∷ l) (sym (map-append objects_at (filter same (take i terms)) (term ∷ [])) ∙ ap (map objects_at) (sym (filter_next_kept terms i term within is same kept)))
-
-pub class_same : (same : Place → Bool) (objects_at : Place → List ℕ) (own : List ℕ) (terms : List Place) (i : ℕ) (term : Place) → i < length terms → term ≡ get_or terms i term → (class : List (List ℕ)) →
-    class ≡ own ∷ map objects_at (filter same (take i terms)) → same term ≡ false → class ≡ own ∷ map objects_at (filter same (take (i + 1) terms))
-class_same same objects_at own terms i term within is class held left = held ∙ ap (λ l. own ∷ map objects_at l) (sym (filter_next_left terms i term within is same left))
-
 -- ---- a class
 
 module _ (same : Place → Place → Bool) (ranges : List (List ℕ)) (terms : List Place) (term : Place) where
@@ -192,8 +173,3 @@ module _ (same : Place → Place → Bool) (ranges : List (List ℕ)) (terms : L
   no_object false missed =
       sym (each_passes (is_lacked same ranges terms term) (objects_of ranges term) (λ object among.
       missed-lacked object (any_passes (nat_eq object) object (objects_of ranges term) among (eq-eqb object object refl)) (missed object)))
-
-  -- where the first object is shared, there is one
-  pub first_shared : (objects : List ℕ) (object : ℕ) → 0 < length objects → object ≡ get_or objects 0 object → is_lacked same ranges terms term object ≡ false → list_all (is_lacked same ranges terms term) objects ≡ false
-  first_shared [] object some is isnt = absurd (omega (arith, some))
-  first_shared (first ∷ more) object some is isnt = ap (λ o. is_lacked same ranges terms term o && list_all (is_lacked same ranges terms term) more) (sym is) ∙ ap (λ b. b && list_all (is_lacked same ranges terms term) more) isnt

@@ -1,5 +1,5 @@
 -- The places of facts, gathered set by set.
-use Rattle.std.proofs.Common.{◌≡◌, ℕ, zero, suc, ◌+◌, ◌<◌, Bool, true, false, cond, not, eqb, ◌||◌, List, [], ◌∷◌, ◌++◌, map, set, take, length, get_or, replicate, append_assoc, append-nil, refl, sym, ap, ◌∙◌, subst, inl, inr, arith}
+use Rattle.std.proofs.Common.{◌≡◌, ℕ, suc, ◌+◌, ◌<◌, Bool, true, false, cond, not, eqb, ◌||◌, List, [], ◌∷◌, ◌++◌, map, set, take, length, get_or, append_assoc, append-nil, refl, sym, ap, ◌∙◌, subst, inl, inr, arith}
 use Rattle.std.specs.List.{Contains, filter, flat_map, range_with_len, position_or_len, list_any}
 use Rattle.std.specs.List.Sorted.{IsStrictlyIncreasing}
 use Rattle.std.proofs.lemmas.Bool.{cases_Bool, cond-true, cond-false, eqb-true, eqb-false, or_cases, or_left, or_right, both_ways, false_from_ne_true}
@@ -111,9 +111,3 @@ row_more rows var facts i fact start within low up before =
           ∙ before
           ∙ ap (λ l. start ++ l) (sym (more ∙ ap (λ b. place_in var (take i facts) fact ++ cond b (pair var i ∷ []) []) no' ∙ append-nil (place_in var (take i facts) fact)))
     ]
-
-pub none_in_empty : {X : Type 0} (n k : ℕ) → get_or (replicate {A = List X} n []) k [] ≡ []
-none_in_empty zero zero = refl
-none_in_empty zero (suc k) = refl
-none_in_empty (suc n) zero = refl
-none_in_empty (suc n) (suc k) = none_in_empty n k

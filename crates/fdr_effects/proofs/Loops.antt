@@ -1,16 +1,13 @@
 -- One more turn of the loops.
-use Rattle.std.proofs.Common.{◌≡◌, ℕ, ◌+◌, ◌<◌, Bool, true, false, eqb, cond, ◌&&◌, ◌||◌, List, [], ◌∷◌, ◌++◌, map, take, length, get_or, append-nil, append_assoc, refl, sym, ap, ◌∙◌, arith}
+use Rattle.std.proofs.Common.{◌≡◌, ℕ, ◌+◌, ◌<◌, Bool, true, false, eqb, ◌&&◌, ◌||◌, List, [], ◌∷◌, ◌++◌, map, take, length, get_or, append-nil, append_assoc, refl, sym, ap, ◌∙◌, arith}
 use Rattle.std.proofs.lemmas.List.{map-append}
 use Rattle.std.proofs.lemmas.Simd.{map-map}
-use Rattle.std.specs.List.{filter, flat_map, list_any}
+use Rattle.std.specs.List.{flat_map, list_any}
 use Rattle.std.proofs.lemmas.Bool.{and_parts, eqb-true}
 use Rattle.std.proofs.lemmas.List.{take_more}
-use Rattle.std.proofs.lemmas.List.Elements.{filter-append}
 use Rattle.std.proofs.lemmas.List.Concat.{flat_map-append}
 use Rattle.static_matcher.specs.declared.types.Cond.{Cond}
-use Rattle.relaxed_reach.specs.declared.types.ReachedEffect.{ReachedEffect}
-use Rattle.fdr_effects.specs.Places.{Cover, stands_in}
-use Rattle.fdr_effects.specs.Effects.{no_literals, is_true, is_false, both, negations, choices, rivals}
+use Rattle.fdr_effects.specs.Effects.{no_literals, is_true, is_false, both, negations, choices}
 use Rattle.fdr_effects.specs.Rivals.{is_no_literal}
 
 -- one more piece
@@ -59,21 +56,6 @@ choices_more [] last = alone_with (negations last) (negations last) ∙ sym (app
 choices_more (l ∷ lists) last =
     ap (λ cs. flat_map (λ one. map (both one) cs) (negations l)) (choices_more lists last)
     ∙ fronts_in (negations last) (choices lists) (negations l)
-
--- one more effect
-pub choices_after : (cover : Cover) (effects : List ReachedEffect) (i : ℕ) (e : ReachedEffect) (var : ℕ) → i < length effects → e ≡ get_or effects i e → choices (rivals cover (take (i + 1) effects) var) ≡ cond (e.adds && stands_in cover e.fact var) (flat_map (λ choice. map (λ one. both choice one) (negations e.condition)) (choices (rivals cover (take i effects) var))) (choices (rivals cover (take i effects) var))
-choices_after cover effects i e var within is =
-    ap (λ es. choices (rivals cover es var)) (take_more effects i e within ∙ ap (λ x. take i effects ++ x ∷ []) (sym is))
-    ∙ ap (λ es. choices (map (λ (q : ReachedEffect). q.condition) es)) (filter-append (λ (q : ReachedEffect). q.adds && stands_in cover q.fact var) (take i effects) (e ∷ []))
-    ∙ ap choices (map-append (λ (q : ReachedEffect). q.condition) (filter (λ (q : ReachedEffect). q.adds && stands_in cover q.fact var) (take i effects)) (filter (λ (q : ReachedEffect). q.adds && stands_in cover q.fact var) (e ∷ [])))
-    ∙ by_case (e.adds && stands_in cover e.fact var)
-  where
-    before : List (Cond ℕ)
-    before = rivals cover (take i effects) var
-
-    by_case : (b : Bool) → choices (before ++ map (λ (q : ReachedEffect). q.condition) (cond b (e ∷ []) [])) ≡ cond b (flat_map (λ choice. map (λ one. both choice one) (negations e.condition)) (choices before)) (choices before)
-    by_case true = choices_more before e.condition
-    by_case false = ap choices (append-nil before)
 
 -- no choice where one of the lists has no literal
 no_pieces : (ones : List (Cond ℕ)) → flat_map (λ one. map (both one) []) ones ≡ []

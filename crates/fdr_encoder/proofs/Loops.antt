@@ -7,17 +7,11 @@ use Rattle.std.proofs.lemmas.List.Sums.{fold-append}
 use Rattle.std.specs.List.{filter, list_all, range_with_len, position_or_len}
 use Rattle.std.proofs.lemmas.Bool.{cases_lt, and_parts}
 use Rattle.std.proofs.lemmas.List.Sums.{position_or_len_is}
-use Rattle.std.proofs.lemmas.List.Elements.{filter-append}
 use Rattle.lists.proofs.LoopSteps.{range_next}
 use Rattle.sas_task.specs.declared.parts.Pair.{Pair}
 use Rattle.sas_task.specs.declared.parts.Effect.{Effect}
 use Rattle.fdr_effects.specs.Places.{Cover, last_value}
 use Rattle.fdr_encoder.specs.Operators.{is_given, can_go, less_idle}
-
-pub filter_range_more : (p : ℕ → Bool) (n : ℕ) → filter p (range_with_len 0 (n + 1)) ≡ filter p (range_with_len 0 n) ++ cond (p n) (n ∷ []) []
-filter_range_more p n =
-    let e : 0 + n ≡ n = omega arith in
-    ap (filter p) (range_next 0 n ∙ ap (λ m. range_with_len 0 n ++ m ∷ []) e) ∙ filter-append p (range_with_len 0 n) (n ∷ [])
 
 -- a search for the first number that passes
 module _ (p : ℕ → Bool) (xs : List ℕ) (i : ℕ) (before : (k : ℕ) → k < i → p (get_or xs k 0) ≡ false) where

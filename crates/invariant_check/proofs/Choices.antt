@@ -1,6 +1,5 @@
 -- Trying one item of each list, one list after the other.
-use Rattle.std.proofs.Math.Bool.{or-false}
-use Rattle.std.proofs.Common.{◌≡◌, ℕ, suc, ◌+◌, ◌<◌, ◌≤◌, Bool, true, false, ◌||◌, List, [], ◌∷◌, ◌++◌, map, length, get_or, drop, refl, sym, ap, ◌∙◌, append_assoc, append-nil, arith}
+use Rattle.std.proofs.Common.{◌≡◌, ℕ, suc, ◌+◌, ◌<◌, ◌≤◌, Bool, true, false, ◌||◌, List, [], ◌∷◌, ◌++◌, map, length, get_or, drop, sym, ap, ◌∙◌, append_assoc, arith}
 use Rattle.std.specs.List.{list_any}
 use Rattle.std.proofs.Math.ListN.{drop_of_length-le}
 use Rattle.std.proofs.Math.Seq.{drop-cons}
@@ -23,10 +22,6 @@ module _ {A : Type 0} (test : List A → Bool) (given : List A) where
     -- the choices from there on
     abbrev some_choice : Bool
     some_choice = list_any (λ others. test (given ++ others)) (choices (drop at lists))
-
-    pub all_given : length lists ≤ at → test given ≡ some_choice
-    all_given past =
-        ap test (sym (append-nil given)) ∙ sym (or-false (test (given ++ []))) ∙ ap (λ ls. list_any (λ others. test (given ++ others)) (choices ls)) (sym (drop_of_length-le lists past))
 
     module _ (items : List A) (some : at < length lists) (first : items ≡ get_or lists at items) where
       whole : some_choice ≡ list_any (tries (drop (at + 1) lists)) items

@@ -26,7 +26,7 @@ use Rattle.normal_task.proofs.Scopes.{append-assoc, length-append, choice-append
 use Rattle.normal_task.proofs.Steps.{choice-length, among-choice, choice-among}
 use Rattle.contradictions.specs.declared.types.Candidate.{Candidate}
 use Rattle.contradictions.specs.declared.types.Part.{Part}
-use Rattle.contradictions.specs.Candidates.{at_positions, part_covers, covers, IsAtMostOne}
+use Rattle.contradictions.specs.Candidates.{at_positions, covers, IsAtMostOne}
 use Rattle.contradictions.specs.Contradictory.{is_same_place, in_one_class, all_pairs, are_same_terms, is_contradictory}
 use Rattle.contradictions.specs.GivenTerms.{with_terms, literal_with}
 use Rattle.contradictions.proofs.Contradiction.{equal_objects, never_contradictory}
@@ -35,8 +35,6 @@ use Rattle.contradictions.proofs.SamePlaces.{true-false, same_places, at_positio
 use Rattle.invariant_check.specs.Accepted.{each_add, instance_of, denied, apart_from, ranges_with, both_added, are_light, is_light_in, is_light, required, is_listed, fittings, row_with, added_beside, never_restores, balances, has_balance, is_balanced_at, is_balanced, is_accepted}
 use Rattle.invariant_check.specs.Soundness.{is_basic}
 use Rattle.invariant_check.proofs.Bindings.{place-within, literal-within, literal-more, places-given, all-met-given, listed-passes, choice-typed, fittings-choose}
-use Rattle.names.proofs.SameNames.{same_name}
-use Rattle.std.proofs.lemmas.Cmp.{nat_list_eq_equiv}
 use Rattle.normal_task.proofs.OnceEach.{same_atom, atom_same}
 
 -- ---- an effect that writes an atom
@@ -53,10 +51,6 @@ pub record Fires (full : State) (schema : Schema) (objects : Binding) (adds : Bo
 same-answer : (a b : Bool) → answers a b ≡ true → b ≡ a
 same-answer true b is = is
 same-answer false b is = not-true b is
-
-answers-itself : (b : Bool) → answers b b ≡ true
-answers-itself true = refl
-answers-itself false = refl
 
 pub fires : (full : State) (schema : Schema) (objects : Binding) (adds : Bool) (atom : GroundAtom) → writes full adds schema.effects objects atom ≡ true → Fires full schema objects adds atom
 fires full schema objects adds atom is =

@@ -1,7 +1,7 @@
 -- The orders of positions are what the iterator over permutations gives, and a part is put in by its place.
-use Rattle.std.proofs.Common.{◌≡◌, ℕ, zero, suc, ◌+◌, ◌-◌, ◌<◌, ◌≤◌, Bool, true, false, not, cond, ltb, List, [], ◌∷◌, ◌++◌, map, length, get_or, take, drop, refl, sym, ap, ◌∙◌, subst, arith, append-nil, append_assoc, length-append, inl, inr, Global}
+use Rattle.std.proofs.Common.{◌≡◌, ℕ, zero, suc, ◌+◌, ◌-◌, ◌<◌, ◌≤◌, Bool, true, false, not, cond, ltb, List, [], ◌∷◌, ◌++◌, map, length, get_or, refl, sym, ap, ◌∙◌, subst, arith, append-nil, append_assoc, length-append, inl, inr, Global}
 use Rattle.std.specs.Vec.{vec_len}
-use Rattle.std.specs.Prelude.{nat_eq, nat_lt, Option, Some, None, filter, if◌then◌else◌}
+use Rattle.std.specs.Prelude.{nat_eq, nat_lt, Option, Some, None, if◌then◌else◌}
 use Rattle.std.specs.Option.{unwrap_or}
 use Rattle.std.specs.List.{IsDistinct, AllByRecursion, flat_map, range_with_len, position, position_or_len, remove, insert}
 use Rattle.std.proofs.lemmas.Bool.{ltb-false, true≢false, false_from_ne_true, eqb-true, eq-eqb}
@@ -17,7 +17,7 @@ use Rattle.itertools.specs.Odometer.{ways, numbers}
 use Rattle.itertools.specs.declared.combinations.Permutations.{Permutations}
 use Rattle.itertools.specs.Pool.{unranked, permutation_left, ClonesAt}
 use Rattle.contradictions.specs.declared.types.Part.{Part}
-use Rattle.invariant_check.specs.Extensions.{is_counted, left_by, countings, without, orders, part_at, put_in}
+use Rattle.invariant_check.specs.Extensions.{left_by, countings, without, orders, part_at, put_in}
 use Rattle.invariant_check.proofs.PartsOf.{once_left}
 use Rattle.std.proofs.Math.Seq.{get_or-append_seam}
 
@@ -29,9 +29,6 @@ or_len test xs = by (ltb (position_or_len test xs) (length xs)) refl
     by : (b : Bool) → ltb (position_or_len test xs) (length xs) ≡ b → unwrap_or (cond b (Some (position_or_len test xs)) None) (length xs) ≡ position_or_len test xs
     by true is = refl
     by false is = omega (arith, ltb-false (position_or_len test xs) (length xs) is, prefix_len-le-length (λ x. not (test x)) xs)
-
-pub or_len-within : {X : Type 0} (test : X → Bool) (xs : List X) → unwrap_or (position test xs) (length xs) ≤ length xs
-or_len-within test xs = omega (arith, or_len test xs, prefix_len-le-length (λ x. not (test x)) xs)
 
 -- ---- a part put in
 

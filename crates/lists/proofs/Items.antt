@@ -270,12 +270,6 @@ out_or_left item (x ∷ xs) (inr behind) other (inr there) = by_rest (out_or_lef
     by_rest (inl same) = inl same
     by_rest (inr left) = inr (inr left)
 
-pub put_back : {X : Type 0} (item : X) (xs : List X) (among : Among item xs) (other : X) → Among other (taken_out item xs among) → Among other xs
-put_back item [] none other there = absurd none
-put_back item (x ∷ xs) (inl here) other there = inr there
-put_back item (x ∷ xs) (inr behind) other (inl same) = inl same
-put_back item (x ∷ xs) (inr behind) other (inr there) = inr (put_back item xs behind other there)
-
 -- ---- membership as a test
 
 module _ {X : Type 0} (same : X → X → Bool) where

@@ -1,5 +1,5 @@
 -- Rows that grow at their ends: by nothing, by one item, and by the items of a list one after another.
-use Rattle.std.proofs.Common.{◌≡◌, ℕ, ◌+◌, ◌<◌, ◌≤◌, cond, eqb, List, [], ◌∷◌, ◌++◌, length, map, get_or, set, take, replicate, append-nil, append_assoc, refl, sym, ap, ◌∙◌, subst, inl, inr, arith}
+use Rattle.std.proofs.Common.{◌≡◌, ℕ, ◌+◌, ◌<◌, ◌≤◌, cond, eqb, List, [], ◌∷◌, ◌++◌, length, map, get_or, set, take, replicate, append-nil, append_assoc, refl, sym, ap, ◌∙◌, subst, inl, inr}
 use Rattle.std.specs.List.{flat_map}
 use Rattle.std.proofs.lemmas.Bool.{cases_eq, eq-eqb, ne_eqb}
 use Rattle.std.proofs.lemmas.List.{length-map, map-set, get_or-map, length-set, get_or-set_same, get_or-set_other, take_all, length-replicate, get_or-replicate}
@@ -38,14 +38,6 @@ module _ {X : Type 0} where
       let changed = map-set items rows number new ∙ ap (set (map items rows) number) (is ∙ ap (λ r. items r ++ item ∷ []) at ∙ ap (λ l. l ++ item ∷ []) (sym old)) in
       subst (λ b. Adds (at_number number item) b (map items (set rows number new))) same
       (subst (Adds (at_number number item) (map items rows)) (sym changed) (pushed (map items rows) number item (subst (λ n. number < n) (sym (length-map rows items)) within)))
-
-  -- a number without a row
-  pub left_out : (rows : List (List X)) (number : ℕ) (item : X) → length rows ≤ number → Adds (at_number number item) rows rows
-  left_out rows number item past =
-      record {
-        count = refl;
-        row = λ other below. elsewhere number other item (row_of rows other) (λ same. absurd (omega (arith, same, past, below)));
-      }
 
   pub nothing : (rows : List (List X)) → Adds (λ number. []) rows rows
   nothing rows = record { count = refl; row = λ number below. sym (append-nil (row_of rows number)) }

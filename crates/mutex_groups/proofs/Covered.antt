@@ -1,16 +1,15 @@
 -- The instance that covers an atom, weights and members as they are counted.
-use Rattle.std.proofs.Common.{◌≡◌, ℕ, zero, suc, ◌+◌, ◌<◌, Bool, true, false, not, ◌&&◌, ◌||◌, ◌++◌, List, [], ◌∷◌, Option, Some, None, take, length, nat_eq, get_or, refl, sym, ap, ◌∙◌, subst, arith, if◌then◌else◌, append-nil}
+use Rattle.std.proofs.Common.{◌≡◌, ℕ, ◌+◌, Bool, true, false, not, ◌&&◌, ◌||◌, ◌++◌, List, [], ◌∷◌, Option, Some, None, nat_eq, refl, sym, ap, ◌∙◌, subst, arith, if◌then◌else◌, append-nil}
 use Rattle.std.specs.List.{list_any, filter, find, range_with_len, slice_get}
 use Rattle.std.specs.Cmp.{nat_eq_equiv}
 use Rattle.std.proofs.Math.Bool.{or-false}
 use Rattle.std.specs.Option.{option_map, option_map_or}
 use Rattle.std.specs.Cmp.Lexicographic.{pointwise}
-use Rattle.std.proofs.lemmas.Bool.{true≢false, and_parts, not-true, eqb-true, eq-eqb}
-use Rattle.std.proofs.lemmas.List.{length-append}
+use Rattle.std.proofs.lemmas.Bool.{true≢false, and_parts, not-true, eqb-true}
 use Rattle.std.proofs.lemmas.List.Elements.{filter-append}
 use Rattle.std.proofs.lemmas.Cmp.{nat_list_eq_equiv}
 use Rattle.lists.proofs.Items.{none_passes, any_passes, filter_yes, filter_no}
-use Rattle.lists.proofs.LoopSteps.{filter_next_kept, filter_next_left, range_next}
+use Rattle.lists.proofs.LoopSteps.{range_next}
 use Rattle.names.specs.Names.{is_same}
 use Rattle.normal_task.specs.declared.task.GroundAtom.{GroundAtom}
 use Rattle.normal_task.specs.Lawful.{differ}
@@ -19,7 +18,7 @@ use Rattle.contradictions.specs.declared.types.Candidate.{Candidate}
 use Rattle.contradictions.specs.declared.types.Part.{Part}
 use Rattle.contradictions.specs.Candidates.{at_positions, part_covers, covers}
 use Rattle.mutex_groups.specs.Groups.{covers_fact}
-use Rattle.mutex_groups.specs.Found.{weight_among, parts_differ, instance_of, told, told_more}
+use Rattle.mutex_groups.specs.Found.{parts_differ, instance_of}
 
 -- ---- the instance that covers an atom
 
@@ -64,24 +63,6 @@ pub covers-none : (candidate : Candidate) (atom : GroundAtom) → parts_differ c
 covers-none candidate atom apart missing instance = covers-is candidate instance atom apart ∙ ap (given instance) missing
 
 -- ---- one atom more, and one fact more
-
-more-told : (n : ℕ) → told (suc n) ≡ told_more (told n)
-more-told zero = refl
-more-told (suc zero) = refl
-more-told (suc (suc n)) = refl
-
-pub weight-next : (candidate : Candidate) (instance : List ℕ) (atoms : List GroundAtom) (i : ℕ) (atom : GroundAtom) → i < length atoms → atom ≡ get_or atoms i atom →
-    told (weight_among candidate (take (i + 1) atoms) instance) ≡ (if covers candidate instance atom then told_more (told (weight_among candidate (take i atoms) instance)) else told (weight_among candidate (take i atoms) instance))
-weight-next candidate instance atoms i atom within is = by (covers candidate instance atom) refl
-  where
-    by : (b : Bool) → covers candidate instance atom ≡ b →
-        told (weight_among candidate (take (i + 1) atoms) instance) ≡ (if b then told_more (told (weight_among candidate (take i atoms) instance)) else told (weight_among candidate (take i atoms) instance))
-    by true yes' =
-        let longer = ap (λ (l : List GroundAtom). length l) (filter_next_kept atoms i atom within is (covers candidate instance) yes') in
-        let one = length-append (filter (covers candidate instance) (take i atoms)) (atom ∷ []) in
-        let size : weight_among candidate (take (i + 1) atoms) instance ≡ suc (weight_among candidate (take i atoms) instance) = omega (arith, longer, one) in
-        ap told size ∙ more-told (weight_among candidate (take i atoms) instance)
-    by false no' = ap (λ (l : List GroundAtom). told (length l)) (filter_next_left atoms i atom within is (covers candidate instance) no')
 
 pub facts-next : (candidate : Candidate) (instance : List ℕ) (facts : List Fact) (i : ℕ) (fact : Fact) → slice_get facts i ≡ Some fact →
     filter (covers_fact candidate instance facts) (range_with_len 0 (i + 1))

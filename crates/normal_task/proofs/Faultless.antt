@@ -191,18 +191,6 @@ module _ (domain : Domain) (problem : Problem) where
         not_not true = refl
         not_not false = refl
 
-    -- nothing of the problem is on a derived predicate
-    pub problem_basic : AreBasic domain problem (in_problem problem)
-    problem_basic =
-        sym (all_flat_map (λ (name : Named). not (holds.is_derived domain name.name)) written_predicates (in_problem problem))
-        ∙ none_fails (λ (name : Named). holds.is_derived domain name.name) (λ (name : Named). not (holds.is_derived domain name.name)) (λ name. not_not (holds.is_derived domain name.name)) (flat_map written_predicates (in_problem problem))
-        (map_empty (λ (named : Named). named.at) (filter (λ (name : Named). holds.is_derived domain name.name) (flat_map written_predicates (in_problem problem)))
-        (row_empty domain problem none (row kinds.DerivedWritten (names.written_derived domain (in_domain domain)) (names.written_derived domain (in_problem problem))) (inr (inr (inr (inr (inr (inr (inr (inr (inl refl)))))))))).1)
-      where
-        not_not : (b : Bool) → b ≡ not (not b)
-        not_not true = refl
-        not_not false = refl
-
     -- ---- the initial state
 
     entry_known : (entry : Init) → AreKnown domain problem (in_init entry) → scopes.in_init entry ≡ [] → is_known_entry domain problem entry ≡ true

@@ -97,23 +97,6 @@ module _ (Made : Pair → Pair → Type 0) where
         ];
       }
 
--- other pairs may be spoken of
-pub more_made : (Made Other : Pair → Pair → Type 0) → ((p q : Pair) → Made p q → Other p q) → (f g : Finds) → Adds Made f g → Adds Other f g
-more_made Made Other so f g a =
-    record {
-      facts = a.facts;
-      starts = a.starts;
-      shaped = a.shaped;
-      grows = a.grows;
-      told = λ p q is. elim (a.told p q is) [
-        | inl old ↦ inl old
-        | inr new ↦ inr (so p q new.0, new.1, new.2)
-      ];
-      keeps = a.keeps;
-      fewer = a.fewer;
-      news = a.news;
-    }
-
 kept_true : (marks : List Bool) (i j : ℕ) → get_or marks j false ≡ true → get_or (set marks i true) j false ≡ true
 kept_true marks i j is =
     elim (cases_eq j i) [

@@ -45,9 +45,6 @@ one_number facts starts p q low-p low-q same =
 -- ---- facts of a task
 
 module _ (T : Task) where
-  count : ℕ → ℕ
-  count v = length (variable_at T v).facts
-
   below_at : (n v val : ℕ) (d : Pair) → v < n → val < length (variable_at T v).facts →
       (length (facts_below T v) + val < length (facts_below T n)) × (get_or (facts_below T n) (length (facts_below T v) + val) d ≡ pair v val)
   below_at zero v val d low within = absurd (omega (arith, low))

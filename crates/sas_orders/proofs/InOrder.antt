@@ -59,19 +59,6 @@ module _ {X : Type 0} (cmp : X → X → Ordering) where
         | inr later ↦ member_put x (in_order cmp xs) z (inr (member_ordered xs z later))
       ]
 
-  -- their number
-  put_count : (x : X) (ys : List X) → length (put_in cmp x ys) ≡ suc (length ys)
-  put_count x [] = refl
-  put_count x (y ∷ ys) = by_test (put_count x ys) (is_gt (cmp x y))
-    where
-      by_test : length (put_in cmp x ys) ≡ suc (length ys) → (b : Bool) → length (cond b (y ∷ put_in cmp x ys) (x ∷ y ∷ ys)) ≡ suc (length (y ∷ ys))
-      by_test rest true = ap (λ n. suc n) rest
-      by_test rest false = refl
-
-  pub ordered_count : (xs : List X) → length (in_order cmp xs) ≡ length xs
-  ordered_count [] = refl
-  ordered_count (x ∷ xs) = put_count x (in_order cmp xs) ∙ ap (λ n. suc n) (ordered_count xs)
-
 -- the first isn't behind the second
 abbrev pub NotAfter : {X : Type 0} → (X → X → Ordering) → X → X → Type 0
 NotAfter cmp a b = is_gt (cmp a b) ≡ false

@@ -10,14 +10,14 @@ use Rattle.std.proofs.lemmas.List.Elements.{All-nil, All-cons, All-head, All-tai
 use Rattle.sas_task.specs.declared.parts.Pair.{Pair}
 use Rattle.sas_task.specs.declared.parts.Effect.{Effect}
 use Rattle.sas_task.specs.declared.parts.Operator.{Operator}
-use Rattle.sas_task.specs.Output.{Line, numeral, spaced, counted, pair_words, pair_lines, is_changed, prevail, required_value, effect_line, operator_lines, value_in}
+use Rattle.sas_task.specs.Output.{Line, numeral, counted, pair_words, pair_lines, prevail, required_value, effect_line, operator_lines, value_in}
 use Rattle.sas_task.specs.Output as output
 use Rattle.sas_task.specs.Task.{Task}
 use Rattle.sas_task.specs.Valid.{IsValue, IsFact, AreConditions, IsValidEffect, layer_of}
 use Rattle.sas_reader.specs.Contexts.{is_value}
 use Rattle.sas_reader.specs.Forms.{◌>>=◌, ◌>>◌, Form, passing, given, fixed, line, next_line, listed}
 use Rattle.sas_reader.specs.Numbers.{number, number_or_none, number_line}
-use Rattle.sas_reader.specs.Operators.{Told, told_before, may_change, name, effect, cost, required_of, required, operator, operators}
+use Rattle.sas_reader.specs.Operators.{Told, told_before, may_change, name, effect, cost, required_of, required, operator}
 use Rattle.sas_reader.specs.Operators as rules
 use Rattle.sas_reader.specs.Pairs.{value, effect_conditions, conditions}
 use Rattle.sas_reader.specs.Tables.{first_of}
@@ -34,9 +34,6 @@ use Rattle.std.specs.Cmp.{nat_eq_equiv}
 use Rattle.std.specs.Cmp.Lexicographic.{options_equiv}
 use Rattle.lists.specs.Names.{IsName}
 use Rattle.lists.proofs.Names.{name_parts}
-
-abbrev told_of : Operator → List Told
-told_of o = map (λ e. (e, required_value o e.var)) o.effects
 
 told_map : (g : ℕ → Option ℕ) (es : List Effect) (var : ℕ) → told_before (map (λ e. (e, g e.var)) es) var ≡ cond (list_any (λ e. eqb e.var var) es) (Some (g var)) None
 told_map g [] var = refl

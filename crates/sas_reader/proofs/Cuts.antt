@@ -52,10 +52,6 @@ line_is p now line more cut =
     ap (λ l. line_of l now) (cut ∙ ap (λ l. line ∷ l) pieces.2)
     ∙ ap (λ (l : List (List ℕ)). Ok (line, record now { begun = now.begun + 1; pieces = l })) (sym pieces.2)
 
--- with no line feed there is none
-pub no_line : (now : Unread) (rest : List ℕ) → now.pieces ≡ rest ∷ [] → next_line now ≡ Err (next now)
-no_line now rest cut = ap (λ l. line_of l now) cut
-
 -- where bytes are left, the text isn't at its end
 pub not_ended : (p : ℕ → Bool) (now : Unread) (rest : List ℕ) → 0 < length rest → now.pieces ≡ slice_split p rest → end now ≡ Err (next now)
 not_ended p now [] some is = absurd (omega arith)

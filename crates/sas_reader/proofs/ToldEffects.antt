@@ -192,9 +192,6 @@ module _ (task : Task) (pairs : List Pair) (told : List Told) (start now : Unrea
       told_value (IsApart pairs) (λ o. find (λ (p : Pair). eqb p.var var) pairs ≡ None) told var r tell.apart
       (λ t apart on. nothing_found (λ (p : Pair). eqb p.var var) pairs (subst (λ w. list_any (λ (p : Pair). eqb p.var w) pairs ≡ false) on apart)) is
 
-  changed : ℕ → Bool
-  changed var = list_any (λ (e : Effect). eqb e.var var) (map (λ (t : Told). t.0) told)
-
   kept_value : (var : ℕ) → cond (not (list_any (λ (e : Effect). eqb e.var var) (map (λ (t : Told). t.0) told))) (required_of pairs told var) None ≡ value_in pairs var
   kept_value var =
       ap (λ b. cond (not b) (required_of pairs told var) None) (any_map told var ∙ any_found (λ (t : Told). eqb t.0.var var) told)

@@ -127,11 +127,3 @@ pub others_grown : (old new : Option Contents) (name bytes : List ℕ) → new �
 others_grown None new name bytes grows = tt
 others_grown (Some m) None name bytes grows = cc
 others_grown (Some m) (Some n) name bytes grows = λ other differs. let same : n ≡ grow m name bytes = cc in ap (λ c. get c other) same ∙ get-grown_other m name bytes other differs
-
--- a name that was emptied and grew by some bytes holds these
-pub holds_written : (files : Option Contents) (name bytes : List ℕ) → Holds (grown (emptied files name) name bytes) name bytes
-holds_written None name bytes = tt
-holds_written (Some m) name bytes =
-    get-grow (insert m name []) name bytes name
-    ∙ ap (λ held. cond (same_name name name) (option_map (λ h. h ++ bytes) held) held) (get-insert nat_list_cmp_total m name [] name)
-    ∙ rw (same_name-self name) refl

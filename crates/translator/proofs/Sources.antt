@@ -52,15 +52,6 @@ told_too P Q R (Some x) f p q = f x p q
 pub same_store : (before : Store) → IsUntouched before before
 same_store before = record { files = refl; writing = refl; created = refl; writes = refl }
 
-pub untouched_twice : (before mid now : Store) → IsUntouched before mid → IsUntouched mid now → IsUntouched before now
-untouched_twice before mid now first second =
-    record {
-      files = second.files ∙ first.files;
-      writing = second.writing ∙ first.writing;
-      created = second.created ∙ first.created;
-      writes = second.writes ∙ first.writes;
-    }
-
 -- these names are among those
 abbrev pub IsWithin : List (List ℕ) → List (List ℕ) → Type 0
 IsWithin names others = (name : List ℕ) → Contains names name → Contains others name

@@ -2,7 +2,6 @@
 use Rattle.std.proofs.Common.{◌≡◌, ◌≢◌, ℕ, List, [], ◌∷◌, Result, Ok, Err, refl, sym, ap, ap₂, ◌∙◌, subst}
 use Rattle.std.specs.Prelude.{Contains, IfErr, codes}
 use Rattle.std.specs.Result.{IsErrAnd}
-use Rattle.std.specs.declared.option.Option.TheVariants.{Some, None}
 use Rattle.pddl_lexer.specs.Members.{Members}
 use Rattle.pddl_lexer.specs.Nested.{tree}
 use Rattle.pddl_lexer.specs.Faults.{tree_faults, IfFault, IsFirst}
@@ -16,9 +15,8 @@ use Rattle.pddl_parser.specs.declared.end.ParseEnd.TheVariants as parse_ends
 use Rattle.pddl_parser.specs.Outcome.{Reading, Reads, Faults, first}
 use Rattle.pddl_parser.specs.Reading.{domain_reading, problem_reading}
 use Rattle.pddl_parser.specs.Spelled.{IsWellSpelled, IsWellSpelledProblem}
-use Rattle.type_checker.specs.Checked.{Pair, IsChecked, head, ChecksTo}
+use Rattle.type_checker.specs.Checked.{Pair, IsChecked, ChecksTo}
 use Rattle.type_checker.specs.Faults.{SidedFault, check_faults}
-use Rattle.type_checker.specs.declared.end.Side.{Side}
 use Rattle.type_checker.specs.declared.end.Side.TheVariants as sides
 use Rattle.messages.specs.declared.outcome.Message.{Message}
 use Rattle.messages.specs.declared.outcome.Message.TheVariants as messages
@@ -26,7 +24,7 @@ use Rattle.messages.specs.declared.outcome.End.{End}
 use Rattle.messages.specs.declared.outcome.End.TheVariants as ends
 use Rattle.translator.specs.Ending.{Ending, Gives, Absent, Refused, ◌>>=◌, unless}
 use Rattle.run_task.specs.RunTask.{Start, FromPair}
-use Rattle.translator.specs.Run.{Text, text, made_domain, made_problem, tree_of, said, on_side, unless_checked, from_pair, of_texts}
+use Rattle.translator.specs.Run.{Text, text, made_domain, made_problem, tree_of, said, unless_checked, from_pair, of_texts}
 use Rattle.translator.specs.Stages.{StopsWhere}
 
 -- ---- one stage
@@ -49,17 +47,6 @@ said_refused name (Faults found more) end fault is given =
     let e = given (λ memory. cc (is, memory)) in
     let same : found ≡ fault = cc (e, is) in
     ap (λ (f : Fault). Refused name (messages.Fault f)) same
-
-pub checked_given : (domain problem : Text) (d : Domain) (p : Problem) (pair : Pair) → ChecksTo d p (Ok pair) → unless_checked domain problem (check_faults d p) (record { domain = d; problem = p }) ≡ Gives pair
-checked_given domain problem d p pair checks =
-    ap (λ (fs : List SidedFault). unless_checked domain problem fs (record { domain = d; problem = p })) checks.1 ∙ ap Gives (sym checks.0)
-
-pub checked_refused : (domain problem : Text) (faults : List SidedFault) (pair : Pair) (side : Side) (fault : Fault) → head faults ≡ Some (side, fault)
-    → unless_checked domain problem faults pair ≡ Refused (on_side side domain problem).name (messages.Fault fault)
-checked_refused domain problem [] pair side fault is = absurd (let e : None ≡ Some (side, fault) = is in cc (e))
-checked_refused domain problem ((at, found) ∷ more) pair side fault is =
-    let same : (at, found) ≡ (side, fault) = cc (is) in
-    ap (λ (f : SidedFault). Refused (on_side f.0 domain problem).name (messages.Fault f.1)) same
 
 -- a pair that the check answers is checked
 pub checked_pair : (d : Domain) (p : Problem) (pair : Pair) → ChecksTo d p (Ok pair) → IsWellSpelled d → IsWellSpelledProblem p → IsChecked pair

@@ -26,6 +26,3 @@ module _ (domain : Domain) (problem : Problem) (none : check_faults domain probl
 
   pub entry_bound : (entry : Init) → Among entry problem.init → in_init entry ≡ []
   entry_bound = piece_empty in_init problem.init initial_bound
-
-  pub goal_bound : in_condition problem.goal [] ≡ []
-  goal_bound = right_empty (flat_map in_init problem.init) (in_condition problem.goal []) all_bound.1

@@ -14,9 +14,8 @@ use Rattle.pddl_parser.specs.declared.types.Typed.{Typed}
 use Rattle.pddl_parser.specs.Words.{Name, is_same}
 use Rattle.type_checker.specs.Faultless.{mentions, has_predicate, has_function, is_known, has_objects}
 use Rattle.type_checker.specs.Faults.{check_faults}
-use Rattle.type_checker.specs.Increases.{total_cost}
 use Rattle.type_checker.specs.Mentions.{Mention, Use, predicate_uses, function_uses, arguments, in_domain, in_problem}
-use Rattle.type_checker.specs.Names.{has_arity, is_declared, is_function, is_well_used, use_positions, total_cost_heads, wrong_uses, unknown_object, unknown_objects}
+use Rattle.type_checker.specs.Names.{has_arity, is_declared, is_well_used, use_positions, total_cost_heads, wrong_uses, unknown_object, unknown_objects}
 use Rattle.lists.proofs.Items.{all_both}
 use Rattle.type_checker.proofs.NoFaults.{left_empty, right_empty, row_empty, all_pass, all_pieces}
 
@@ -84,19 +83,6 @@ declared_with_arity (head ∷ heads) usage some =
     by : ((is_same head.name.name usage.name.name && nat_eq (length head.variables) usage.arity) ≡ true) ⊎ (has_arity heads usage ≡ true) → (has_arity heads usage ≡ true → is_declared heads usage.name.name ≡ true) → (is_same head.name.name usage.name.name || is_declared heads usage.name.name) ≡ true
     by (inl here) rest = or_left (is_same head.name.name usage.name.name) (is_declared heads usage.name.name) (and_parts (is_same head.name.name usage.name.name) (nat_eq (length head.variables) usage.arity) here).0
     by (inr there) rest = or_right (is_same head.name.name usage.name.name) (is_declared heads usage.name.name) (rest there)
-
--- a function that is well used is declared, or is the total cost
-pub function_with_arity : (domain : Domain) (usage : Use) → is_well_used domain usage ≡ true → is_function domain usage.name.name ≡ true
-function_with_arity domain usage used = by (or_cases (has_arity domain.functions usage) undeclared used)
-  where
-    undeclared : Bool
-    undeclared = is_same usage.name.name total_cost && not (is_declared domain.functions total_cost) && nat_eq usage.arity 0
-
-    by : (has_arity domain.functions usage ≡ true) ⊎ (undeclared ≡ true) → (is_declared domain.functions usage.name.name || is_same usage.name.name total_cost) ≡ true
-    by (inl declared) = or_left (is_declared domain.functions usage.name.name) (is_same usage.name.name total_cost) (declared_with_arity domain.functions usage declared)
-    by (inr total) =
-        or_right (is_declared domain.functions usage.name.name) (is_same usage.name.name total_cost)
-        (and_parts (is_same usage.name.name total_cost) (not (is_declared domain.functions total_cost)) (and_parts (is_same usage.name.name total_cost && not (is_declared domain.functions total_cost)) (nat_eq usage.arity 0) total).0).0
 
 -- one of the heads has the name
 pub declared_among : (heads : List Head) (name : Name) → is_declared heads name ≡ list_any (is_same name) (map (λ head. head.name.name) heads)

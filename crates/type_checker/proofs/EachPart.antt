@@ -31,14 +31,6 @@ module _ (domain : Domain) (problem : Problem) (test : Mention → Bool) (all : 
       in_some (in_axiom rule)
       (λ mention there. behind_heads mention (among_right mention (flat_map in_action domain.actions) (flat_map in_axiom domain.axioms) (among_flat_map in_axiom rule mention domain.axioms among there)))
 
-  pub in_whole_problem : list_all test (in_problem problem) ≡ true
-  in_whole_problem = in_some (in_problem problem) (λ mention there. among_right mention (in_domain domain) (in_problem problem) there)
-
-  pub in_initial : list_all test (flat_map in_init problem.init) ≡ true
-  in_initial =
-      in_some (flat_map in_init problem.init)
-      (λ mention there. among_right mention (in_domain domain) (in_problem problem) (among_left mention (flat_map in_init problem.init) (in_condition problem.goal) there))
-
   pub in_each_entry : (entry : Init) → Among entry problem.init → list_all test (in_init entry) ≡ true
   in_each_entry entry among =
       in_some (in_init entry)
