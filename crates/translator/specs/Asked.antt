@@ -20,6 +20,10 @@ pub record Asked : Type 0 where
   pub output : List ℕ
   pub plan : Option (List ℕ)
 
+-- a pass of each kind
+abbrev pub every_pass : List PassKind
+every_pass = Order ∷ Relevance ∷ H2 ∷ []
+
 -- the kind of the passes of this name
 abbrev pub kind_named : List ℕ → Option PassKind
 kind_named name =

@@ -2,6 +2,7 @@
 #![tactic(auto)]
 
 mod command;
+mod every_pass;
 pub mod laws;
 mod plan;
 mod process;
@@ -11,5 +12,6 @@ mod translation;
 mod work;
 
 pub use command::{translate, without_words};
+pub use every_pass::translate_by_every_pass;
 pub use messages::{Message, Status, Summary};
 pub use process::{Ended, run};

@@ -3,14 +3,11 @@
 ghost use Rattle.std.specs.Prelude.{◌≤◌};
 
 use crate::texts::of_line;
-use order_variables::order_variables;
 use pass_book::{Book, Pass, PassKind};
-use pass_h2::prune;
-use pass_relevance::relevant;
 use sas_task::SasTask;
 use std::alloc::{AllocError, Global};
 use tl_device::{Console, FileCall, Files, MemConsole, MemFiles};
-use translator::{Status, translate};
+use translator::{Status, translate, translate_by_every_pass};
 
 /// Files and a console in memory.
 #[derive(Drop)]
@@ -99,23 +96,9 @@ impl Outside {
 
     /// The same, with a book of every pass.
     fn answer_by_all(&mut self, alloc: Global, words: &str) -> Result<Status, AllocError> {
-        let mut book = Book::new(alloc);
-        let kind = PassKind::Order;
-        let run = Box::new(
-            alloc,
-            |alloc: Global, task: &SasTask| order_variables(alloc, task),
-        )?;
-        let has_order = book.add(Pass { kind, run }).is_ok();
-        let kind = PassKind::Relevance;
-        let run = Box::new(alloc, |alloc: Global, task: &SasTask| relevant(alloc, task))?;
-        let has_relevance = book.add(Pass { kind, run }).is_ok();
-        let kind = PassKind::H2;
-        let run = Box::new(alloc, |alloc: Global, task: &SasTask| prune(alloc, task))?;
-        let has_h2 = book.add(Pass { kind, run }).is_ok();
-        if !(has_order && has_relevance && has_h2) {
-            return Err(AllocError);
-        }
-        self.answer_by_last(alloc, words, book)
+        let words = words_of(alloc, words)?;
+        let files = &mut self.files;
+        Ok(translate_by_every_pass(alloc, words, files, &mut self.console))
     }
 
     /// The same, with this book, which goes.
