@@ -4,7 +4,7 @@ use Rattle.std.specs.Prelude.{fold, codes, decimal}
 use Rattle.pddl_lexer.specs.declared.position.At.{At}
 use Rattle.messages.specs.declared.outcome.Summary.{Summary}
 use Rattle.messages.specs.declared.message.Phrase.TheVariants as phrases
-use Rattle.messages.specs.Messages.{usage_line, memory_line, named_line, unreadable_line, unwritable_line, fault_line, position_text, summary_lines}
+use Rattle.messages.specs.Messages.{named_line, unreadable_line, unwritable_line, fault_line, position_text, summary_lines}
 use Rattle.messages.specs.Pieces.{bytes_of, joined}
 
 run_on : (before : List ℕ) (parts : List (List ℕ)) → before ++ joined parts ≡ fold (λ line part. line ++ part) before parts
@@ -14,14 +14,6 @@ run_on before (part ∷ parts) = sym (append_assoc before part (joined parts)) �
 pub named_pieces : (words name : List ℕ) → joined (words ∷ name ∷ bytes_of phrases.LineFeed ∷ []) ≡ named_line words name
 unfolding bytes_of
 named_pieces words name = run_on words (name ∷ codes "\n" ∷ [])
-
-pub usage_is : bytes_of phrases.Usage ≡ usage_line
-unfolding bytes_of
-usage_is = refl
-
-pub memory_is : bytes_of phrases.OutOfMemory ≡ memory_line
-unfolding bytes_of
-memory_is = refl
 
 pub unreadable_is : (name : List ℕ) → named_line (bytes_of phrases.CannotRead) name ≡ unreadable_line name
 unfolding bytes_of unreadable_line

@@ -15,7 +15,7 @@ use pddl_lexer::At;
 use tl_device::{Console, Failed, say_all};
 
 /// A fixed part of what is printed.
-#[derive(Clone, Copy, PartialEq, Eq)]
+#[derive(Clone, Copy)]
 pub(crate) enum Phrase {
     Usage,
     OutOfMemory,
@@ -88,14 +88,6 @@ fn say_pieces<C: Console>(console: &mut C, pieces: &[Piece<'_>]) -> Result<(), F
         say_piece(console, piece)?;
     }
     Ok(())
-}
-
-fn say_phrase<C: Console>(console: &mut C, phrase: Phrase) -> Result<(), Failed>
-    ensures ok { OnOk result (C.printed console.new ≡ append_known (C.printed console.old) (bytes_of phrase)) }
-    ensures err { OnErr result (PrintedInPart (C.printed console.old) (C.printed console.new) (bytes_of phrase)) }
-    ensures cause { HasCause (C.faults console.old) (C.faults console.new) result }
-{
-    say_all(console, phrase.bytes())
 }
 
 fn say_summary<C: Console>(console: &mut C, summary: &Summary) -> Result<(), Failed>
@@ -211,7 +203,6 @@ fn say_refusal<C: Console>(console: &mut C, name: &str, message: &Message) -> Re
 }
 
 /// Says how the work ended.
-#[tactic(auto, using(crate::proofs::Lines::usage_is, crate::proofs::Lines::memory_is, crate::proofs::Lines::unreadable_is, crate::proofs::Lines::unwritable_is))]
 pub fn say_outcome<C: Console>(
     console: &mut C,
     outcome: &Result<Report, End<'_>>,
@@ -222,8 +213,8 @@ pub fn say_outcome<C: Console>(
 {
     match outcome {
         Ok(report) => say_report(console, report),
-        Err(End::Usage) => say_phrase(console, Phrase::Usage),
-        Err(End::NoMemory) => say_phrase(console, Phrase::OutOfMemory),
+        Err(End::Usage) => say_all(console, Phrase::Usage.bytes()),
+        Err(End::NoMemory) => say_all(console, Phrase::OutOfMemory.bytes()),
         Err(End::CannotRead(name)) => say_named(console, Phrase::CannotRead, name),
         Err(End::CannotWrite(name)) => say_named(console, Phrase::CannotWrite, name),
         Err(End::Refused(name, message)) => say_refusal(console, name, message),

@@ -63,7 +63,7 @@ impl From<Status> for ExitCode {
 }
 
 /// How the search for invariants went, and the sizes of the written task.
-#[derive(Clone, Copy, PartialEq, Eq)]
+#[derive(Clone, Copy)]
 pub struct Summary {
     /// How many candidates were tried.
     pub candidates: u64,
@@ -87,7 +87,7 @@ pub struct Report {
 }
 
 /// What is said of a text that is refused, and of which place in it. Lines are counted from 1.
-#[derive(Clone, Copy, PartialEq, Eq)]
+#[derive(Clone, Copy)]
 pub enum Message {
     /// A fault of the domain or of the problem, or a file that is too long.
     Fault(Fault),
