@@ -10,15 +10,10 @@ use std::alloc::{AllocError, Global};
 use std::marker::Model;
 
 /// A task with a table of its operators' costs. Contracts see the task.
+#[derive(Drop)]
 pub(crate) struct Costs<'a> {
     task: &'a SasTask,
     table: IndexMap<&'a [u8], u64>,
-}
-
-impl Drop for Costs<'_> {
-    fn drop(self) {
-        let Costs { task: _, table: _ } = self;
-    }
 }
 
 impl<'a> Model for Costs<'a> {

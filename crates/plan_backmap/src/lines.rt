@@ -21,16 +21,14 @@ fn line_len(text: &[u8]) -> usize
 pub(crate) fn first_line(text: &[u8]) -> &[u8]
     ensures { result.now ≡ cut.first_line text.now }
 {
-    let len = line_len(text);
-    &text[..len]
+    &text[..line_len(text)]
 }
 
 /// What follows the first line of a text and its line feed.
 pub(crate) fn after_line(text: &[u8]) -> &[u8]
     ensures { result.now ≡ cut.after_line text.now }
 {
-    let len = line_len(text);
-    match &text[len..] {
+    match &text[line_len(text)..] {
         [] => &[],
         [_, after @ ..] => after,
     }
