@@ -76,8 +76,7 @@ fn end_len(line: &[u8]) -> usize
 fn without_start(line: &[u8]) -> &[u8]
     ensures { result.now ≡ spec.without_start line.now }
 {
-    let blanks = start_len(line);
-    &line[blanks..]
+    &line[start_len(line)..]
 }
 
 fn without_end(line: &[u8]) -> &[u8]
