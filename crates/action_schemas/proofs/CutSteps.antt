@@ -8,10 +8,11 @@ use Rattle.pddl_parser.specs.declared.types.Domain.{Domain}
 use Rattle.pddl_parser.specs.declared.types.Problem.{Problem}
 use Rattle.pddl_parser.specs.declared.types.Typed.{Typed}
 use Rattle.pddl_parser.proofs.ConditionCases as c
+use Rattle.action_schemas.specs.declared.conditions.Asked.{Asked}
 use Rattle.normal_task.specs.declared.parts.Part.{Part}
 use Rattle.normal_task.specs.declared.parts.Fresh.{Fresh}
-use Rattle.normal_task.specs.Parts.{Scope, Made, paired, Known, known, known_step, cut_step, parts, none_inside, exists_inside}
-use Rattle.action_schemas.specs.Cuts.{combined}
+use Rattle.normal_task.specs.Parts.{Scope, Made, paired, Known, known, known_step, cut_step, parts}
+use Rattle.action_schemas.specs.Cuts.{combined, quantified}
 use Rattle.normal_rows.proofs.LeftToRight.{paired-last}
 use Rattle.normal_rows.proofs.TurnSteps.{turn-more, pairs-more}
 
@@ -76,37 +77,28 @@ module _ (domain : Domain) (problem : Problem) (positive : Bool) (scope : Scope)
         ∙ ap (λ (x : Condition). combined (not positive) around (parts domain problem premise (not positive) scope around ∷ parts domain problem x positive scope around ∷ []) next) same_too
         ∙ parts-Imply premise conclusion at ∙ ap (λ (x : Condition). cut_of x) (sym is)
 
-    module _ (variables listed : List Typed) (inside given : Condition) (at : At) (same_variables : listed ≡ variables) (same_inside : given ≡ inside) where
-      none-same : (sign : Bool) → none_inside domain problem listed (known domain problem given) sign scope around next ≡ none_inside domain problem variables (known domain problem inside) sign scope around next
-      none-same sign =
-          ap (λ (v : List Typed). none_inside domain problem v (known domain problem given) sign scope around next) same_variables
-          ∙ ap (λ (x : Condition). none_inside domain problem variables (known domain problem x) sign scope around next) same_inside
+    module _ (variables listed : List Typed) (inside given : Condition) (at : At) (same_variables : listed ≡ variables) (same_inside : given ≡ inside) (asked : Asked) where
+      abbrev quantifies : List Typed → Condition → Asked → Made Part
+      quantifies v x a = quantified domain problem v (known domain problem x) a scope around next
 
-      some-same : (sign : Bool) → exists_inside domain problem listed (known domain problem given) sign scope around next ≡ exists_inside domain problem variables (known domain problem inside) sign scope around next
-      some-same sign =
-          ap (λ (v : List Typed). exists_inside domain problem v (known domain problem given) sign scope around next) same_variables
-          ∙ ap (λ (x : Condition). exists_inside domain problem variables (known domain problem x) sign scope around next) same_inside
+      same : (asks : Asked) → asked ≡ asks → quantifies listed given asked ≡ quantifies variables inside asks
+      same asks is_asked =
+          ap (λ (v : List Typed). quantifies v given asked) same_variables ∙ ap (λ (x : Condition). quantifies variables x asked) same_inside ∙ ap (quantifies variables inside) is_asked
 
-      forall-step : condition ≡ conditions.Forall variables inside at → (b : Bool) → positive ≡ b → cut_of condition ≡ cut_step domain problem (Condition-F.Forall variables (known domain problem inside) at) b scope around next
-      forall-step is b sign =
-          ap (λ (x : Condition). cut_of x) is
-          ∙ ap (λ (k : Known). k.cut positive scope around next) (c.fold-Forall Known (known_step domain problem) variables inside at)
-          ∙ ap (λ (b : Bool). cut_step domain problem (Condition-F.Forall variables (known domain problem inside) at) b scope around next) sign
+      pub forall-is : condition ≡ conditions.Forall variables inside at → asked ≡ record { some = not positive; positive = false } → quantifies listed given asked ≡ cut_of condition
+      forall-is is is_asked =
+          same (record { some = not positive; positive = false }) is_asked ∙ by positive
+          ∙ sym (ap (λ (x : Condition). cut_of x) is ∙ ap (λ (k : Known). k.cut positive scope around next) (c.fold-Forall Known (known_step domain problem) variables inside at))
+        where
+          by : (b : Bool) → quantifies variables inside (record { some = not b; positive = false }) ≡ cut_step domain problem (Condition-F.Forall variables (known domain problem inside) at) b scope around next
+          by true = refl
+          by false = refl
 
-      exists-step : condition ≡ conditions.Exists variables inside at → (b : Bool) → positive ≡ b → cut_of condition ≡ cut_step domain problem (Condition-F.Exists variables (known domain problem inside) at) b scope around next
-      exists-step is b sign =
-          ap (λ (x : Condition). cut_of x) is
-          ∙ ap (λ (k : Known). k.cut positive scope around next) (c.fold-Exists Known (known_step domain problem) variables inside at)
-          ∙ ap (λ (b : Bool). cut_step domain problem (Condition-F.Exists variables (known domain problem inside) at) b scope around next) sign
-
-      pub forall-none : condition ≡ conditions.Forall variables inside at → positive ≡ true → none_inside domain problem listed (known domain problem given) false scope around next ≡ cut_of condition
-      forall-none is sign = none-same false ∙ sym (forall-step is true sign)
-
-      pub forall-some : condition ≡ conditions.Forall variables inside at → positive ≡ false → exists_inside domain problem listed (known domain problem given) false scope around next ≡ cut_of condition
-      forall-some is sign = some-same false ∙ sym (forall-step is false sign)
-
-      pub exists-some : condition ≡ conditions.Exists variables inside at → positive ≡ true → exists_inside domain problem listed (known domain problem given) true scope around next ≡ cut_of condition
-      exists-some is sign = some-same true ∙ sym (exists-step is true sign)
-
-      pub exists-none : condition ≡ conditions.Exists variables inside at → positive ≡ false → none_inside domain problem listed (known domain problem given) true scope around next ≡ cut_of condition
-      exists-none is sign = none-same true ∙ sym (exists-step is false sign)
+      pub exists-is : condition ≡ conditions.Exists variables inside at → asked ≡ record { some = positive; positive = true } → quantifies listed given asked ≡ cut_of condition
+      exists-is is is_asked =
+          same (record { some = positive; positive = true }) is_asked ∙ by positive
+          ∙ sym (ap (λ (x : Condition). cut_of x) is ∙ ap (λ (k : Known). k.cut positive scope around next) (c.fold-Exists Known (known_step domain problem) variables inside at))
+        where
+          by : (b : Bool) → quantifies variables inside (record { some = b; positive = true }) ≡ cut_step domain problem (Condition-F.Exists variables (known domain problem inside) at) b scope around next
+          by true = refl
+          by false = refl

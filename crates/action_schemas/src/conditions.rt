@@ -1,11 +1,11 @@
 // How a condition is cut into parts.
-ghost use Rattle.std.specs.Prelude.{◌≡◌, ◌++◌, ◌+◌, [], suc, map, length, true, false, IfOk, if◌then◌else◌};
+ghost use Rattle.std.specs.Prelude.{◌≡◌, ◌++◌, ◌+◌, [], suc, not, map, length, true, false, IfOk, if◌then◌else◌};
 ghost use Rattle.normal_task.specs.declared.task.Literal.TheVariants.{Holds, Equal};
 ghost use Rattle.normal_task.specs.declared.task.Place.TheVariants as place;
 ghost use Rattle.normal_task.specs.Numbers.{predicate_number, ranges_of};
 ghost use Rattle.normal_task.specs.Parts as spec;
 ghost use Rattle.normal_rows.specs.MadeThings.{IsMadeOf};
-ghost use Rattle.action_schemas.specs.Cuts.{combined};
+ghost use Rattle.action_schemas.specs.Cuts.{combined, quantified};
 
 use lists::List;
 use normal_rows::{
@@ -23,6 +23,37 @@ pub struct Here<'s, 'n, 'a> {
     pub numbering: &'n Numbering<'a>,
     pub scope: &'s Scope<'n, 'a>,
     pub around: u64,
+}
+
+/// What a quantifier asks of the objects of its variables.
+#[derive(Clone, Copy)]
+struct Asked {
+    /// Whether some are to make the inside true, or none.
+    some: bool,
+    /// Whether it is the inside itself, or its negation.
+    positive: bool,
+}
+
+impl Asked {
+    /// A `forall` asks that none make the negation of the inside true.
+    fn by_forall(positive: bool) -> Asked
+        ensures { result ≡ record { some = not positive; positive = false } }
+    {
+        Asked {
+            some: !positive,
+            positive: false,
+        }
+    }
+
+    /// An `exists` asks that some make the inside true.
+    fn by_exists(positive: bool) -> Asked
+        ensures { result ≡ record { some = positive; positive = true } }
+    {
+        Asked {
+            some: positive,
+            positive: true,
+        }
+    }
 }
 
 // ---- conditions
@@ -57,18 +88,12 @@ pub fn cut<'n, 'a>(
             Ok(made)
         }
         Condition::Forall(variables, inside, _) => {
-            if positive {
-                cut_none(alloc, here, variables.as_slice(), inside.get(), false, next)
-            } else {
-                cut_some(alloc, here, variables.as_slice(), inside.get(), false, next)
-            }
+            let asked = Asked::by_forall(positive);
+            cut_quantified(alloc, here, variables.as_slice(), inside.get(), asked, next)
         }
         Condition::Exists(variables, inside, _) => {
-            if positive {
-                cut_some(alloc, here, variables.as_slice(), inside.get(), true, next)
-            } else {
-                cut_none(alloc, here, variables.as_slice(), inside.get(), true, next)
-            }
+            let asked = Asked::by_exists(positive);
+            cut_quantified(alloc, here, variables.as_slice(), inside.get(), asked, next)
         }
     }
 }
@@ -92,6 +117,25 @@ fn cut_members<'n, 'a>(
         made = joined_made(alloc, every, here.around, made, more)?;
     }
     Ok(made)
+}
+
+/// Some objects of the variables make the inside true, or its negation, or none do: as is asked.
+#[cycle(cut)]
+fn cut_quantified<'n, 'a>(
+    alloc: Global,
+    here: &Here<'_, 'n, 'a>,
+    variables: &'a [Typed],
+    inside: &'a Condition,
+    asked: Asked,
+    next: u64,
+) -> Result<Made<Part>, AllocError>
+    ensures { IfOk result (IsMadeOf (quantified here.now.numbering.now.domain here.now.numbering.now.problem variables.now (spec.known here.now.numbering.now.domain here.now.numbering.now.problem inside.now) asked here.now.scope.now here.now.around next)) }
+{
+    if asked.some {
+        cut_some(alloc, here, variables, inside, asked.positive, next)
+    } else {
+        cut_none(alloc, here, variables, inside, asked.positive, next)
+    }
 }
 
 /// Some objects of the variables make the inside true, or its negation where it isn't `positive`.
@@ -129,7 +173,7 @@ fn cut_none<'n, 'a>(
 ) -> Result<Made<Part>, AllocError>
     ensures { IfOk result (IsMadeOf (spec.none_inside here.now.numbering.now.domain here.now.numbering.now.problem variables.now (spec.known here.now.numbering.now.domain here.now.numbering.now.problem inside.now) positive here.now.scope.now here.now.around next)) }
 {
-    let arguments = free_slots(alloc, here.numbering, variables, inside, here.scope)?;
+    let arguments = arguments_for(alloc, here, variables, inside)?;
     cut_denied(
         alloc,
         here.numbering,
@@ -163,6 +207,18 @@ fn cut_denied<'n, 'a>(
     };
     let body = cut_some(alloc, &there, variables, inside, positive, after)?;
     denied(alloc, numbering, arguments, next, body)
+}
+
+/// The arguments of the new predicate of a quantified condition.
+fn arguments_for<'n, 'a>(
+    alloc: Global,
+    here: &Here<'_, 'n, 'a>,
+    variables: &'a [Typed],
+    inside: &'a Condition,
+) -> Result<Vec<Variable<'n, 'a>>, AllocError>
+    ensures { IfOk result (λ slots. slots.items ≡ spec.free_slots here.now.numbering.now.domain here.now.numbering.now.problem variables.now (spec.known here.now.numbering.now.domain here.now.numbering.now.problem inside.now) here.now.scope.now) }
+{
+    free_slots(alloc, here.numbering, variables, inside, here.scope)
 }
 
 /// The negation of a new derived predicate with these arguments, whose axioms have these parts.

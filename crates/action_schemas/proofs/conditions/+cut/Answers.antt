@@ -5,7 +5,7 @@ use Rattle.normal_task.specs.declared.parts.Fresh.{Fresh}
 use Rattle.normal_task.specs.declared.parts.Part.{Part}
 use Rattle.normal_task.specs.Parts.{Made, Known, known, parts}
 use Rattle.normal_rows.specs.MadeThings.{IsMadeOf}
-use Rattle.action_schemas.proofs.CutSteps.{member-more, two-are, imply-is, forall-none, forall-some, exists-some, exists-none}
+use Rattle.action_schemas.proofs.CutSteps.{member-more, two-are, imply-is, forall-is, exists-is}
 use Rattle.normal_rows.proofs.TurnSteps.{twice-next}
 use Rattle.action_schemas.proofs.conditions.+cut.Goals as goal
 
@@ -36,46 +36,18 @@ cut-returns-in_ok-made-in-Imply t c =
     c.in_ok-second-in-Imply.second.items c.in_ok-second-in-Imply.second.fresh c.in_ok-second-in-Imply.ensures
     (not c.args.positive) c.in_ok-made-in-Imply.made.items c.in_ok-made-in-Imply.made.fresh c.in_ok-made-in-Imply.ensures.0 c.in_ok-made-in-Imply.ensures.1)
 
-pub cut-returns-then-positive : goal.cut-returns-then-positive
-cut-returns-then-positive t c =
-    let domain = c.args.here.now.numbering.now.domain in
-    let problem = c.args.here.now.numbering.now.problem in
-    let scope = c.args.here.now.scope.now in
-    let around = c.args.here.now.around in
-    subst (λ (m : Made Part). IfOk c.cut_none.result (IsMadeOf m))
-    (forall-none domain problem c.args.positive scope around c.args.next c.args.condition.now c.in-Forall.variables c.as_slice-then-positive.result.now c.in-Forall.inside c.get-then-positive.result.now c.in-Forall.field-2
-    c.as_slice-then-positive.ensures c.get-then-positive.ensures c.in-Forall.is c.if-positive.true)
-    c.cut_none.ensures
+pub cut-returns-in-Forall : goal.cut-returns-in-Forall
+cut-returns-in-Forall t c =
+    let here = c.args.here.now in
+    subst (λ (m : Made Part). IfOk c.cut_quantified.result (IsMadeOf m))
+    (forall-is here.numbering.now.domain here.numbering.now.problem c.args.positive here.scope.now here.around c.args.next c.args.condition.now c.in-Forall.variables c.as_slice-in-Forall.result.now c.in-Forall.inside c.get-in-Forall.result.now c.in-Forall.field-2
+    c.as_slice-in-Forall.ensures c.get-in-Forall.ensures c.by_forall-asked.result c.in-Forall.is c.by_forall-asked.ensures)
+    c.cut_quantified.ensures
 
-pub cut-returns-else-positive : goal.cut-returns-else-positive
-cut-returns-else-positive t c =
-    let domain = c.args.here.now.numbering.now.domain in
-    let problem = c.args.here.now.numbering.now.problem in
-    let scope = c.args.here.now.scope.now in
-    let around = c.args.here.now.around in
-    subst (λ (m : Made Part). IfOk c.cut_some.result (IsMadeOf m))
-    (forall-some domain problem c.args.positive scope around c.args.next c.args.condition.now c.in-Forall.variables c.as_slice-else-positive.result.now c.in-Forall.inside c.get-else-positive.result.now c.in-Forall.field-2
-    c.as_slice-else-positive.ensures c.get-else-positive.ensures c.in-Forall.is c.if-positive.false)
-    c.cut_some.ensures
-
-pub cut-returns-then-positive-2 : goal.cut-returns-then-positive-2
-cut-returns-then-positive-2 t c =
-    let domain = c.args.here.now.numbering.now.domain in
-    let problem = c.args.here.now.numbering.now.problem in
-    let scope = c.args.here.now.scope.now in
-    let around = c.args.here.now.around in
-    subst (λ (m : Made Part). IfOk c.cut_some-then-positive-2.result (IsMadeOf m))
-    (exists-some domain problem c.args.positive scope around c.args.next c.args.condition.now c.in-Exists.variables c.as_slice-then-positive-2.result.now c.in-Exists.inside c.get-then-positive-2.result.now c.in-Exists.field-2
-    c.as_slice-then-positive-2.ensures c.get-then-positive-2.ensures c.in-Exists.is c.if-positive-2.true)
-    c.cut_some-then-positive-2.ensures
-
-pub cut-returns-else-positive-2 : goal.cut-returns-else-positive-2
-cut-returns-else-positive-2 t c =
-    let domain = c.args.here.now.numbering.now.domain in
-    let problem = c.args.here.now.numbering.now.problem in
-    let scope = c.args.here.now.scope.now in
-    let around = c.args.here.now.around in
-    subst (λ (m : Made Part). IfOk c.cut_none-else-positive-2.result (IsMadeOf m))
-    (exists-none domain problem c.args.positive scope around c.args.next c.args.condition.now c.in-Exists.variables c.as_slice-else-positive-2.result.now c.in-Exists.inside c.get-else-positive-2.result.now c.in-Exists.field-2
-    c.as_slice-else-positive-2.ensures c.get-else-positive-2.ensures c.in-Exists.is c.if-positive-2.false)
-    c.cut_none-else-positive-2.ensures
+pub cut-returns-in-Exists : goal.cut-returns-in-Exists
+cut-returns-in-Exists t c =
+    let here = c.args.here.now in
+    subst (λ (m : Made Part). IfOk c.cut_quantified-in-Exists.result (IsMadeOf m))
+    (exists-is here.numbering.now.domain here.numbering.now.problem c.args.positive here.scope.now here.around c.args.next c.args.condition.now c.in-Exists.variables c.as_slice-in-Exists.result.now c.in-Exists.inside c.get-in-Exists.result.now c.in-Exists.field-2
+    c.as_slice-in-Exists.ensures c.get-in-Exists.ensures c.by_exists-asked.result c.in-Exists.is c.by_exists-asked.ensures)
+    c.cut_quantified-in-Exists.ensures
