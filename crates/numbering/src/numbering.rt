@@ -216,10 +216,9 @@ impl<'a> Numbering<'a> {
         let Some(name) = one_type(listed) else {
             return Ok(());
         };
-        if !self.types.has(name) {
+        if self.types.add(name)? {
             let objects = self.range_of_types(alloc, listed)?;
             self.of_types.push(OfType { name, objects })?;
-            self.types.add(name)?;
         }
         Ok(())
     }
