@@ -40,9 +40,8 @@ pub fn relevant(alloc: Global, task: &SasTask) -> Result<SasTask, AllocError>
     ensures { IfOk result (IsReduced task.now) }
 {
     if wants_nothing(task) {
-        let copy = task.copy(alloc)?;
-        return Ok(copy);
+        task.copy(alloc)
+    } else {
+        with_relevant_alone(alloc, task)
     }
-    let new = with_relevant_alone(alloc, task)?;
-    Ok(new)
 }

@@ -8,7 +8,5 @@ use Rattle.pass_relevance.proofs.influences.add_pairs.Goals as goal
 
 pub loop-pair-preserved : goal.loop-pair-preserved
 loop-pair-preserved c =
-    let pairs = c.args.pairs.now in
-    let i = c.loop-pair.pair-index in
-    let here = get_or pairs i (pair 0 0) in
-    map_turn pairs i here c.loop-pair-test.true (get_or_default pairs i (pair 0 0) here c.loop-pair-test.true) (λ (p : Pair). arc c.args.from p.var) c.args.arcs.now.items c.loop-pair.arcs.items c.push.new.self.items c.loop-pair.invariant c.in_ok-push.ensures.items
+    let here = get_or c.args.pairs.now c.loop-pair.pair-index (pair 0 0) in
+    map_turn _ _ here c.loop-pair-test.true (get_or_default _ _ (pair 0 0) here c.loop-pair-test.true) (λ (p : Pair). arc c.args.from p.var) _ _ _ c.loop-pair.invariant c.in_ok-push.ensures.items
