@@ -206,38 +206,28 @@ static BEFORE_BALLS: [&str; 2] = ["translate --make ", "translate --make="];
 /// Numbers of balls that are accepted.
 static ACCEPTED_BALLS: [(&str, u32); 4] = [("1", 1), ("4", 4), ("0004", 4), ("200", 200)];
 
-/// A line with a number of balls and a plan file.
-static ACCEPTED_MADE: [(&str, Accepted<'static>); 1] = [(
-    "translate --map-plan f --make 4",
-    Accepted {
-        source: Source::Made { balls: 4 },
-        plan: Some("f"),
-        ..PLAIN
-    },
-)];
-
-/// Lines with a plan file that are accepted, with its name.
-static ACCEPTED_PLANS: [(&str, &str); 6] = [
-    ("translate d p --map-plan f", "f"),
-    ("translate --map-plan f d p", "f"),
-    ("translate d --map-plan=f p", "f"),
-    ("translate d p --map-plan=", ""),
-    ("translate d p --map-plan -", "-"),
-    ("translate d p --map-plan=-f", "-f"),
+/// Lines with a plan file or a list of passes that are accepted, with the name of the file and the list as it is written.
+static ACCEPTED_NAMED: [(&str, Option<&str>, Option<&str>); 12] = [
+    ("translate d p --map-plan f", Some("f"), None),
+    ("translate --map-plan f d p", Some("f"), None),
+    ("translate d --map-plan=f p", Some("f"), None),
+    ("translate d p --map-plan=", Some(""), None),
+    ("translate d p --map-plan -", Some("-"), None),
+    ("translate d p --map-plan=-f", Some("-f"), None),
+    ("translate d p --pass order", None, Some("order")),
+    (
+        "translate --pass order,order d p",
+        None,
+        Some("order,order"),
+    ),
+    ("translate d --pass=order, p", None, Some("order,")),
+    ("translate d p --pass=", None, Some("")),
+    ("translate d p --pass ,ORDER", None, Some(",ORDER")),
+    ("translate d p --pass none", None, Some("none")),
 ];
 
-/// Lines with a list of passes that are accepted, with the list as it is written.
-static ACCEPTED_PASSES: [(&str, &str); 6] = [
-    ("translate d p --pass order", "order"),
-    ("translate --pass order,order d p", "order,order"),
-    ("translate d --pass=order, p", "order,"),
-    ("translate d p --pass=", ""),
-    ("translate d p --pass ,ORDER", ",ORDER"),
-    ("translate d p --pass none", "none"),
-];
-
-/// Lines that ask for whole groups.
-static ACCEPTED_WHOLE: [(&str, Accepted<'static>); 4] = [
+/// Lines that ask for whole groups, and one with a number of balls and a plan file.
+static ACCEPTED_WHOLE_OR_MADE: [(&str, Accepted<'static>); 5] = [
     ("translate d p --full-encoding", WHOLE),
     ("translate --full-encoding d p", WHOLE),
     ("translate --full-encoding -- d p", WHOLE),
@@ -246,6 +236,14 @@ static ACCEPTED_WHOLE: [(&str, Accepted<'static>); 4] = [
         Accepted {
             source: Source::Made { balls: 4 },
             ..WHOLE
+        },
+    ),
+    (
+        "translate --map-plan f --make 4",
+        Accepted {
+            source: Source::Made { balls: 4 },
+            plan: Some("f"),
+            ..PLAIN
         },
     ),
 ];
@@ -312,7 +310,7 @@ static ACCEPTED_TASKS: [(&str, Accepted<'static>); 10] = [
 #[test]
 fn refuses(rt: HostRuntime) -> Result<(), AllocError> {
     for line in &REFUSED {
-        assert!(rt; reads(rt.alloc(), line, None)?, "{line}");
+        assert_reads(&rt, rt.alloc(), line, None)?;
     }
     Ok(())
 }
@@ -331,7 +329,7 @@ fn accepts(rt: HostRuntime) -> Result<(), AllocError> {
             output,
             ..PLAIN
         };
-        assert!(rt; reads(rt.alloc(), line, Some(wanted))?, "{line}");
+        assert_reads(&rt, rt.alloc(), line, Some(wanted))?;
     }
     Ok(())
 }
@@ -341,11 +339,7 @@ fn accepts_numbers(rt: HostRuntime) -> Result<(), AllocError> {
     for row in &ACCEPTED_NUMBERS {
         let mut wanted = PLAIN;
         wanted.settings.max_candidates = row.1;
-        assert!(rt;
-            reads_number(rt.alloc(), &BEFORE_A_NUMBER, row.0, Some(wanted))?,
-            "{}",
-            row.0
-        );
+        assert_reads_number(&rt, rt.alloc(), &BEFORE_A_NUMBER, row.0, Some(wanted))?;
     }
     Ok(())
 }
@@ -355,13 +349,9 @@ fn accepts_balls(rt: HostRuntime) -> Result<(), AllocError> {
     for row in &ACCEPTED_BALLS {
         let mut wanted = PLAIN;
         wanted.source = Source::Made { balls: row.1 };
-        assert!(rt;
-            reads_number(rt.alloc(), &BEFORE_BALLS, row.0, Some(wanted))?,
-            "{}",
-            row.0
-        );
+        assert_reads_number(&rt, rt.alloc(), &BEFORE_BALLS, row.0, Some(wanted))?;
     }
-    assert_read(&rt, rt.alloc(), &ACCEPTED_MADE)
+    Ok(())
 }
 
 #[test]
@@ -370,28 +360,22 @@ fn refuses_balls(rt: HostRuntime) -> Result<(), AllocError> {
 }
 
 #[test]
-fn accepts_plans(rt: HostRuntime) -> Result<(), AllocError> {
-    for row in &ACCEPTED_PLANS {
-        let mut wanted = PLAIN;
-        wanted.plan = Some(row.1);
-        assert!(rt; reads(rt.alloc(), row.0, Some(wanted))?, "{}", row.0);
+fn accepts_plans_and_passes(rt: HostRuntime) -> Result<(), AllocError> {
+    for row in &ACCEPTED_NAMED {
+        let (line, plan, passes) = *row;
+        let wanted = Accepted {
+            plan,
+            passes,
+            ..PLAIN
+        };
+        assert_reads(&rt, rt.alloc(), line, Some(wanted))?;
     }
     Ok(())
 }
 
 #[test]
-fn accepts_passes(rt: HostRuntime) -> Result<(), AllocError> {
-    for row in &ACCEPTED_PASSES {
-        let mut wanted = PLAIN;
-        wanted.passes = Some(row.1);
-        assert!(rt; reads(rt.alloc(), row.0, Some(wanted))?, "{}", row.0);
-    }
-    Ok(())
-}
-
-#[test]
-fn accepts_whole_groups(rt: HostRuntime) -> Result<(), AllocError> {
-    assert_read(&rt, rt.alloc(), &ACCEPTED_WHOLE)
+fn accepts_whole_groups_and_a_made_plan(rt: HostRuntime) -> Result<(), AllocError> {
+    assert_read(&rt, rt.alloc(), &ACCEPTED_WHOLE_OR_MADE)
 }
 
 #[test]
@@ -406,7 +390,7 @@ fn assert_read(
     rows: &[(&str, Accepted<'_>)],
 ) -> Result<(), AllocError> {
     for row in rows {
-        assert!(rt; reads(alloc, row.0, Some(row.1))?, "{}", row.0);
+        assert_reads(rt, alloc, row.0, Some(row.1))?;
     }
     Ok(())
 }
@@ -419,30 +403,43 @@ fn assert_refused(
     numbers: &[&str],
 ) -> Result<(), AllocError> {
     for digits in numbers {
-        assert!(rt; reads_number(alloc, fronts, digits, None)?, "{digits}");
+        assert_reads_number(rt, alloc, fronts, digits, None)?;
     }
     Ok(())
 }
 
-/// Whether the words of the line are read as this.
-fn reads(alloc: Global, line: &str, wanted: Option<Accepted<'_>>) -> Result<bool, AllocError> {
-    let words = words_of(alloc, line)?;
-    Ok(read_words(alloc, &words)? == wanted)
-}
-
-/// Whether both lines with these fronts and this number are read as this.
-fn reads_number(
+/// Asserts that both lines with these fronts and this number are read as this.
+fn assert_reads_number(
+    rt: &impl Abort,
     alloc: Global,
     fronts: &[&str; 2],
     digits: &str,
     wanted: Option<Accepted<'_>>,
-) -> Result<bool, AllocError> {
+) -> Result<(), AllocError> {
     for front in fronts {
-        if !reads(alloc, &joined(alloc, front, digits)?, wanted)? {
-            return Ok(false);
-        }
+        assert_reads(rt, alloc, &joined(alloc, front, digits)?, wanted)?;
     }
-    Ok(true)
+    Ok(())
+}
+
+/// Asserts that the words of the line are read as this.
+fn assert_reads(
+    rt: &impl Abort,
+    alloc: Global,
+    line: &str,
+    wanted: Option<Accepted<'_>>,
+) -> Result<(), AllocError> {
+    let words = words_of(alloc, line)?;
+    assert!(rt; are_read(alloc, &words, wanted)?, "{line}");
+    Ok(())
+}
+
+fn are_read(
+    alloc: Global,
+    words: &Vec<String>,
+    wanted: Option<Accepted<'_>>,
+) -> Result<bool, AllocError> {
+    Ok(read_words(alloc, words)? == wanted)
 }
 
 fn joined(alloc: Global, front: &str, end: &str) -> Result<String, AllocError> {
@@ -455,8 +452,11 @@ fn joined(alloc: Global, front: &str, end: &str) -> Result<String, AllocError> {
 fn words_of(alloc: Global, line: &str) -> Result<Vec<String>, AllocError> {
     let mut words = Vec::new(alloc);
     for word in line.split_whitespace() {
-        let word = if word == "''" { "" } else { word };
-        words.push(String::from_str(alloc, word)?)?;
+        words.push(word_of(alloc, word)?)?;
     }
     Ok(words)
+}
+
+fn word_of(alloc: Global, word: &str) -> Result<String, AllocError> {
+    String::from_str(alloc, if word == "''" { "" } else { word })
 }
