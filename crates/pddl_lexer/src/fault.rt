@@ -208,7 +208,7 @@ pub struct Fault {
 }
 
 /// Why a text gave no tree: its first fault, or memory ran out.
-#[derive(Debug, Drop)]
+#[derive(Drop)]
 pub enum TreeEnd {
     Fault(Fault),
     NoMemory,
