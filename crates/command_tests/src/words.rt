@@ -430,16 +430,8 @@ fn assert_reads(
     wanted: Option<Accepted<'_>>,
 ) -> Result<(), AllocError> {
     let words = words_of(alloc, line)?;
-    assert!(rt; are_read(alloc, &words, wanted)?, "{line}");
+    assert!(rt; read_words(alloc, &words)? == wanted, "{line}");
     Ok(())
-}
-
-fn are_read(
-    alloc: Global,
-    words: &Vec<String>,
-    wanted: Option<Accepted<'_>>,
-) -> Result<bool, AllocError> {
-    Ok(read_words(alloc, words)? == wanted)
 }
 
 fn joined(alloc: Global, front: &str, end: &str) -> Result<String, AllocError> {
