@@ -1,4 +1,4 @@
-use Rattle.std.proofs.Common.{◌≡◌, ◌≤◌, ◌++◌, ◌∙◌, length, take, sym, subst, arith, length-take}
+use Rattle.std.proofs.Common.{◌≡◌, ◌++◌, ◌∙◌, take, sym, subst, ap, arith, length-take}
 use Rattle.std.proofs.lemmas.List.{take-append-le}
 use Rattle.std.proofs.lemmas.Grind.{common_steps}
 use Rattle.tl_device.specs.Contents.{Holds, IsTold}
@@ -19,8 +19,6 @@ returns-then-len-taken-clause-rest g c _ =
 
 pub loop-all-preserved : goal.loop-all-preserved
 loop-all-preserved g c =
-    let bound : c.in_ok-taken.taken ≤ length c.read.new.into = c.in_ok-taken.ensures.bound in
-    let items : c.extend_from_slice.new.self.items ≡ c.loop-all.all.items ++ take c.in_ok-taken.taken c.read.new.into = c.in_ok-extend_from_slice.ensures.items ∙ rw take-append-le in
-    let whole : Holds (g.F.Files.files c.args.files.now) c.args.name.now (c.extend_from_slice.new.self.items ++ g.F.Files.rest c.read.new.self) = rw items (holds_on _ _ c.loop-all.all.items (g.F.Files.rest c.loop-all.files)
-    (take c.in_ok-taken.taken c.read.new.into) (g.F.Files.rest c.read.new.self) c.loop-all.invariant.whole (λ told. c.in_ok-taken.ensures.front (subst IsTold (sym c.loop-all.invariant.files) told))) in
+    let items : c.extend_from_slice.new.self.items ≡ c.loop-all.all.items ++ take c.in_ok-taken.taken c.read.new.into = c.in_ok-extend_from_slice.ensures.items ∙ ap (λ piece. c.loop-all.all.items ++ piece) (take-append-le _ _ _ c.in_ok-taken.ensures.bound) in
+    let whole : Holds (g.F.Files.files c.args.files.now) c.args.name.now (c.extend_from_slice.new.self.items ++ g.F.Files.rest c.read.new.self) = rw items (holds_on _ _ _ _ _ _ c.loop-all.invariant.whole (λ told. c.in_ok-taken.ensures.front (subst IsTold (sym c.loop-all.invariant.files) told))) in
     grind (arith, common_steps, whole)
