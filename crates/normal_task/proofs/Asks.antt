@@ -9,7 +9,7 @@ use Rattle.pddl_parser.specs.declared.types.Named.{Named}
 use Rattle.pddl_parser.specs.declared.types.Problem.{Problem}
 use Rattle.pddl_parser.specs.declared.types.Typed.{Typed}
 use Rattle.pddl_parser.proofs.ConditionCases.{Each}
-use Rattle.type_checker.specs.Mentions.{Mention, Asked, asked_predicates, in_condition, condition_step, in_effect, effect_step}
+use Rattle.fault_positions.specs.Mentions.{Mention, Asked, asked_predicates, in_condition, condition_step, in_effect, effect_step}
 use Rattle.lists.proofs.Items.{Among, among_left, among_right, among_which, map_source, flat_map_piece}
 use Rattle.normal_task.specs.declared.task.Literal.{Literal}
 use Rattle.normal_task.specs.declared.task.Literal.TheVariants.{Holds, Equal}

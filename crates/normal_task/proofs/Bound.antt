@@ -14,7 +14,7 @@ use Rattle.pddl_parser.specs.declared.types.Typed.{Typed}
 use Rattle.pddl_parser.specs.Words.{Name, is_same}
 use Rattle.pddl_parser.proofs.ConditionCases.{Each}
 use Rattle.pddl_parser.proofs.SameAtoms.{same_name}
-use Rattle.type_checker.specs.Scopes as scopes
+use Rattle.fault_positions.specs.Scopes as scopes
 use Rattle.type_checker.proofs.NoFaults.{left_empty, right_empty}
 use Rattle.normal_task.specs.Parts.{is_listed, is_term_of, Known, known_step, known}
 use Rattle.normal_task.proofs.Anys.{any-map, any-same}

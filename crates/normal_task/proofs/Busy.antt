@@ -15,8 +15,8 @@ use Rattle.pddl_parser.specs.Holds as holds
 use Rattle.pddl_parser.specs.Step as step
 use Rattle.pddl_parser.specs.Plan.{pddl_task}
 use Rattle.pddl_parser.proofs.Steps.{is_step}
-use Rattle.type_checker.specs.Mentions.{in_condition, in_effect, in_action}
-use Rattle.type_checker.specs.Scopes as scopes
+use Rattle.fault_positions.specs.Mentions.{in_condition, in_effect, in_action}
+use Rattle.fault_positions.specs.Scopes as scopes
 use Rattle.type_checker.proofs.NoFaults.{right_empty}
 use Rattle.lists.proofs.Items.{Among, map_source}
 use Rattle.normal_task.specs.declared.task.EffectRow.{EffectRow}

@@ -19,7 +19,7 @@ use Rattle.pddl_parser.specs.Words.{Name, is_same}
 use Rattle.pddl_parser.specs.Objects as pddl
 use Rattle.pddl_parser.specs.Holds as holds
 use Rattle.pddl_parser.proofs.ConditionCases.{Each}
-use Rattle.type_checker.specs.Mentions.{Mention, Asked, Compared, in_condition, condition_step}
+use Rattle.fault_positions.specs.Mentions.{Mention, Asked, Compared, in_condition, condition_step}
 use Rattle.lists.proofs.Items.{Among, same_any, map_source, flat_map_piece, map_flat_map}
 use Rattle.normal_task.specs.declared.task.Literal.TheVariants.{Holds, Equal}
 use Rattle.normal_task.specs.declared.task.Place.TheVariants.{Variable}

@@ -22,12 +22,12 @@ use Rattle.pddl_parser.specs.Holds as holds
 use Rattle.pddl_parser.specs.Step as step
 use Rattle.pddl_parser.proofs.ConditionCases.{Each}
 use Rattle.pddl_parser.proofs.SameAtoms.{same_name}
+use Rattle.fault_positions.specs.Increases as increases
+use Rattle.fault_positions.specs.Increases.{Depth, Outermost, Inner, Increase, total_cost}
+use Rattle.fault_positions.specs.Mentions.{Mention, Function, in_condition, in_effect, effect_step, in_domain, in_init, in_problem}
+use Rattle.fault_positions.specs.Names as names
+use Rattle.fault_positions.specs.Scopes as scopes
 use Rattle.type_checker.specs.Faults.{Row, row, check_faults}
-use Rattle.type_checker.specs.Increases as increases
-use Rattle.type_checker.specs.Increases.{Depth, Outermost, Inner, Increase, total_cost}
-use Rattle.type_checker.specs.Mentions.{Mention, Function, in_condition, in_effect, effect_step, in_domain, in_init, in_problem}
-use Rattle.type_checker.specs.Names as names
-use Rattle.type_checker.specs.Scopes as scopes
 use Rattle.type_checker.proofs.NoFaults.{left_empty, right_empty, row_empty}
 use Rattle.lists.proofs.Items.{Among, any_passes, passing, piece_empty}
 use Rattle.normal_task.specs.declared.task.CostRow.TheVariants as costs

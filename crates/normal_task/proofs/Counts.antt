@@ -7,8 +7,8 @@ use Rattle.pddl_parser.specs.declared.types.Domain.{Domain}
 use Rattle.pddl_parser.specs.declared.types.Problem.{Problem}
 use Rattle.pddl_parser.specs.declared.types.Typed.{Typed}
 use Rattle.pddl_parser.proofs.ConditionCases.{Each}
-use Rattle.type_checker.specs.Sizes as sizes
-use Rattle.type_checker.specs.Sizes.{Size, size_step, size_of, product}
+use Rattle.fault_positions.specs.Sizes as sizes
+use Rattle.fault_positions.specs.Sizes.{Size, size_step, size_of, product}
 use Rattle.normal_task.specs.Numbers.{ranges_of}
 use Rattle.normal_task.specs.Parts.{Scope, Part, Fresh, Made, in_turn, all_of, joined, paired, with_variables, Known, scope_inside, renumbered, free_slots, exists_inside, none_inside, known_step, known}
 use Rattle.normal_task.proofs.Scopes.{length-append, length-map, map-append}

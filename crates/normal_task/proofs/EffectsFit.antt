@@ -9,8 +9,8 @@ use Rattle.pddl_parser.specs.declared.types.Effect.{Effect}
 use Rattle.pddl_parser.specs.declared.types.Problem.{Problem}
 use Rattle.pddl_parser.specs.Words.{Name}
 use Rattle.pddl_parser.proofs.ConditionCases.{Each}
-use Rattle.type_checker.specs.Mentions.{Mention, in_condition, in_effect, effect_step}
-use Rattle.type_checker.specs.Scopes as scopes
+use Rattle.fault_positions.specs.Mentions.{Mention, in_condition, in_effect, effect_step}
+use Rattle.fault_positions.specs.Scopes as scopes
 use Rattle.type_checker.proofs.NoFaults.{left_empty, right_empty}
 use Rattle.normal_task.specs.declared.task.EffectRow.{EffectRow}
 use Rattle.normal_task.specs.Parts.{Scope, scope_inside, Part, Made, in_turn, parts}

@@ -18,8 +18,8 @@ use Rattle.pddl_parser.specs.Objects as pddl
 use Rattle.pddl_parser.specs.Holds as holds
 use Rattle.pddl_parser.specs.Step as step
 use Rattle.pddl_parser.proofs.ConditionCases.{Each}
-use Rattle.type_checker.specs.Mentions.{Mention, Written, in_condition, in_effect, effect_step}
-use Rattle.type_checker.specs.Scopes as scopes
+use Rattle.fault_positions.specs.Mentions.{Mention, Written, in_condition, in_effect, effect_step}
+use Rattle.fault_positions.specs.Scopes as scopes
 use Rattle.type_checker.proofs.NoFaults.{left_empty, right_empty}
 use Rattle.lists.proofs.Items.{same_any}
 use Rattle.normal_task.specs.declared.task.EffectRow.{EffectRow}

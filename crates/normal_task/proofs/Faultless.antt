@@ -22,10 +22,10 @@ use Rattle.pddl_parser.specs.Words.{Name, is_same}
 use Rattle.pddl_parser.specs.Objects.{objects}
 use Rattle.pddl_parser.specs.Holds as holds
 use Rattle.pddl_parser.proofs.ConditionCases.{Each}
+use Rattle.fault_positions.specs.Mentions.{Mention, Use, Written, written_predicates, predicate_uses, function_uses, arguments, in_head, in_condition, in_effect, in_action, in_axiom, in_domain, in_init, in_problem}
+use Rattle.fault_positions.specs.Names as names
+use Rattle.fault_positions.specs.Scopes as scopes
 use Rattle.type_checker.specs.Faults.{row, check_faults}
-use Rattle.type_checker.specs.Mentions.{Mention, Use, Written, written_predicates, predicate_uses, function_uses, arguments, in_head, in_condition, in_effect, in_action, in_axiom, in_domain, in_init, in_problem}
-use Rattle.type_checker.specs.Names as names
-use Rattle.type_checker.specs.Scopes as scopes
 use Rattle.type_checker.proofs.NoFaults.{map_empty, left_empty, right_empty, row_empty}
 use Rattle.lists.proofs.Items.{Among, all_passes, piece_empty, all_flat_map}
 use Rattle.normal_task.specs.Numbers.{head_names}

@@ -9,8 +9,8 @@ use Rattle.planning.specs.Task.{IsFull}
 use Rattle.pddl_parser.specs.Holds as holds
 use Rattle.pddl_parser.specs.Plan.{pddl_task}
 use Rattle.pddl_parser.proofs.ConditionCases.{Each}
-use Rattle.type_checker.specs.Mentions.{in_condition}
-use Rattle.type_checker.specs.Scopes as scopes
+use Rattle.fault_positions.specs.Mentions.{in_condition}
+use Rattle.fault_positions.specs.Scopes as scopes
 use Rattle.lists.proofs.Items.{all_passes, same_any}
 use Rattle.normal_task.specs.declared.task.GroundAtom.{GroundAtom}
 use Rattle.normal_task.specs.declared.task.Literal.{Literal}

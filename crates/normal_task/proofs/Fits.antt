@@ -14,7 +14,7 @@ use Rattle.pddl_parser.specs.declared.types.Term.TheVariants as terms
 use Rattle.pddl_parser.specs.declared.types.Typed.{Typed}
 use Rattle.pddl_parser.specs.Words.{Name, is_same}
 use Rattle.pddl_parser.proofs.ConditionCases.{Each}
-use Rattle.type_checker.specs.Mentions.{Mention, Asked, in_condition, condition_step}
+use Rattle.fault_positions.specs.Mentions.{Mention, Asked, in_condition, condition_step}
 use Rattle.normal_task.specs.declared.task.Literal.{Literal}
 use Rattle.normal_task.specs.declared.task.Literal.TheVariants.{Holds, Equal}
 use Rattle.normal_task.specs.declared.task.Place.{Place}

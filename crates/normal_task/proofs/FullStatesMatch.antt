@@ -22,7 +22,7 @@ use Rattle.pddl_parser.specs.Holds as holds
 use Rattle.pddl_parser.specs.Plan.{pddl_task}
 use Rattle.pddl_parser.proofs.SameAtoms.{same_name}
 use Rattle.pddl_parser.proofs.ConditionCases.{Each}
-use Rattle.type_checker.specs.Mentions.{in_condition, in_axiom}
+use Rattle.fault_positions.specs.Mentions.{in_condition, in_axiom}
 use Rattle.lists.proofs.Items.{Among, passing, same_any, map_source, flat_map_piece, within_left}
 use Rattle.normal_task.specs.declared.task.AxiomRow.{AxiomRow}
 use Rattle.normal_task.specs.declared.task.GroundAtom.{GroundAtom}

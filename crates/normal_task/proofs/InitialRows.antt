@@ -15,11 +15,11 @@ use Rattle.pddl_parser.specs.Objects.{objects}
 use Rattle.pddl_parser.specs.Words.{is_same}
 use Rattle.pddl_parser.specs.Holds.{object_of, is_derived, ground}
 use Rattle.pddl_parser.specs.Spelled.{HasSmallValue, IsWellSpelledProblem}
+use Rattle.fault_positions.specs.Mentions.{Written, Function, use_of}
+use Rattle.fault_positions.specs.Names.{has_arity}
+use Rattle.fault_positions.specs.Scopes.{unbound_terms}
 use Rattle.type_checker.specs.Faultless.{has_predicate, is_known, has_objects, is_basic}
 use Rattle.type_checker.specs.Faults.{check_faults}
-use Rattle.type_checker.specs.Mentions.{Written, Function, use_of}
-use Rattle.type_checker.specs.Names.{has_arity}
-use Rattle.type_checker.specs.Scopes.{unbound_terms}
 use Rattle.type_checker.proofs.Basic.{written_basic}
 use Rattle.type_checker.proofs.Bound.{entry_bound}
 use Rattle.type_checker.proofs.Declared.{predicates_declared, objects_known, object_among}

@@ -13,10 +13,10 @@ use Rattle.pddl_parser.specs.declared.types.Typed.{Typed}
 use Rattle.pddl_parser.specs.Words.{Name}
 use Rattle.pddl_parser.specs.Holds.{is_derived}
 use Rattle.pddl_parser.proofs.ConditionCases.{Each}
+use Rattle.fault_positions.specs.Mentions.{Mention, Written, use_of, written_predicates, in_condition, in_effect, effect_step}
+use Rattle.fault_positions.specs.Names as names
+use Rattle.fault_positions.specs.Scopes as scopes
 use Rattle.type_checker.specs.Faultless.{has_predicate, has_objects}
-use Rattle.type_checker.specs.Mentions.{Mention, Written, use_of, written_predicates, in_condition, in_effect, effect_step}
-use Rattle.type_checker.specs.Names as names
-use Rattle.type_checker.specs.Scopes as scopes
 use Rattle.type_checker.proofs.NoFaults.{left_empty, right_empty}
 use Rattle.normal_task.specs.declared.task.EffectRow.{EffectRow}
 use Rattle.normal_task.specs.declared.task.Literal.{Literal}

@@ -14,9 +14,9 @@ use Rattle.pddl_parser.specs.Words.{Name, is_same}
 use Rattle.pddl_parser.specs.Objects.{objects}
 use Rattle.pddl_parser.specs.Holds.{is_derived}
 use Rattle.pddl_parser.proofs.ConditionCases.{Each}
+use Rattle.fault_positions.specs.Mentions.{Mention, Asked, Compared, Use, use_of, in_condition, condition_step}
+use Rattle.fault_positions.specs.Names as names
 use Rattle.type_checker.specs.Faultless.{has_predicate, is_known, has_objects}
-use Rattle.type_checker.specs.Mentions.{Mention, Asked, Compared, Use, use_of, in_condition, condition_step}
-use Rattle.type_checker.specs.Names as names
 use Rattle.type_checker.proofs.Declared.{object_among}
 use Rattle.normal_task.specs.declared.task.Literal.{Literal}
 use Rattle.normal_task.specs.declared.task.Literal.TheVariants.{Holds, Equal}

@@ -7,11 +7,11 @@ use Rattle.pddl_parser.specs.declared.types.Derived.{Derived}
 use Rattle.pddl_parser.specs.declared.types.Domain.{Domain}
 use Rattle.pddl_parser.specs.declared.types.Problem.{Problem}
 use Rattle.pddl_parser.specs.Words.{is_same}
+use Rattle.fault_positions.specs.Mentions.{Derives, head_use, in_condition}
+use Rattle.fault_positions.specs.Names as names
+use Rattle.fault_positions.specs.Scopes as scopes
 use Rattle.type_checker.specs.Faultless.{has_predicate, has_objects}
 use Rattle.type_checker.specs.Faults.{check_faults}
-use Rattle.type_checker.specs.Mentions.{Derives, head_use, in_condition}
-use Rattle.type_checker.specs.Names as names
-use Rattle.type_checker.specs.Scopes as scopes
 use Rattle.type_checker.proofs.Bound.{axiom_bound}
 use Rattle.lists.proofs.Items.{Among, any_passes}
 use Rattle.normal_task.specs.declared.task.Normal.{Normal}

@@ -13,9 +13,9 @@ use Rattle.pddl_parser.specs.Words.{Name}
 use Rattle.pddl_parser.specs.Spelled.{IsSpelled, IsSmall, HasSmallCosts, IsWellSpelled}
 use Rattle.pddl_parser.specs.Step.{increases}
 use Rattle.pddl_parser.proofs.ConditionCases.{Each}
+use Rattle.fault_positions.specs.Mentions.{in_condition, in_effect}
+use Rattle.fault_positions.specs.Scopes as scopes
 use Rattle.type_checker.specs.Faults.{check_faults}
-use Rattle.type_checker.specs.Mentions.{in_condition, in_effect}
-use Rattle.type_checker.specs.Scopes as scopes
 use Rattle.type_checker.proofs.Bound.{action_bound}
 use Rattle.type_checker.proofs.NoFaults.{left_empty, right_empty}
 use Rattle.type_checker.proofs.OneIncrease.{CostSound, costs_sound}

@@ -7,7 +7,7 @@ use Rattle.pddl_parser.specs.declared.types.Problem.{Problem}
 use Rattle.pddl_parser.specs.declared.types.Term.{Term}
 use Rattle.pddl_parser.specs.declared.types.Term.TheVariants as terms
 use Rattle.pddl_parser.specs.Words.{Name, is_same}
-use Rattle.type_checker.specs.Mentions.{Mention, Use, predicate_uses, arguments}
+use Rattle.fault_positions.specs.Mentions.{Mention, Use, predicate_uses, arguments}
 use Rattle.normal_task.specs.Numbers.{object_names, head_names}
 
 module _ (domain : Domain) (problem : Problem) where

@@ -13,9 +13,9 @@ use Rattle.pddl_parser.specs.Words.{Name, is_same}
 use Rattle.pddl_parser.specs.Holds.{is_derived}
 use Rattle.pddl_parser.specs.Spelled.{IsSpelled, IsWellSpelled}
 use Rattle.pddl_parser.proofs.SameAtoms.{same_name}
+use Rattle.fault_positions.specs.Mentions.{Use}
+use Rattle.fault_positions.specs.Names as names
 use Rattle.type_checker.specs.Faults.{check_faults}
-use Rattle.type_checker.specs.Mentions.{Use}
-use Rattle.type_checker.specs.Names as names
 use Rattle.type_checker.proofs.Declared.{declared_with_arity, declared_among}
 use Rattle.type_checker.proofs.Once.{predicates_once}
 use Rattle.lists.proofs.Items.{Among, among_map, passing, at_seam, within_left}

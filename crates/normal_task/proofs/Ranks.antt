@@ -13,9 +13,9 @@ use Rattle.pddl_parser.proofs.ConditionCases.{Each}
 use Rattle.pddl_parser.proofs.SameAtoms.{same_name}
 use Rattle.names.specs.Links.{Link, link}
 use Rattle.names.proofs.Chains.{Ends, chains_end}
+use Rattle.fault_positions.specs.Links.{dependence_links, axiom_links}
+use Rattle.fault_positions.specs.Mentions.{Mention, Variables, Derives, Asked, Written, Function, Compared, asked_predicates, in_condition, in_effect, in_action, in_init}
 use Rattle.type_checker.specs.Faults.{check_faults}
-use Rattle.type_checker.specs.Links.{dependence_links, axiom_links}
-use Rattle.type_checker.specs.Mentions.{Mention, Variables, Derives, Asked, Written, Function, Compared, asked_predicates, in_condition, in_effect, in_action, in_init}
 use Rattle.type_checker.proofs.NoFaults.{no_cycles}
 use Rattle.lists.proofs.Items.{Among, among_left, among_right, among_which, among_map, Source, map_source, all_passes, among_flat_map}
 use Rattle.normal_task.specs.declared.task.AxiomRow.{AxiomRow}

@@ -21,8 +21,8 @@ use Rattle.pddl_parser.specs.Step as step
 use Rattle.pddl_parser.specs.Plan.{pddl_task}
 use Rattle.pddl_parser.proofs.ConditionCases.{Each}
 use Rattle.pddl_parser.proofs.SameAtoms.{same_name}
-use Rattle.type_checker.specs.Mentions.{in_condition, in_effect, in_action}
-use Rattle.type_checker.specs.Scopes as scopes
+use Rattle.fault_positions.specs.Mentions.{in_condition, in_effect, in_action}
+use Rattle.fault_positions.specs.Scopes as scopes
 use Rattle.type_checker.proofs.NoFaults.{left_empty, right_empty}
 use Rattle.lists.proofs.Items.{Among, among_map, map_source, any_passes, passing}
 use Rattle.normal_task.specs.declared.task.EffectRow.{EffectRow}

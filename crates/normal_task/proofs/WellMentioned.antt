@@ -10,10 +10,10 @@ use Rattle.pddl_parser.specs.declared.types.Problem.{Problem}
 use Rattle.pddl_parser.specs.declared.types.Typed.{Typed}
 use Rattle.pddl_parser.specs.Words.{is_same}
 use Rattle.pddl_parser.specs.Holds.{is_derived}
+use Rattle.fault_positions.specs.Mentions.{Mention, written_predicates, in_condition, in_effect, in_action, in_axiom}
+use Rattle.fault_positions.specs.Scopes as scopes
 use Rattle.type_checker.specs.Faultless.{mentions, has_predicate, has_objects, is_basic}
 use Rattle.type_checker.specs.Faults.{check_faults}
-use Rattle.type_checker.specs.Mentions.{Mention, written_predicates, in_condition, in_effect, in_action, in_axiom}
-use Rattle.type_checker.specs.Scopes as scopes
 use Rattle.type_checker.proofs.Basic.{written_basic}
 use Rattle.type_checker.proofs.Declared.{predicates_declared, objects_known}
 use Rattle.type_checker.proofs.EachPart.{in_each_action, in_each_axiom, in_goal}

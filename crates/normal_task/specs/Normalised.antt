@@ -17,7 +17,7 @@ use Rattle.pddl_parser.specs.declared.types.Typed.{Typed}
 use Rattle.pddl_parser.specs.Words.{Name, is_same}
 use Rattle.pddl_parser.specs.Holds as pddl
 use Rattle.pddl_parser.specs.Step.{increases}
-use Rattle.type_checker.specs.Mentions.{in_effect, written_predicates}
+use Rattle.fault_positions.specs.Mentions.{in_effect, written_predicates}
 use Rattle.normal_task.specs.declared.task.AxiomRow.{AxiomRow}
 use Rattle.normal_task.specs.declared.task.CostRow.{CostRow}
 use Rattle.normal_task.specs.declared.task.CostRow.TheVariants as costs

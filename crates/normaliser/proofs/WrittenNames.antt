@@ -20,8 +20,8 @@ use Rattle.pddl_parser.proofs.EffectCases.{effect_by_cases}
 use Rattle.lists.proofs.Items.{any_append, same_any, same_map}
 use Rattle.std.proofs.lemmas.List.{length-take-le}
 use Rattle.lists.proofs.LoopSteps.{take_next}
-use Rattle.type_checker.specs.Arguments.{AreThose}
-use Rattle.type_checker.specs.Mentions.{Mention, written_predicates, in_condition, condition_step, in_cost, in_effect, effect_step}
+use Rattle.fault_positions.specs.Arguments.{AreThose}
+use Rattle.fault_positions.specs.Mentions.{Mention, written_predicates, in_condition, condition_step, in_cost, in_effect, effect_step}
 use Rattle.normal_task.specs.declared.parts.Fresh.{Fresh}
 use Rattle.normal_task.specs.declared.task.PredicateRow.{PredicateRow}
 use Rattle.normaliser.specs.Rows.{row_of}

@@ -4,7 +4,7 @@ ghost use Rattle.std.specs.List.{list_any, flat_map};
 ghost use Rattle.pddl_parser.specs.declared.types.Domain.{Domain};
 ghost use Rattle.pddl_parser.specs.declared.types.Problem.{Problem};
 ghost use Rattle.pddl_parser.specs.Words.{Name, is_same};
-ghost use Rattle.type_checker.specs.Arguments.{AreThose};
+ghost use Rattle.fault_positions.specs.Arguments.{AreThose};
 ghost use Rattle.normaliser.specs.Rows.{row_of};
 ghost use Rattle.normaliser.specs.IsWritten.{is_written};
 ghost use Rattle.normal_task.specs.Normalised as spec;

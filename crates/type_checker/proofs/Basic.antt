@@ -4,10 +4,10 @@ use Rattle.std.specs.List.{list_all, flat_map}
 use Rattle.pddl_parser.specs.declared.types.Domain.{Domain}
 use Rattle.pddl_parser.specs.declared.types.Problem.{Problem}
 use Rattle.pddl_parser.specs.Holds.{is_derived}
+use Rattle.fault_positions.specs.Mentions.{Mention, written_predicates, in_domain, in_problem}
+use Rattle.fault_positions.specs.Names.{written_derived}
 use Rattle.type_checker.specs.Faultless.{mentions, is_basic}
 use Rattle.type_checker.specs.Faults.{check_faults}
-use Rattle.type_checker.specs.Mentions.{Mention, written_predicates, in_domain, in_problem}
-use Rattle.type_checker.specs.Names.{written_derived}
 use Rattle.lists.proofs.Items.{all_both}
 use Rattle.type_checker.proofs.NoFaults.{row_empty, none_pass, all_pieces}
 

@@ -7,8 +7,8 @@ use Rattle.pddl_parser.specs.declared.types.Domain.{Domain}
 use Rattle.pddl_parser.specs.declared.types.Init.{Init}
 use Rattle.pddl_parser.specs.declared.types.Problem.{Problem}
 use Rattle.lists.proofs.Items.{Among}
+use Rattle.fault_positions.specs.Scopes.{in_condition, in_action, in_axiom, in_domain, in_init, in_problem}
 use Rattle.type_checker.specs.Faults.{check_faults}
-use Rattle.type_checker.specs.Scopes.{in_condition, in_action, in_axiom, in_domain, in_init, in_problem}
 use Rattle.type_checker.proofs.NoFaults.{left_empty, right_empty, piece_empty, row_empty}
 
 module _ (domain : Domain) (problem : Problem) (none : check_faults domain problem ≡ []) where

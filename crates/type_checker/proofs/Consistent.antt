@@ -15,9 +15,9 @@ use Rattle.pddl_parser.specs.Holds.{GroundAtom, is_same_atom, ground}
 use Rattle.pddl_parser.specs.Plan.{is_stated}
 use Rattle.pddl_parser.specs.Step.{value_in}
 use Rattle.lists.proofs.Items.{each_passes}
+use Rattle.fault_positions.specs.Initial.{denied_position, is_another, revalued_position, revalued_after}
 use Rattle.type_checker.specs.Faultless.{denies_none, is_value, gives_the_value}
 use Rattle.type_checker.specs.Faults.{check_faults}
-use Rattle.type_checker.specs.Initial.{denied_position, is_another, revalued_position, revalued_after}
 use Rattle.type_checker.proofs.NoFaults.{left_empty, right_empty, piece_empty, row_empty}
 
 denies : (init : List Init) (entry : Init) → denied_position init entry ≡ [] → denies_none init entry ≡ true

@@ -12,10 +12,10 @@ use Rattle.pddl_parser.specs.declared.types.Term.{Term}
 use Rattle.pddl_parser.specs.declared.types.Term.TheVariants.{Variable, Object}
 use Rattle.pddl_parser.specs.declared.types.Typed.{Typed}
 use Rattle.pddl_parser.specs.Words.{Name, is_same}
+use Rattle.fault_positions.specs.Mentions.{Mention, Use, predicate_uses, function_uses, arguments, in_domain, in_problem}
+use Rattle.fault_positions.specs.Names.{has_arity, is_declared, is_well_used, use_positions, total_cost_heads, wrong_uses, unknown_object, unknown_objects}
 use Rattle.type_checker.specs.Faultless.{mentions, has_predicate, has_function, is_known, has_objects}
 use Rattle.type_checker.specs.Faults.{check_faults}
-use Rattle.type_checker.specs.Mentions.{Mention, Use, predicate_uses, function_uses, arguments, in_domain, in_problem}
-use Rattle.type_checker.specs.Names.{has_arity, is_declared, is_well_used, use_positions, total_cost_heads, wrong_uses, unknown_object, unknown_objects}
 use Rattle.lists.proofs.Items.{all_both}
 use Rattle.type_checker.proofs.NoFaults.{left_empty, right_empty, row_empty, all_pass, all_pieces}
 

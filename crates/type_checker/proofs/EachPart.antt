@@ -7,8 +7,8 @@ use Rattle.pddl_parser.specs.declared.types.Domain.{Domain}
 use Rattle.pddl_parser.specs.declared.types.Init.{Init}
 use Rattle.pddl_parser.specs.declared.types.Problem.{Problem}
 use Rattle.lists.proofs.Items.{Among, all_passes, each_passes, among_left, among_right, among_flat_map}
+use Rattle.fault_positions.specs.Mentions.{Mention, in_head, in_condition, in_action, in_axiom, in_domain, in_init, in_problem}
 use Rattle.type_checker.specs.Faultless.{mentions}
-use Rattle.type_checker.specs.Mentions.{Mention, in_head, in_condition, in_action, in_axiom, in_domain, in_init, in_problem}
 
 module _ (domain : Domain) (problem : Problem) (test : Mention → Bool) (all : list_all test (mentions domain problem) ≡ true) where
   in_some : (part : List Mention) → ((mention : Mention) → Among mention part → Among mention (mentions domain problem)) → list_all test part ≡ true

@@ -4,9 +4,9 @@ use Rattle.std.specs.List.{list_all}
 use Rattle.pddl_parser.specs.declared.types.Domain.{Domain}
 use Rattle.pddl_parser.specs.declared.types.Problem.{Problem}
 use Rattle.lists.proofs.Items.{all_both}
+use Rattle.fault_positions.specs.Sizes.{domain_cuts, problem_cuts}
 use Rattle.type_checker.specs.Faultless.{has_few_parts}
 use Rattle.type_checker.specs.Faults.{check_faults}
-use Rattle.type_checker.specs.Sizes.{domain_cuts, problem_cuts}
 use Rattle.type_checker.proofs.NoFaults.{row_empty, all_pass}
 
 module _ (domain : Domain) (problem : Problem) (none : check_faults domain problem ≡ []) where

@@ -14,9 +14,9 @@ use Rattle.pddl_parser.specs.declared.types.Typed.{Typed}
 use Rattle.pddl_parser.specs.Words.{Name, is_same}
 use Rattle.pddl_parser.specs.Objects.{objects}
 use Rattle.lists.proofs.Items.{Among}
+use Rattle.fault_positions.specs.Mentions.{in_domain, in_problem}
+use Rattle.fault_positions.specs.Names.{repeats_after, repeats, names_of, head_names, repeated_variables, domain_repeats, problem_repeats}
 use Rattle.type_checker.specs.Faults.{check_faults}
-use Rattle.type_checker.specs.Mentions.{in_domain, in_problem}
-use Rattle.type_checker.specs.Names.{repeats_after, repeats, names_of, head_names, repeated_variables, domain_repeats, problem_repeats}
 use Rattle.type_checker.proofs.NoFaults.{left_empty, right_empty, row_empty}
 
 -- ---- lists of names

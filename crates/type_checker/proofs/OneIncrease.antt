@@ -15,15 +15,15 @@ use Rattle.pddl_parser.specs.declared.types.Problem.{Problem}
 use Rattle.pddl_parser.specs.Step as step
 use Rattle.pddl_parser.specs.Words.{is_same}
 use Rattle.lists.proofs.Items.{Among, Each, each_both, all_passes, each_passes, all_left, all_right}
-use Rattle.type_checker.specs.Increases.{Depth}
-use Rattle.type_checker.specs.Increases.{Outermost, Inner}
+use Rattle.fault_positions.specs.Increases.{Depth}
+use Rattle.fault_positions.specs.Increases.{Outermost, Inner}
+use Rattle.fault_positions.specs.Increases.{Increase, total_cost, joined_depth, may_stand, is_proper, is_total_cost_term, increases_step, increases, ill_formed}
+use Rattle.fault_positions.specs.Mentions.{Mention, Variables, Function, use_of, in_condition, in_effect, in_action, effect_step}
+use Rattle.fault_positions.specs.Names.{has_arity, is_declared, is_well_used}
+use Rattle.fault_positions.specs.Scopes as scopes
+use Rattle.fault_positions.specs.Scopes.{Scope, inside_of}
 use Rattle.type_checker.specs.Faultless.{has_function, is_known, has_objects, is_one_cost}
 use Rattle.type_checker.specs.Faults.{check_faults}
-use Rattle.type_checker.specs.Increases.{Increase, total_cost, joined_depth, may_stand, is_proper, is_total_cost_term, increases_step, increases, ill_formed}
-use Rattle.type_checker.specs.Mentions.{Mention, Variables, Function, use_of, in_condition, in_effect, in_action, effect_step}
-use Rattle.type_checker.specs.Names.{has_arity, is_declared, is_well_used}
-use Rattle.type_checker.specs.Scopes as scopes
-use Rattle.type_checker.specs.Scopes.{Scope, inside_of}
 use Rattle.type_checker.proofs.Bound.{action_bound}
 use Rattle.type_checker.proofs.Declared.{functions_declared, objects_known}
 use Rattle.type_checker.proofs.EachPart.{in_each_action}

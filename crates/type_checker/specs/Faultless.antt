@@ -12,10 +12,10 @@ use Rattle.pddl_parser.specs.Objects.{objects}
 use Rattle.pddl_parser.specs.Holds.{ground, is_derived}
 use Rattle.pddl_parser.specs.Plan.{is_stated}
 use Rattle.pddl_parser.specs.Step.{value_in}
-use Rattle.type_checker.specs.Increases.{Increase}
-use Rattle.type_checker.specs.Mentions.{Mention, predicate_uses, function_uses, written_predicates, arguments, in_domain, in_problem}
-use Rattle.type_checker.specs.Names.{has_arity, is_well_used}
-use Rattle.type_checker.specs.Sizes.{Cut, most_parts}
+use Rattle.fault_positions.specs.Increases.{Increase}
+use Rattle.fault_positions.specs.Mentions.{Mention, predicate_uses, function_uses, written_predicates, arguments, in_domain, in_problem}
+use Rattle.fault_positions.specs.Names.{has_arity, is_well_used}
+use Rattle.fault_positions.specs.Sizes.{Cut, most_parts}
 
 -- ---- what is mentioned
 

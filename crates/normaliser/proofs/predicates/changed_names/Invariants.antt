@@ -1,6 +1,6 @@
 use Rattle.std.proofs.Common.{take}
 use Rattle.std.specs.List.{list_any}
-use Rattle.type_checker.specs.Arguments.{AreThose}
+use Rattle.fault_positions.specs.Arguments.{AreThose}
 use Rattle.normaliser.specs.IsWritten.{is_written}
 use Rattle.normaliser.proofs.predicates.changed_names.Given as goal
 

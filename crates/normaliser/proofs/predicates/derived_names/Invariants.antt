@@ -1,7 +1,7 @@
 use Rattle.std.proofs.Common.{take}
 use Rattle.std.specs.List.{list_any}
 use Rattle.pddl_parser.specs.Words.{is_same}
-use Rattle.type_checker.specs.Arguments.{AreThose}
+use Rattle.fault_positions.specs.Arguments.{AreThose}
 use Rattle.normaliser.proofs.predicates.derived_names.Given as goal
 
 abbrev pub invariant-loop-axiom : goal.invariant-loop-axiom
