@@ -11,11 +11,12 @@ ghost use Rattle.contradictions.specs.Merges.{as_pair, all_ranges};
 ghost use Rattle.invariant_check.specs.Accepted as spec;
 ghost use Rattle.invariant_check.specs.Attempts as words;
 
-use crate::light::{apart, ranges_of};
+use crate::extensions::has_predicate;
+use crate::light::{apart, push_kept, ranges_of, required};
 use crate::tried::{are_fitting, tried};
 use contradictions::{
-    Candidate, Case, Part, Ranges, Renamed, Renaming, copy, is_contradictory, is_same_place,
-    push_denied, push_renamed, renamed_row, terms_at, zipped,
+    Candidate, Case, Part, Ranges, Renamed, Renaming, are_same, copy, is_contradictory,
+    is_same_place, push_denied, renamed_row, terms_at, zipped,
 };
 use lists::List;
 use normal_task::{EffectRow, Literal, Normal, Place, Schema};
@@ -32,16 +33,11 @@ struct Add<'a> {
 
 // ---- literals that are required
 
+/// With no terms merged, only equal ones are the same.
 fn are_same_places(xs: &[Place], ys: &[Place]) -> bool
     ensures { result ≡ pointwise terms.is_same_place xs.now ys.now }
 {
-    if xs.is_empty() {
-        ys.is_empty()
-    } else if ys.is_empty() {
-        false
-    } else {
-        is_same_place(&xs[0], &ys[0]) && are_same_places(&xs[1..], &ys[1..])
-    }
+    are_same(&[], xs, ys)
 }
 
 fn is_same_literal(one: &Literal, other: &Literal) -> bool
@@ -127,16 +123,6 @@ fn is_at_instance(
         && is_at(part.places.as_slice(), places, instance))
 }
 
-fn has_predicate(candidate: &Candidate, predicate: u64) -> bool
-    ensures { result ≡ list_any (λ part. nat_eq part.predicate predicate) candidate.now.parts }
-{
-    candidate
-        .parts
-        .as_slice()
-        .iter()
-        .any(|part| part.predicate == predicate)
-}
-
 // ---- add effects that restore what is deleted
 
 /// What is required, the other effect's condition, and the negated atom of the add effect.
@@ -147,16 +133,19 @@ fn added_beside(
 ) -> Result<Vec<Literal>, AllocError>
     ensures { IfOk result (λ literals. literals.items ≡ add.now.required.now ++ (condition.now ++ spec.denied add.now.row.now ∷ [])) }
 {
+    let row = add.row;
     let mut literals = Vec::new(alloc);
-    push_renamed(alloc, &mut literals, &Renaming::Kept, add.required)?;
-    push_renamed(alloc, &mut literals, &Renaming::Kept, condition)?;
-    push_denied(
-        alloc,
-        &mut literals,
-        add.row.predicate,
-        add.row.places.as_slice(),
-    )?;
+    push_kept(alloc, &mut literals, add.required)?;
+    push_kept(alloc, &mut literals, condition)?;
+    push_denied(alloc, &mut literals, row.predicate, row.places.as_slice())?;
     Ok(literals)
+}
+
+/// The effect adds atoms of the predicate.
+fn is_add_of(row: &EffectRow, predicate: u64) -> bool
+    ensures { result ≡ (row.now.adds && nat_eq row.now.predicate predicate) }
+{
+    row.adds && row.predicate == predicate
 }
 
 /// The effect doesn't add the atom of the predicate with these places where the other adds.
@@ -171,7 +160,7 @@ fn leaves_deleted(
     ensures { IfOk result (λ answer. answer ≡ words.leaves_deleted candidate.now add.now.schema.now add.now.row.now add.now.required.now add.now.instance.now predicate places.now
         (spec.apart_from add.now.schema.now add.now.row.now row.now)) }
 {
-    if !row.adds || row.predicate != predicate {
+    if !is_add_of(row, predicate) {
         return Ok(true);
     }
     is_never_added(alloc, candidate, add, places, row)
@@ -243,7 +232,7 @@ fn is_required(
         && are_listed(add.required, row.condition.as_slice())
         && are_fitting(
             normal,
-            &ranges_of_add(add),
+            &ranges_of_one(add.schema, add.row),
             given,
             delete.variables.as_slice(),
         )
@@ -274,14 +263,14 @@ fn balances_given(
     )
 }
 
-/// The ranges of the parameters and of the add effect's variables.
-fn ranges_of_add<'a>(add: &Add<'a>) -> Ranges<'a>
-    ensures ranges { all_ranges result ≡ add.now.schema.now.parameters ++ add.now.row.now.variables }
-    ensures parameters { result.parameters.now ≡ add.now.schema.now.parameters }
+/// The ranges of the parameters and of the effect's variables.
+fn ranges_of_one<'a>(schema: &'a Schema, row: &'a EffectRow) -> Ranges<'a>
+    ensures ranges { all_ranges result ≡ schema.now.parameters ++ row.now.variables }
+    ensures parameters { result.parameters.now ≡ schema.now.parameters }
 {
     Ranges {
-        parameters: add.schema.parameters.as_slice(),
-        first: add.row.variables.as_slice(),
+        parameters: schema.parameters.as_slice(),
+        first: row.variables.as_slice(),
         second: &[],
     }
 }
@@ -345,7 +334,13 @@ fn balances(
     if row.adds || !has_predicate(candidate, row.predicate) {
         return Ok(false);
     }
-    let tried = tried(alloc, normal, &ranges_of_add(add), add.required, row)?;
+    let tried = tried(
+        alloc,
+        normal,
+        &ranges_of_one(add.schema, add.row),
+        add.required,
+        row,
+    )?;
     balances_from(alloc, normal, candidate, add, row, &[], tried.as_slice(), 0)
 }
 
@@ -366,26 +361,6 @@ fn some_balances(
 }
 
 // ---- add effects
-
-/// The precondition joined with the effect's condition.
-fn required(alloc: Global, schema: &Schema, row: &EffectRow) -> Result<Vec<Literal>, AllocError>
-    ensures { IfOk result (λ literals. literals.items ≡ spec.required schema.now row.now) }
-{
-    let mut literals = Vec::new(alloc);
-    push_renamed(
-        alloc,
-        &mut literals,
-        &Renaming::Kept,
-        schema.condition.as_slice(),
-    )?;
-    push_renamed(
-        alloc,
-        &mut literals,
-        &Renaming::Kept,
-        row.condition.as_slice(),
-    )?;
-    Ok(literals)
-}
 
 /// Some delete effect balances the add effect.
 pub(crate) fn has_balance(
@@ -423,11 +398,7 @@ fn is_never_new(
     push_denied(alloc, &mut literals, row.predicate, row.places.as_slice())?;
     let instance = terms_at(alloc, part.places.as_slice(), row.places.as_slice())?;
     let case = Case {
-        ranges: Ranges {
-            parameters: schema.parameters.as_slice(),
-            first: row.variables.as_slice(),
-            second: &[],
-        },
+        ranges: ranges_of_one(schema, row),
         literals: literals.as_slice(),
         equated: &[],
         instance: instance.as_slice(),

@@ -86,11 +86,12 @@ fn with_one(
 fn push_candidates(
     alloc: Global,
     candidates: &mut Vec<Candidate>,
+    normal: &Normal,
     predicate: u64,
-    arity: u64,
 ) -> Result<(), AllocError>
-    ensures { OnOk result (candidates.new.items ≡ candidates.old.items ++ map (spec.with_one predicate arity) (spec.countings arity)) }
+    ensures { OnOk result (candidates.new.items ≡ candidates.old.items ++ map (spec.with_one predicate (spec.arity_of normal.now predicate)) (spec.countings (spec.arity_of normal.now predicate))) }
 {
+    let arity = arity_of(normal, predicate);
     candidates.push(with_one(alloc, predicate, arity, None)?)?;
     for position in 0..arity {
         candidates.push(with_one(alloc, predicate, arity, Some(position))?)?;
@@ -106,12 +107,7 @@ pub fn one_predicate(alloc: Global, normal: &Normal) -> Result<List<Candidate>, 
     let predicates = changing(alloc, normal)?;
     let mut candidates = Vec::new(alloc);
     for predicate in predicates.as_slice() {
-        push_candidates(
-            alloc,
-            &mut candidates,
-            *predicate,
-            arity_of(normal, *predicate),
-        )?;
+        push_candidates(alloc, &mut candidates, normal, *predicate)?;
     }
     Ok(List::from_vec(candidates))
 }
@@ -185,7 +181,8 @@ fn push_parts(
     Ok(())
 }
 
-fn has_predicate(candidate: &Candidate, predicate: u64) -> bool
+/// The candidate has a part of the predicate.
+pub(crate) fn has_predicate(candidate: &Candidate, predicate: u64) -> bool
     ensures { result ≡ spec.has_predicate candidate.now predicate }
 {
     candidate

@@ -1,5 +1,5 @@
 // When a candidate is light: no two add effects of a schema add two atoms of one instance together.
-ghost use Rattle.std.specs.Prelude.{◌≡◌, ◌++◌, ◌∷◌, [], ◌&&◌, nat_eq, map, length, IfOk};
+ghost use Rattle.std.specs.Prelude.{◌≡◌, ◌++◌, ◌∷◌, [], ◌&&◌, nat_eq, map, length, IfOk, OnOk};
 ghost use Rattle.std.specs.List.{list_all};
 ghost use Rattle.contradictions.specs.Contradictory as terms;
 ghost use Rattle.contradictions.specs.Merges.{as_pair, all_ranges, have_one_leader};
@@ -15,6 +15,31 @@ use contradictions::{
 use normal_task::{EffectRow, Literal, Normal, Place, Schema};
 use std::alloc::{AllocError, Global};
 
+/// Adds the literals as they are.
+pub(crate) fn push_kept(
+    alloc: Global,
+    literals: &mut Vec<Literal>,
+    more: &[Literal],
+) -> Result<(), AllocError>
+    ensures { OnOk result (literals.new.items ≡ literals.old.items ++ more.now) }
+{
+    push_renamed(alloc, literals, &Renaming::Kept, more)
+}
+
+/// The precondition joined with the effect's condition.
+pub(crate) fn required(
+    alloc: Global,
+    schema: &Schema,
+    row: &EffectRow,
+) -> Result<Vec<Literal>, AllocError>
+    ensures { IfOk result (λ literals. literals.items ≡ spec.required schema.now row.now) }
+{
+    let mut literals = Vec::new(alloc);
+    push_kept(alloc, &mut literals, schema.condition.as_slice())?;
+    push_kept(alloc, &mut literals, row.condition.as_slice())?;
+    Ok(literals)
+}
+
 /// The precondition, both conditions and both negated atoms. The second effect is on the predicate.
 fn both_added(
     alloc: Global,
@@ -26,25 +51,8 @@ fn both_added(
     ensures { IfOk result (λ literals. literals.items ≡ schema.now.condition ++ (row.now.condition ++ (beside.now.condition.items
         ++ spec.denied row.now ∷ denied_atom predicate beside.now.places ∷ []))) }
 {
-    let mut literals = Vec::new(alloc);
-    push_renamed(
-        alloc,
-        &mut literals,
-        &Renaming::Kept,
-        schema.condition.as_slice(),
-    )?;
-    push_renamed(
-        alloc,
-        &mut literals,
-        &Renaming::Kept,
-        row.condition.as_slice(),
-    )?;
-    push_renamed(
-        alloc,
-        &mut literals,
-        &Renaming::Kept,
-        beside.condition.as_slice(),
-    )?;
+    let mut literals = required(alloc, schema, row)?;
+    push_kept(alloc, &mut literals, beside.condition.as_slice())?;
     push_denied(alloc, &mut literals, row.predicate, row.places.as_slice())?;
     push_denied(alloc, &mut literals, predicate, beside.places.as_slice())?;
     Ok(literals)

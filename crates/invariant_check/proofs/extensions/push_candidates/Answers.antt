@@ -5,6 +5,6 @@ use Rattle.invariant_check.proofs.extensions.push_candidates.Goals as goal
 
 pub loop-position-preserved : goal.loop-position-preserved
 loop-position-preserved c =
-    one_more_counted (with_one c.args.predicate c.args.arity) c.args.candidates.now.items c.loop-position.candidates.items c.push-in-loop-position.new.self.items c.loop-position.position
+    one_more_counted (with_one c.args.predicate c.arity_of-arity.result) c.args.candidates.now.items c.loop-position.candidates.items c.push-in-loop-position.new.self.items c.loop-position.position
     (c.in_ok-push-2.ensures.items ∙ ap (λ x. c.loop-position.candidates.items ++ x ∷ []) c.in_ok-with_one-2.ensures)
     c.loop-position.invariant
