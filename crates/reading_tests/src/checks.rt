@@ -10,7 +10,7 @@ use pddl_lexer::Kind::{
 };
 use pddl_lexer::{At, Fault};
 use pddl_parser::{Domain, Problem};
-use std::alloc::Global;
+use std::alloc::{AllocError, Global};
 use std::test::*;
 use type_checker::{CheckEnd, Side, check};
 
@@ -105,11 +105,8 @@ static FILES: &[(&str, &str, Answer)] = &[
 #[test]
 fn first_faults_of_two_files(rt: HostRuntime) {
     for row in FILES {
-        let (domain, problem, expected) = *row;
-        assert!(rt;
-            is_checked(rt.alloc(), domain, problem, expected),
-            "{domain} {problem}"
-        );
+        let is_checked = is_checked(rt.alloc(), row.0, row.1, row.2);
+        assert!(rt; is_checked, "{} {}", row.0, row.1);
     }
 }
 
@@ -122,7 +119,9 @@ const DEVICE: &str = "(define (domain device)
 (:action go :parameters (?x) :precondition (at ?x) :effect (and (on) (not (off))))";
 
 /// A further section of the device, from line 7 on, and its fault.
-static SECTIONS: &[(&str, Kind, u64, u64)] = &[
+type SectionRow = (&'static str, Kind, u64, u64);
+
+static SECTIONS: &[SectionRow] = &[
     ("(:action b :parameters (?y - e))", UnknownType, 7, 30),
     ("(:action go)", DuplicateName, 7, 10),
     ("(:action b :parameters (?x\n?x))", DuplicateName, 8, 1),
@@ -179,23 +178,35 @@ static SECTIONS: &[(&str, Kind, u64, u64)] = &[
     ),
 ];
 
+/// Whether the checker answers so of the device with one more section and this problem.
+fn is_device_checked(
+    alloc: Global,
+    section: &str,
+    problem: &str,
+    expected: Answer,
+) -> Result<bool, AllocError> {
+    let domain = format!(in alloc; "{DEVICE}\n{section})")?;
+    Ok(is_checked(alloc, &domain, problem, expected))
+}
+
+fn is_section_checked(alloc: Global, row: &SectionRow) -> Result<bool, AllocError> {
+    let (section, kind, line, column) = *row;
+    let expected = Some((Side::Domain, kind, line, column));
+    is_device_checked(alloc, section, LAMP, expected)
+}
+
 #[test]
 fn faults_of_a_domain(rt: HostRuntime) {
     for row in SECTIONS {
-        let (section, kind, line, column) = *row;
-        let domain = format!(in rt.alloc(); "{DEVICE}\n{section})")
-            .ok()
-            .expect(&rt, "memory");
-        let expected = Some((Side::Domain, kind, line, column));
-        assert!(rt;
-            is_checked(rt.alloc(), &domain, LAMP, expected),
-            "{section}"
-        );
+        let answer = is_section_checked(rt.alloc(), row);
+        assert!(rt; matches!(answer, Ok(true)), "{}", row.0);
     }
 }
 
 /// The entries of `:init` of a problem of the device, from line 2 on, its goal, and its fault.
-static PROBLEMS: &[(&str, &str, Option<(Kind, u64, u64)>)] = &[
+type ProblemRow = (&'static str, &'static str, Option<(Kind, u64, u64)>);
+
+static PROBLEMS: &[ProblemRow] = &[
     (
         "(off)",
         "(exists (?z - f) (on))",
@@ -225,22 +236,20 @@ static PROBLEMS: &[(&str, &str, Option<(Kind, u64, u64)>)] = &[
     ),
 ];
 
+fn is_problem_checked(alloc: Global, row: &ProblemRow) -> Result<bool, AllocError> {
+    let (init, goal, fault) = *row;
+    let problem = format!(in alloc;
+        "(define (problem p) (:domain device)\n(:init {init})\n(:goal {goal}))"
+    )?;
+    let expected = fault.map(|(kind, line, column)| (Side::Problem, kind, line, column));
+    is_device_checked(alloc, "", &problem, expected)
+}
+
 #[test]
 fn faults_of_a_problem(rt: HostRuntime) {
-    let domain = format!(in rt.alloc(); "{DEVICE})")
-        .ok()
-        .expect(&rt, "memory");
     for row in PROBLEMS {
-        let (init, goal, fault) = *row;
-        let problem = format!(in rt.alloc();
-            "(define (problem p) (:domain device)\n(:init {init})\n(:goal {goal}))"
-        ).ok()
-            .expect(&rt, "memory");
-        let expected = fault.map(|(kind, line, column)| (Side::Problem, kind, line, column));
-        assert!(rt;
-            is_checked(rt.alloc(), &domain, &problem, expected),
-            "{init} {goal}"
-        );
+        let answer = is_problem_checked(rt.alloc(), row);
+        assert!(rt; matches!(answer, Ok(true)), "{} {}", row.0, row.1);
     }
 }
 
@@ -249,7 +258,9 @@ const EIGHT: &str = "(or (on) (on) (on) (on) (on) (on) (on) (on))";
 
 /// What stands in a section of the device before four times eight parts, and after them; and the line and the
 /// column of the condition that has too many.
-static PARTS: &[(&str, &str, Option<(u64, u64)>)] = &[
+type PartsRow = (&'static str, &'static str, Option<(u64, u64)>);
+
+static PARTS: &[PartsRow] = &[
     ("(:action b :precondition (and", "))", None),
     (
         "(:action b :precondition\n(and (or (on) (on))",
@@ -297,28 +308,30 @@ static PARTS: &[(&str, &str, Option<(u64, u64)>)] = &[
     ("(:derived (lit) (and", "))", None),
 ];
 
+fn are_parts_counted(alloc: Global, row: &PartsRow) -> Result<bool, AllocError> {
+    let (before, after, place) = *row;
+    let section = format!(in alloc; "{before}{EIGHT}{EIGHT}{EIGHT}{EIGHT}{after}")?;
+    let expected = place.map(|(line, column)| (Side::Domain, TooManyParts, line, column));
+    is_device_checked(alloc, &section, LAMP, expected)
+}
+
 #[test]
 fn more_than_4096_parts_are_too_many(rt: HostRuntime) {
     for row in PARTS {
-        let (before, after, fault) = *row;
-        let domain = format!(in rt.alloc();
-            "{DEVICE}\n{before}{EIGHT}{EIGHT}{EIGHT}{EIGHT}{after})"
-        ).ok()
-            .expect(&rt, "memory");
-        let expected = fault.map(|(line, column)| (Side::Domain, TooManyParts, line, column));
-        assert!(rt;
-            is_checked(rt.alloc(), &domain, LAMP, expected),
-            "{before} {after}"
-        );
+        let answer = are_parts_counted(rt.alloc(), row);
+        assert!(rt; matches!(answer, Ok(true)), "{} {}", row.0, row.1);
     }
+}
+
+fn is_goal_too_large(alloc: Global) -> Result<bool, AllocError> {
+    let goal = format!(in alloc;
+        "(define (problem p) (:domain d) (:init)\n(:goal (and (or (on) (on)) {EIGHT}{EIGHT}{EIGHT}{EIGHT})))"
+    )?;
+    let expected = Some((Side::Problem, TooManyParts, 2, 8));
+    Ok(is_checked(alloc, SWITCH, &goal, expected))
 }
 
 #[test]
 fn a_goal_of_too_many_parts(rt: HostRuntime) {
-    let goal = format!(in rt.alloc();
-        "(define (problem p) (:domain d) (:init)\n(:goal (and (or (on) (on)) {EIGHT}{EIGHT}{EIGHT}{EIGHT})))"
-    ).ok()
-        .expect(&rt, "memory");
-    let expected = Some((Side::Problem, TooManyParts, 2, 8));
-    assert!(rt; is_checked(rt.alloc(), SWITCH, &goal, expected));
+    assert!(rt; matches!(is_goal_too_large(rt.alloc()), Ok(true)));
 }

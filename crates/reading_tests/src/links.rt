@@ -64,9 +64,12 @@ fn closes(alloc: Global, names: &[[u8; 4]]) -> Result<bool, AllocError> {
     is_closed
 }
 
+fn is_long_chain_told(alloc: Global) -> Result<bool, AllocError> {
+    let names = numbers(alloc, 100_000)?;
+    closes(alloc, &names)
+}
+
 #[test]
-fn long_chains_are_no_cycles(rt: HostRuntime) -> Result<(), AllocError> {
-    let names = numbers(rt.alloc(), 100_000)?;
-    assert!(rt; closes(rt.alloc(), &names)?);
-    Ok(())
+fn long_chains_are_no_cycles(rt: HostRuntime) {
+    assert!(rt; matches!(is_long_chain_told(rt.alloc()), Ok(true)));
 }

@@ -5,7 +5,6 @@ use lists::{List, Text};
 use pddl_parser::{Condition, Domain, Problem};
 use pddl_plain::{Bound, GroundAtom, Step, action_cost, holds, initial, is_given, take_step};
 use std::alloc::{AllocError, Global};
-use std::process::Abort;
 use std::test::*;
 
 fn text(alloc: Global, bytes: &[u8]) -> Result<Text, AllocError> {
@@ -153,14 +152,8 @@ fn state_with(
 }
 
 /// Whether the step leads from the state with these entries to the other one, or nowhere where there is none.
-fn leads(
-    alloc: Global,
-    domain: &str,
-    around: (&str, &str),
-    init: &str,
-    objects: &str,
-    wanted: Option<&str>,
-) -> Result<bool, AllocError> {
+fn leads(alloc: Global, row: &StepRow) -> Result<bool, AllocError> {
+    let (domain, around, init, objects, wanted) = *row;
     match (next_from(alloc, domain, around, init, objects)?, wanted) {
         (Some(next), Some(wanted)) => Ok(are_same(&next, &state_with(alloc, around, wanted)?)),
         (next, wanted) => Ok(next.is_none() && wanted.is_none()),
@@ -278,9 +271,8 @@ static STEPS: &[StepRow] = &[
 #[test]
 fn steps_lead_as_worked_by_hand(rt: HostRuntime) {
     for row in STEPS {
-        let (domain, around, init, objects, wanted) = *row;
-        let answer = leads(rt.alloc(), domain, around, init, objects, wanted);
-        assert!(rt; matches!(answer, Ok(true)), "{domain} {init} {objects}");
+        let answer = leads(rt.alloc(), row);
+        assert!(rt; matches!(answer, Ok(true)), "{} {} {}", row.0, row.2, row.3);
     }
 }
 
@@ -301,23 +293,22 @@ fn cost_in(
     }
 }
 
-fn cost(
-    alloc: Global,
-    domain: &str,
-    problem: &str,
-    object: &str,
-) -> Result<Option<u64>, AllocError> {
-    let (domain, problem) = read(alloc, domain, problem)?;
-    let cost = cost_in(alloc, &domain, &problem, object);
+/// Whether the first action of the domain costs so much for the object of the problem.
+fn is_cost(alloc: Global, row: &CostRow) -> Result<bool, AllocError> {
+    let (domain, problem) = read(alloc, row.0, row.1)?;
+    let cost = cost_in(alloc, &domain, &problem, row.2);
     drop(domain);
     drop(problem);
-    cost
+    Ok(cost? == row.3)
 }
 
 const FIVE: &str = "(define (domain five) (:predicates (p ?x))
  (:action act :parameters (?x) :effect (increase (total-cost) 5)))";
 
-static COSTS: &[(&str, &str, &str, Option<u64>)] = &[
+/// A domain, a problem, an object of it, and the cost.
+type CostRow = (&'static str, &'static str, &'static str, Option<u64>);
+
+static COSTS: &[CostRow] = &[
     (SHOP, PRICED, "a", Some(7)),
     (SHOP, PRICED, "b", None),
     (SHOP, COUNTED, "b", Some(1)),
@@ -329,9 +320,8 @@ static COSTS: &[(&str, &str, &str, Option<u64>)] = &[
 #[test]
 fn costs_as_worked_by_hand(rt: HostRuntime) {
     for row in COSTS {
-        let (domain, problem, object, wanted) = *row;
-        let answer = cost(rt.alloc(), domain, problem, object);
-        assert_eq!(rt; answer.ok(), Some(wanted), "{domain} {object}");
+        let answer = is_cost(rt.alloc(), row);
+        assert!(rt; matches!(answer, Ok(true)), "{} {}", row.0, row.2);
     }
 }
 
@@ -377,14 +367,18 @@ fn is_full_in(alloc: Global, problem: &str, derived: &[GroundAtom]) -> Result<bo
     are_given
 }
 
-/// Whether the entries, over the objects `a` of type `t` and `b` and `c` of type `u`, are those of a full state.
-fn is_full(alloc: Global, entries: &str, derived: &[GroundAtom]) -> Result<bool, AllocError> {
+/// Whether the entries, over `a` of type `t` and `b` and `c` of type `u`, are those of a full state, or not, as the row says.
+fn is_full(alloc: Global, (entries, wanted): &TruthRow) -> Result<bool, AllocError> {
     let (before, after) = TYPED;
     let problem = format!(in alloc; "{before}{entries}{after}")?;
-    is_full_in(alloc, &problem, derived)
+    let derived = state_with(alloc, TYPED, "(seen a) (seen b) (dark)")?;
+    Ok(is_full_in(alloc, &problem, &derived)? == *wanted)
 }
 
-static FULL_STATES: &[(&str, bool)] = &[
+/// Entries of `:init` or a goal, and whether what is asked of it is so.
+type TruthRow = (&'static str, bool);
+
+static FULL_STATES: &[TruthRow] = &[
     ("(dark)", true),
     ("", false),
     ("(p a) (seen a)", true),
@@ -397,19 +391,12 @@ static FULL_STATES: &[(&str, bool)] = &[
     ("(q a) (dark)", true),
 ];
 
-fn assert_full(rt: &impl Abort, alloc: Global, derived: &[GroundAtom]) {
-    for row in FULL_STATES {
-        let (entries, wanted) = *row;
-        let answer = is_full(alloc, entries, derived);
-        assert!(rt; matches!(answer, Ok(full) if full == wanted), "{entries}");
-    }
-}
-
 #[test]
-fn full_states_as_worked_by_hand(rt: HostRuntime) -> Result<(), AllocError> {
-    let derived = state_with(rt.alloc(), TYPED, "(seen a) (seen b) (dark)")?;
-    assert_full(&rt, rt.alloc(), &derived);
-    Ok(())
+fn full_states_as_worked_by_hand(rt: HostRuntime) {
+    for row in FULL_STATES {
+        let answer = is_full(rt.alloc(), row);
+        assert!(rt; matches!(answer, Ok(true)), "{}", row.0);
+    }
 }
 
 /// A boat is a vessel, which is a thing and a vehicle; what an entry says of `object` is ignored.
@@ -421,8 +408,8 @@ fn is_reached(alloc: Global, domain: &Domain, problem: &Problem) -> Result<bool,
     is_true(alloc, domain, problem, &state, &problem.goal, &[])
 }
 
-/// Whether the goal holds in the initial state of a problem with the boat `ship`, (p) twice and (not (q)).
-fn holds_at_first(alloc: Global, goal: &str) -> Result<bool, AllocError> {
+/// Whether the goal holds, or not, in the initial state of a problem with the boat `ship`, (p) twice and (not (q)).
+fn holds_or_not(alloc: Global, (goal, truth): &TruthRow) -> Result<bool, AllocError> {
     let text = format!(in alloc;
         "(define (problem p) (:domain d) (:objects ship - boat) (:init (p) (p) (not (q))) (:goal {goal}))"
     )?;
@@ -430,10 +417,10 @@ fn holds_at_first(alloc: Global, goal: &str) -> Result<bool, AllocError> {
     let holds = is_reached(alloc, &domain, &problem);
     drop(domain);
     drop(problem);
-    holds
+    Ok(holds? == *truth)
 }
 
-static CONDITIONS: &[(&str, bool)] = &[
+static CONDITIONS: &[TruthRow] = &[
     ("()", true),
     ("(and)", true),
     ("(or)", false),
@@ -462,8 +449,7 @@ static CONDITIONS: &[(&str, bool)] = &[
 #[test]
 fn conditions_hold_as_worked_by_hand(rt: HostRuntime) {
     for row in CONDITIONS {
-        let (goal, truth) = *row;
-        let answer = holds_at_first(rt.alloc(), goal);
-        assert!(rt; matches!(answer, Ok(held) if held == truth), "{goal}");
+        let answer = holds_or_not(rt.alloc(), row);
+        assert!(rt; matches!(answer, Ok(true)), "{}", row.0);
     }
 }

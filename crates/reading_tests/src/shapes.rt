@@ -6,7 +6,8 @@ use pddl_lexer::Kind::{
     UnsupportedRequirement, UnsupportedSection,
 };
 use pddl_lexer::{At, Fault, ShapePlace};
-use std::alloc::{AllocError, Global};
+use std::alloc::Global;
+use std::process::Abort;
 use std::test::*;
 
 /// What stands at a place of a file, and the fault that the file has with it, with its line and column. It begins
@@ -35,23 +36,20 @@ const COST: Kind = Kind::Shape(ShapePlace::Cost);
 
 const ENTRY: Kind = Kind::Shape(ShapePlace::InitEntry);
 
-/// The first row whose text, between those before and after it, hasn't the row's fault as its first.
-fn first_other(
-    alloc: Global,
-    file: File,
-    before: &str,
-    after: &str,
-    rows: &[Row],
-) -> Result<Option<&'static str>, AllocError> {
+/// Asserts of each row that its text, between those before and after it, has the row's fault as its first.
+fn assert_faults(rt: &impl Abort, alloc: Global, file: File, around: (&str, &str), rows: &[Row]) {
     for row in rows {
-        let (inside, kind, line, column) = *row;
-        let at = At { line, column };
-        let text = format!(in alloc; "{before}{inside}{after}")?;
-        if !has_first_fault(alloc, file, &text, Fault { kind, at }) {
-            return Ok(Some(inside));
-        }
+        assert!(rt; has_fault(alloc, file, around, row), "{}", row.0);
     }
-    Ok(None)
+}
+
+fn has_fault(alloc: Global, file: File, (before, after): (&str, &str), row: &Row) -> bool {
+    let (inside, kind, line, column) = *row;
+    let at = At { line, column };
+    match format!(in alloc; "{before}{inside}{after}") {
+        Ok(text) => has_first_fault(alloc, file, &text, Fault { kind, at }),
+        Err(_) => false,
+    }
 }
 
 // A name has none of `?`, `@` and `,`, doesn't begin with `:`, and isn't `-` or `=`. A `?` begins another word.
@@ -68,8 +66,8 @@ static NAMES: &[Row] = &[
 
 #[test]
 fn names(rt: HostRuntime) {
-    let other = first_other(rt.alloc(), File::Domain, "(define (domain ", "))", NAMES);
-    assert_eq!(rt; other.ok(), Some(None));
+    let around = ("(define (domain ", "))");
+    assert_faults(&rt, rt.alloc(), File::Domain, around, NAMES);
 }
 
 // A list's own fault comes before those of its members, and a list at fault isn't looked into.
@@ -130,14 +128,8 @@ static SECTIONS: &[Row] = &[
 
 #[test]
 fn sections_of_a_domain(rt: HostRuntime) {
-    let other = first_other(
-        rt.alloc(),
-        File::Domain,
-        "(define (domain d)\n",
-        ")",
-        SECTIONS,
-    );
-    assert_eq!(rt; other.ok(), Some(None));
+    let around = ("(define (domain d)\n", ")");
+    assert_faults(&rt, rt.alloc(), File::Domain, around, SECTIONS);
 }
 
 // Behind variables a list is looked at once the list around it has no fault of its own.
@@ -159,9 +151,8 @@ static VARIABLE_TYPES: &[Row] = &[
 
 #[test]
 fn types_of_variables(rt: HostRuntime) {
-    let before = "(define (domain d) (:action a :parameters (\n";
-    let other = first_other(rt.alloc(), File::Domain, before, ")))", VARIABLE_TYPES);
-    assert_eq!(rt; other.ok(), Some(None));
+    let around = ("(define (domain d) (:action a :parameters (\n", ")))");
+    assert_faults(&rt, rt.alloc(), File::Domain, around, VARIABLE_TYPES);
 }
 
 static CONDITIONS: &[Row] = &[
@@ -184,9 +175,8 @@ static CONDITIONS: &[Row] = &[
 
 #[test]
 fn conditions(rt: HostRuntime) {
-    let before = "(define (domain d) (:action a :precondition\n";
-    let other = first_other(rt.alloc(), File::Domain, before, "))", CONDITIONS);
-    assert_eq!(rt; other.ok(), Some(None));
+    let around = ("(define (domain d) (:action a :precondition\n", "))");
+    assert_faults(&rt, rt.alloc(), File::Domain, around, CONDITIONS);
 }
 
 static EFFECTS: &[Row] = &[
@@ -213,9 +203,8 @@ static EFFECTS: &[Row] = &[
 
 #[test]
 fn effects(rt: HostRuntime) {
-    let before = "(define (domain d) (:action a :effect\n";
-    let other = first_other(rt.alloc(), File::Domain, before, "))", EFFECTS);
-    assert_eq!(rt; other.ok(), Some(None));
+    let around = ("(define (domain d) (:action a :effect\n", "))");
+    assert_faults(&rt, rt.alloc(), File::Domain, around, EFFECTS);
 }
 
 // Missing sections come last.
@@ -257,8 +246,7 @@ static PROBLEM: &[Row] = &[
 
 #[test]
 fn sections_of_a_problem(rt: HostRuntime) {
-    let other = first_other(rt.alloc(), File::Problem, "(define\n", ")", PROBLEM);
-    assert_eq!(rt; other.ok(), Some(None));
+    assert_faults(&rt, rt.alloc(), File::Problem, ("(define\n", ")"), PROBLEM);
 }
 
 static ENTRIES: &[Row] = &[
@@ -286,12 +274,6 @@ static ENTRIES: &[Row] = &[
 
 #[test]
 fn entries_of_init(rt: HostRuntime) {
-    let other = first_other(
-        rt.alloc(),
-        File::Problem,
-        "(define (problem p) (:init\n",
-        "))",
-        ENTRIES,
-    );
-    assert_eq!(rt; other.ok(), Some(None));
+    let around = ("(define (problem p) (:init\n", "))");
+    assert_faults(&rt, rt.alloc(), File::Problem, around, ENTRIES);
 }

@@ -1,12 +1,15 @@
 //! The nested list of a text, its first fault, and the number and the text of each kind of fault.
 
-use pddl_lexer::{At, Fault, Kind, ShapePlace, Tree, TreeEnd, read_tree};
+use pddl_lexer::{At, Kind, ShapePlace, Tree, TreeEnd, read_tree};
+use std::alloc::Global;
+use std::process::Abort;
 use std::test::*;
 
-fn fault_of(rt: HostRuntime, text: &[u8]) -> Option<Fault> {
-    match read_tree(rt.alloc(), text) {
-        Err(TreeEnd::Fault(fault)) => Some(fault),
-        _ => None,
+/// Whether this is the first fault of the text.
+fn has_fault(alloc: Global, text: &[u8], kind: Kind, line: u64, column: u64) -> bool {
+    match read_tree(alloc, text) {
+        Err(TreeEnd::Fault(fault)) => fault.kind == kind && fault.at == At { line, column },
+        _ => false,
     }
 }
 
@@ -44,8 +47,7 @@ static FIRST_FAULTS: [(&[u8], Kind, u64, u64); 22] = [
 fn first_faults_with_their_positions(rt: HostRuntime) {
     for row in &FIRST_FAULTS {
         let (text, kind, line, column) = *row;
-        let at = At { line, column };
-        assert_eq!(rt; fault_of(rt, text), Some(Fault { kind, at }), "{text:?}");
+        assert!(rt; has_fault(rt.alloc(), text, kind, line, column), "{text:?}");
     }
 }
 
@@ -58,14 +60,7 @@ fn a_hundred_lists_may_be_open(rt: HostRuntime) {
     assert!(rt; read_tree(rt.alloc(), &deepest).is_ok());
     let mut too_deep = [b'('; 102];
     too_deep[50] = b'\n';
-    let want = Some(Fault {
-        kind: Kind::TooDeep,
-        at: At {
-            line: 2,
-            column: 51,
-        },
-    });
-    assert_eq!(rt; fault_of(rt, &too_deep), want);
+    assert!(rt; has_fault(rt.alloc(), &too_deep, Kind::TooDeep, 2, 51));
 }
 
 /// A node: whether it is a list, its line and column, its bytes, its first member, the next member.
@@ -93,17 +88,21 @@ fn is_node(tree: &Tree<'_>, node: u64, row: &Node) -> bool {
         && tree.next(node) == next
 }
 
-#[test]
-fn nodes_of_a_tree(rt: HostRuntime) -> Result<(), Fail> {
-    let text = b"; \xc3\xa9 (\n(define ; (\n(Domain a?b) ()\tSWITCH-2;)\n)\n; end";
-    let tree = read_tree(rt.alloc(), text.as_slice())
-        .ok()
-        .ok_or("no tree")?;
-    assert_eq!(rt; tree.len(), 8);
+/// Asserts that the tree has these nodes.
+fn assert_nodes(rt: &impl Abort, tree: &Tree<'_>) {
+    assert!(rt; tree.len() == 8);
     for (place, row) in NODES.iter().enumerate() {
-        assert!(rt; is_node(&tree, place as u64, row), "{place}");
+        assert!(rt; is_node(tree, place as u64, row), "{place}");
     }
-    Ok(())
+}
+
+#[test]
+fn nodes_of_a_tree(rt: HostRuntime) {
+    let text = b"; \xc3\xa9 (\n(define ; (\n(Domain a?b) ()\tSWITCH-2;)\n)\n; end";
+    match read_tree(rt.alloc(), text.as_slice()) {
+        Ok(tree) => assert_nodes(&rt, &tree),
+        Err(_) => panic!(rt; "no tree"),
+    }
 }
 
 static NUMBERS_AND_TEXTS: [(Kind, u8, &str); 41] = [
@@ -166,7 +165,6 @@ static NUMBERS_AND_TEXTS: [(Kind, u8, &str); 41] = [
 fn numbers_and_texts_of_all_kinds(rt: HostRuntime) {
     for row in &NUMBERS_AND_TEXTS {
         let (kind, number, text) = *row;
-        assert_eq!(rt; kind.number(), number, "{kind:?}");
-        assert_eq!(rt; kind.text(), text, "{kind:?}");
+        assert!(rt; kind.number() == number && kind.text() == text, "{text}");
     }
 }
