@@ -1,7 +1,6 @@
 -- The objects of listed types, by the types that are found below these.
 use Rattle.std.proofs.Common.{◌≡◌, ℕ, ◌<◌, Bool, false, ◌||◌, inl, inr, List, [], ◌∷◌, ◌++◌, map, length, get_or, refl, sym, ap, ◌∙◌, subst}
 use Rattle.std.specs.List.{list_any, filter}
-use Rattle.std.proofs.lemmas.List.{map-append}
 use Rattle.lists.proofs.Items.{Among, among_at, same_any, any_or}
 use Rattle.pddl_parser.specs.declared.types.Domain.{Domain}
 use Rattle.pddl_parser.specs.declared.types.Named.{Named}
@@ -71,17 +70,8 @@ same_among f g item [] same among = absurd among
 same_among f g item (x ∷ xs) same (inl here) = ap f (sym here) ∙ ap (first_or (f x)) same ∙ ap g here
 same_among f g item (x ∷ xs) same (inr there) = same_among f g item xs (ap behind_first same) there
 
-module _ (domain : Domain) (problem : Problem) where
-  -- one more of them
-  pub known_more : (known after : List OfType) (one : OfType) → map (λ known. known.objects) known ≡ map (λ known. objects_of_type domain problem known.name.now) known → after ≡ known ++ one ∷ [] →
-      one.objects ≡ objects_of_type domain problem one.name.now → map (λ known. known.objects) after ≡ map (λ known. objects_of_type domain problem known.name.now) after
-  known_more known after one are grown is =
-      ap (map (λ known. known.objects)) grown ∙ map-append (λ known. known.objects) known (one ∷ [])
-      ∙ ap (λ (l : List (List ℕ)). l ++ one.objects ∷ []) are ∙ ap (λ (o : List ℕ). map (λ (k : OfType). objects_of_type domain problem k.name.now) known ++ o ∷ []) is
-      ∙ sym (ap (map (λ known. objects_of_type domain problem known.name.now)) grown ∙ map-append (λ known. objects_of_type domain problem known.name.now) known (one ∷ []))
-
-  -- one of them
-  pub known_at : (known : List OfType) → map (λ known. known.objects) known ≡ map (λ known. objects_of_type domain problem known.name.now) known → (place : ℕ) (one : OfType) → place < length known → one ≡ get_or known place one →
-      one.objects ≡ objects_of_type domain problem one.name.now
-  known_at known are place one within is =
-      same_among (λ (k : OfType). k.objects) (λ (k : OfType). objects_of_type domain problem k.name.now) one known are (subst (λ (k : OfType). Among k known) (sym is) (among_at known place one within))
+-- one of the types has its objects
+pub known_at : (domain : Domain) (problem : Problem) (known : List OfType) → map (λ known. known.objects) known ≡ map (λ known. objects_of_type domain problem known.name.now) known →
+    (place : ℕ) (one : OfType) → place < length known → one ≡ get_or known place one → one.objects ≡ objects_of_type domain problem one.name.now
+known_at domain problem known are place one within is =
+    same_among (λ (k : OfType). k.objects) (λ (k : OfType). objects_of_type domain problem k.name.now) one known are (subst (λ (k : OfType). Among k known) (sym is) (among_at known place one within))
