@@ -8,7 +8,7 @@ use crate::position::At;
 use std::alloc::{AllocError, AllocFailed};
 
 /// What a fault is about. The kinds stand in the order of their numbers.
-#[derive(Clone, Copy, Debug, PartialEq, Eq)]
+#[derive(Clone, Copy, PartialEq, Eq)]
 pub enum Kind {
     /// The file has too many bytes.
     TooLong,
@@ -73,7 +73,7 @@ pub enum Kind {
 }
 
 /// What must stand at a node of the tree. A node that has no place of its own has that of the list around it.
-#[derive(Clone, Copy, Debug, PartialEq, Eq)]
+#[derive(Clone, Copy, PartialEq, Eq)]
 pub enum ShapePlace {
     /// The whole list.
     File,
@@ -201,7 +201,7 @@ impl ShapePlace {
 }
 
 /// A fault of a text, and where it stands.
-#[derive(Clone, Copy, Debug, PartialEq, Eq)]
+#[derive(Clone, Copy, PartialEq, Eq)]
 pub struct Fault {
     pub kind: Kind,
     pub at: At,
