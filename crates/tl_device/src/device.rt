@@ -6,7 +6,7 @@ ghost use Rattle.tl_device.specs.Contents.{Contents, Holds, HoldsCreated, IsAske
 ghost use Rattle.tl_device.specs.Causes.{HasCause, HasCauseOr, IsAbsent, saturating_add};
 
 /// A call on the files or the console failed. Its count of faults has risen.
-#[derive(Clone, Copy, PartialEq, Eq)]
+#[derive(Clone, Copy)]
 pub struct Failed;
 
 /// Files, of which one is read and one is written at a time.

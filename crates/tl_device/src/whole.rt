@@ -58,7 +58,7 @@ pub fn put_all<F: Files>(files: &mut F, bytes: &[u8]) -> Result<(), Failed>
 }
 
 /// How a read of a whole file ends without its bytes.
-#[derive(Clone, Copy, PartialEq, Eq)]
+#[derive(Clone, Copy)]
 pub enum ReadEnd {
     /// A call on the files failed.
     Failed,
