@@ -38,10 +38,8 @@ fn atom(alloc: Global, predicate: u64, object: u64) -> Result<GroundAtom, AllocE
 fn only_positive(alloc: Global, predicate: u64, object: u64) -> Result<Cond<GroundAtom>, AllocError>
     ensures { IfOk result (λ condition. condition ≡ record { positive = atom_at predicate object ∷ []; negative = [] }) }
 {
-    let mut positive = Vec::new(alloc);
-    positive.push(atom(alloc, predicate, object)?)?;
     Ok(Cond {
-        positive: List::from_vec(positive),
+        positive: List::from_vec(vec![in alloc; atom(alloc, predicate, object)?]?),
         negative: List::from_vec(Vec::new(alloc)),
     })
 }
@@ -49,13 +47,12 @@ fn only_positive(alloc: Global, predicate: u64, object: u64) -> Result<Cond<Grou
 fn only_added(alloc: Global, predicate: u64, object: u64) -> Result<List<GroundEffect>, AllocError>
     ensures { IfOk result (λ effects. effects ≡ record { condition = record { positive = []; negative = [] }; adds = true; atom = atom_at predicate object } ∷ []) }
 {
-    let mut effects = Vec::new(alloc);
-    effects.push(GroundEffect {
+    let effect = GroundEffect {
         condition: no_literals(alloc),
         adds: true,
         atom: atom(alloc, predicate, object)?,
-    })?;
-    Ok(List::from_vec(effects))
+    };
+    Ok(List::from_vec(vec![in alloc; effect]?))
 }
 
 /// An action that adds the atom of one object where that of another is true.
@@ -129,24 +126,22 @@ fn objects(alloc: Global, count: u64) -> Result<List<Text>, AllocError>
     Ok(List::from_vec(names))
 }
 
-/// Predicates of one object that actions may change.
+/// A predicate of one object that actions may change.
+fn predicate(alloc: Global, name: &[u8]) -> Result<PredicateRow, AllocError>
+    ensures { IfOk result (λ row. row ≡ row_of name.now) }
+{
+    Ok(PredicateRow {
+        name: text(alloc, name)?,
+        arity: 1,
+        derived: false,
+        fixed: false,
+    })
+}
+
 fn predicates(alloc: Global) -> Result<List<PredicateRow>, AllocError>
     ensures { IfOk result (λ rows. rows ≡ row_of (codes "up") ∷ row_of (codes "down") ∷ []) }
 {
-    let mut rows = Vec::new(alloc);
-    rows.push(PredicateRow {
-        name: text(alloc, b"up")?,
-        arity: 1,
-        derived: false,
-        fixed: false,
-    })?;
-    rows.push(PredicateRow {
-        name: text(alloc, b"down")?,
-        arity: 1,
-        derived: false,
-        fixed: false,
-    })?;
-    Ok(List::from_vec(rows))
+    Ok(List::from_vec(vec![in alloc; predicate(alloc, b"up")?, predicate(alloc, b"down")?]?))
 }
 
 /// The task of these moves between as many objects. Every state meets its goal.

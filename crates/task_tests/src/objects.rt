@@ -1,19 +1,23 @@
 use atom_objects::Objects;
-use std::alloc::AllocError;
+use std::alloc::{AllocError, Global};
 use std::test::*;
 
-#[test]
-fn short_and_long_lists_keep_their_numbers(rt: HostRuntime) -> Result<(), AllocError> {
-    let few = Objects::from_slice(rt.alloc(), &[3, 1, 4])?;
-    let many = Objects::from_slice(rt.alloc(), &[3, 1, 4, 1])?;
-    let none = Objects::from_slice(rt.alloc(), &[])?;
-    let mut counted = Objects::new(rt.alloc());
-    for number in 5..9 {
-        counted.push(number)?;
+/// Whether the numbers are kept, taken at once or one by one.
+fn are_kept(alloc: Global, numbers: &[u64]) -> Result<bool, AllocError> {
+    let mut counted = Objects::new(alloc);
+    for number in numbers {
+        counted.push(*number)?;
     }
-    assert_eq!(rt; few.as_slice(), [3, 1, 4].as_slice());
-    assert_eq!(rt; many.as_slice(), [3, 1, 4, 1].as_slice());
-    assert!(rt; none.as_slice().is_empty());
-    assert_eq!(rt; counted.as_slice(), [5, 6, 7, 8].as_slice());
-    Ok(())
+    let taken = Objects::from_slice(alloc, numbers)?;
+    Ok(taken.as_slice() == numbers && counted.as_slice() == numbers)
+}
+
+#[test]
+fn short_and_long_lists_keep_their_numbers(rt: HostRuntime) {
+    for numbers in [[3u64, 1, 4].as_slice(), &[3, 1, 4, 1], &[], &[5, 6, 7, 8]] {
+        assert!(rt;
+            matches!(are_kept(rt.alloc(), numbers), Ok(true)),
+            "{numbers:?}"
+        );
+    }
 }
