@@ -1,12 +1,1 @@
-pub mod Words
-pub mod Places
-pub mod Forms
-pub mod Numbers
-pub mod Contexts
-pub mod Pairs
-pub mod Sections
-pub mod Operators
-pub mod Rules
 pub mod Text
-pub mod Answers
-pub mod Tables

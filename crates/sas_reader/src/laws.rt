@@ -4,7 +4,7 @@ ghost use Rattle.std.specs.Prelude.{◌≡◌, ◌<◌, ◌^◌, List, ℕ, leng
 ghost use Rattle.sas_task.specs.Output.{text_of};
 ghost use Rattle.sas_task.specs.Task.{Task};
 ghost use Rattle.sas_task.specs.Valid.{IsValid};
-ghost use Rattle.sas_reader.specs.Forms.{Unread, unread};
+ghost use Rattle.sas_lines.specs.Forms.{Unread, unread};
 ghost use Rattle.sas_reader.specs.Text.{task, line_fault, IsTextOf};
 
 /// What is read is a valid task, and the text is that of the task, but for spaces at the end of operators' names. In the

@@ -2,19 +2,9 @@
 //! rule.
 #![tactic(auto)]
 
-mod fault;
 mod laws;
-mod numbers;
-mod operators;
-mod parts;
-mod reader;
-mod requirements;
-mod rules;
-mod sections;
-mod tables;
 mod task;
-mod values;
 
-pub use fault::{ReadTaskEnd, SasFault, SasPlace};
 pub use laws::texts;
+pub use sas_lines::{ReadTaskEnd, SasFault, SasPlace};
 pub use task::read_task;

@@ -1,11 +1,11 @@
 use Rattle.std.proofs.Common.{◌≡◌, [], length, Ok, sym, ap, ◌∙◌, subst}
-use Rattle.sas_reader.specs.declared.fault.SasPlace.TheVariants as places
-use Rattle.sas_reader.specs.Forms.{unread, in_section, end}
-use Rattle.sas_reader.specs.Contexts.{so_far}
-use Rattle.sas_reader.specs.Operators.{operators}
-use Rattle.sas_reader.specs.Rules.{rules}
-use Rattle.sas_reader.specs.Sections.{version, metric, variables, groups, state, goal as goal_form}
-use Rattle.sas_reader.proofs.Sectioned.{state_read}
+use Rattle.sas_lines.specs.declared.fault.SasPlace.TheVariants as places
+use Rattle.sas_lines.specs.Forms.{unread, in_section, end}
+use Rattle.sas_lines.specs.Contexts.{so_far}
+use Rattle.sas_sections.specs.Operators.{operators}
+use Rattle.sas_sections.specs.Rules.{rules}
+use Rattle.sas_sections.specs.Sections.{version, metric, variables, groups, state, goal as goal_form}
+use Rattle.sas_sections.proofs.Sectioned.{state_read}
 use Rattle.sas_reader.proofs.WholeText.{task_read, parts_are}
 use Rattle.sas_reader.proofs.task.whole.Goals as goal
 

@@ -1,0 +1,6 @@
+pub mod Words
+pub mod Places
+pub mod Forms
+pub mod Numbers
+pub mod Contexts
+pub mod Answers

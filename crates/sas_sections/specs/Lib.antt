@@ -1,0 +1,5 @@
+pub mod Pairs
+pub mod Sections
+pub mod Operators
+pub mod Rules
+pub mod Tables
