@@ -35,11 +35,8 @@ fn has_ones(alloc: Global, domain: &str, wanted: &[&[PartRow]]) -> Option<bool> 
 
 #[test]
 fn candidates_with_one_part_in_their_order(rt: HostRuntime) {
-    for row in ONES {
-        let (domain, wanted) = *row;
-        assert!(rt;
-            has_ones(rt.alloc(), domain, wanted) == Some(true),
-            "{domain}"
-        );
+    for (domain, wanted) in ONES {
+        let answer = has_ones(rt.alloc(), domain, wanted);
+        assert!(rt; answer == Some(true), "{domain}");
     }
 }

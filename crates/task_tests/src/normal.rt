@@ -299,13 +299,8 @@ static GOALS: &[(&str, &str, &str, &str)] = &[
     ),
 ];
 
-fn is_goal(
-    alloc: Global,
-    goal: &str,
-    new: &str,
-    axioms: &str,
-    literals: &str,
-) -> Result<bool, AllocError> {
+fn is_goal(alloc: Global, row: &(&str, &str, &str, &str)) -> Result<bool, AllocError> {
+    let (goal, new, axioms, literals) = *row;
     let domain = "(define (domain d) (:predicates (p ?x)))";
     let problem = format!(in alloc;
         "(define (problem p) (:domain d) (:objects a b) (:init) (:goal {goal}))"
@@ -317,9 +312,8 @@ fn is_goal(
 #[test]
 fn goals_as_worked_by_hand(rt: HostRuntime) {
     for row in GOALS {
-        let (goal, new, axioms, literals) = *row;
-        let answer = is_goal(rt.alloc(), goal, new, axioms, literals);
-        assert!(rt; matches!(answer, Ok(true)), "{goal}");
+        let answer = is_goal(rt.alloc(), row);
+        assert!(rt; matches!(answer, Ok(true)), "{}", row.0);
     }
 }
 

@@ -15,9 +15,7 @@ fn are_kept(alloc: Global, numbers: &[u64]) -> Result<bool, AllocError> {
 #[test]
 fn short_and_long_lists_keep_their_numbers(rt: HostRuntime) {
     for numbers in [[3u64, 1, 4].as_slice(), &[3, 1, 4, 1], &[], &[5, 6, 7, 8]] {
-        assert!(rt;
-            matches!(are_kept(rt.alloc(), numbers), Ok(true)),
-            "{numbers:?}"
-        );
+        let answer = are_kept(rt.alloc(), numbers);
+        assert!(rt; matches!(answer, Ok(true)), "{numbers:?}");
     }
 }

@@ -411,8 +411,7 @@ fn is_answered(alloc: Global, row: &Row) -> Option<bool> {
 
 fn are_answered(rt: &impl Abort, alloc: Global, rows: &[Row]) {
     for row in rows {
-        let domain = row.0;
-        assert!(rt; is_answered(alloc, row) == Some(true), "{domain}");
+        assert!(rt; is_answered(alloc, row) == Some(true), "{}", row.0);
     }
 }
 
