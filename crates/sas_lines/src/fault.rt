@@ -7,7 +7,7 @@ ghost use Rattle.sas_lines.specs.declared.fault.ReadTaskEnd.TheVariants as ends;
 use std::alloc::{AllocError, AllocFailed};
 
 /// A section of the text. What stands after the last one is at its end.
-#[derive(Clone, Copy, PartialEq, Eq)]
+#[derive(Clone, Copy)]
 pub enum SasPlace {
     Version,
     Metric,
@@ -40,14 +40,14 @@ impl SasPlace {
 }
 
 /// The first line that breaks its rule, counted from 1, and its section.
-#[derive(Clone, Copy, PartialEq, Eq)]
+#[derive(Clone, Copy)]
 pub struct SasFault {
     pub line: u64,
     pub place: SasPlace,
 }
 
 /// Why no task was read.
-#[derive(Clone, Copy, PartialEq, Eq)]
+#[derive(Clone, Copy)]
 pub enum ReadTaskEnd {
     Fault(SasFault),
     NoMemory,
