@@ -1,12 +1,11 @@
 //! Steps of a task that are worked by hand.
 
-ghost use Rattle.std.specs.Prelude.{◌≡◌, ◌<◌, length};
+ghost use Rattle.std.specs.Prelude.{◌≡◌, length};
 ghost use Rattle.sas_task.specs.Examples.{room};
 
 use crate::examples;
 use sas_task::SasTask;
 use std::alloc::{AllocError, Global};
-use std::process::Abort;
 use std::test::*;
 
 /// The room, without what is known of it, so that the proof of a test doesn't carry it.
@@ -14,51 +13,98 @@ fn room(alloc: Global) -> Result<SasTask, AllocError> {
     examples::room(alloc)
 }
 
-/// Whether these are the values in the state.
-fn are_values(
-    alloc: Global,
-    task: &SasTask,
-    state: &[u64],
-    expected: &[u64],
-) -> Result<bool, AllocError> {
-    let values = sas_plain::values(alloc, task, state)?;
-    Ok(values.as_slice() == expected)
+/// Whether these are the values in the state of the room.
+fn are_values(alloc: Global, state: &[u64], expected: &[u64]) -> Result<bool, AllocError> {
+    let task = room(alloc)?;
+    let values = sas_plain::values(alloc, &task, state);
+    drop(task);
+    Ok(values?.as_slice() == expected)
 }
 
-/// Whether the operator at this place is applicable.
-fn is_applicable(alloc: Global, task: &SasTask, state: &[u64], i: u64) -> Result<bool, AllocError>
-    requires { i < length task.now.operators }
-{
-    sas_plain::is_applicable(alloc, task, state, task.operator(i))
+static VALUES: [([u64; 4], [u64; 4]); 3] = [
+    ([1, 0, 1, 1], [1, 0, 0, 0]),
+    ([1, 1, 1, 1], [1, 1, 1, 1]),
+    ([0, 0, 0, 0], [0, 0, 1, 1]),
+];
+
+#[test]
+fn derived_variables_get_their_values(rt: HostRuntime) {
+    for (state, expected) in &VALUES {
+        let answer = are_values(rt.alloc(), state, expected);
+        assert!(rt; matches!(answer, Ok(true)), "{state:?}");
+    }
 }
 
-/// The successor under the operator at this place.
+/// Whether the second of three operators is applicable.
+fn is_applicable(alloc: Global, task: &SasTask, state: &[u64]) -> Result<bool, AllocError> {
+    if task.operators() != 3 {
+        return Err(AllocError);
+    }
+    sas_plain::is_applicable(alloc, task, state, task.operator(1))
+}
+
+/// Whether the lamp can be pressed in the state of the room.
+fn is_pressed(alloc: Global, state: &[u64]) -> Result<bool, AllocError> {
+    let task = room(alloc)?;
+    let answer = is_applicable(alloc, &task, state);
+    drop(task);
+    answer
+}
+
+static PRESSED: [([u64; 4], bool); 3] = [
+    ([1, 1, 1, 1], true),
+    ([0, 1, 1, 1], false),
+    ([1, 0, 1, 1], false),
+];
+
+#[test]
+fn the_lamp_is_pressed_in_the_dark_room(rt: HostRuntime) {
+    for (state, expected) in &PRESSED {
+        let answer = is_pressed(rt.alloc(), state);
+        assert!(rt;
+            matches!(answer, Ok(is_pressed) if is_pressed == *expected),
+            "{state:?}"
+        );
+    }
+}
+
+/// The successor under the operator at this place of three, where there are four variables.
 fn successor(
     alloc: Global,
     task: &SasTask,
     state: &[u64],
     i: u64,
-) -> Result<Option<Vec<u64>>, AllocError>
-    requires operator { i < length task.now.operators }
-    requires state { length state.now ≡ length task.now.variables }
-{
-    sas_plain::successor(alloc, task, state, task.operator(i))
+) -> Result<Option<Vec<u64>>, AllocError> {
+    if i < 3 && task.operators() == 3 && task.variables() == 4 && state.len() == 4 {
+        sas_plain::successor(alloc, task, state, task.operator(i))
+    } else {
+        Err(AllocError)
+    }
 }
 
-/// Whether the operator at this place leads from the one state to the other.
-fn leads(
-    alloc: Global,
-    task: &SasTask,
-    from: &[u64],
-    i: u64,
-    to: &[u64],
-) -> Result<bool, AllocError>
-    requires operator { i < length task.now.operators }
-    requires state { length from.now ≡ length task.now.variables }
-{
-    match successor(alloc, task, from, i)? {
-        Some(state) => Ok(state.as_slice() == to),
-        None => Ok(false),
+fn is_state(found: &Option<Vec<u64>>, wanted: &[u64]) -> bool {
+    matches!(found, Some(state) if state.as_slice() == wanted)
+}
+
+/// Whether the operator at this place leads from the one state of the room to the other.
+fn leads(alloc: Global, from: &[u64], i: u64, to: &[u64]) -> Result<bool, AllocError> {
+    let task = room(alloc)?;
+    let next = successor(alloc, &task, from, i);
+    drop(task);
+    Ok(is_state(&next?, to))
+}
+
+static STEPS: [([u64; 4], u64, [u64; 4]); 3] = [
+    ([0, 1, 1, 1], 0, [1, 1, 1, 1]),
+    ([1, 1, 1, 1], 2, [1, 0, 1, 1]),
+    ([1, 0, 1, 1], 2, [1, 1, 1, 1]),
+];
+
+#[test]
+fn effects_are_read_in_the_old_state(rt: HostRuntime) {
+    for (from, i, to) in &STEPS {
+        let answer = leads(rt.alloc(), from, *i, to);
+        assert!(rt; matches!(answer, Ok(true)), "{from:?} {i}");
     }
 }
 
@@ -71,66 +117,22 @@ fn flickered(alloc: Global, task: &SasTask, state: &[u64]) -> Result<Option<Vec<
     sas_plain::successor(alloc, task, state, &flicker)
 }
 
-// Each test owns the room, and a function that is handed it asserts, so that the room is let go at one place.
-
-fn assert_values(rt: &impl Abort, alloc: Global, task: &SasTask) -> Result<(), AllocError> {
-    let rows: [([u64; 4], [u64; 4]); 3] = [
-        ([1, 0, 1, 1], [1, 0, 0, 0]),
-        ([1, 1, 1, 1], [1, 1, 1, 1]),
-        ([0, 0, 0, 0], [0, 0, 1, 1]),
-    ];
-    for (state, expected) in rows {
-        assert!(rt; are_values(alloc, task, &state, &expected)?, "{state:?}");
-    }
-    Ok(())
-}
-
-#[test]
-fn derived_variables_get_their_values(rt: HostRuntime) -> Result<(), AllocError> {
-    let task = room(rt.alloc())?;
-    assert_values(&rt, rt.alloc(), &task)
-}
-
-fn assert_applicable(rt: &impl Abort, alloc: Global, task: &SasTask) -> Result<(), AllocError> {
-    assert_eq!(rt; task.operators(), 3);
-    assert!(rt; is_applicable(alloc, task, &[1, 1, 1, 1], 1)?);
-    assert!(rt; !is_applicable(alloc, task, &[0, 1, 1, 1], 1)?);
-    assert!(rt; !is_applicable(alloc, task, &[1, 0, 1, 1], 1)?);
-    Ok(())
-}
-
-#[test]
-fn the_lamp_is_pressed_in_the_dark_room(rt: HostRuntime) -> Result<(), AllocError> {
-    let task = room(rt.alloc())?;
-    assert_applicable(&rt, rt.alloc(), &task)
-}
-
-fn assert_steps(rt: &impl Abort, alloc: Global, task: &SasTask) -> Result<(), AllocError> {
-    assert_eq!(rt; task.operators(), 3);
-    assert_eq!(rt; task.variables(), 4);
-    assert!(rt; leads(alloc, task, &[0, 1, 1, 1], 0, &[1, 1, 1, 1])?);
-    assert!(rt; leads(alloc, task, &[1, 1, 1, 1], 2, &[1, 0, 1, 1])?);
-    assert!(rt; leads(alloc, task, &[1, 0, 1, 1], 2, &[1, 1, 1, 1])?);
-    Ok(())
-}
-
-#[test]
-fn effects_are_read_in_the_old_state(rt: HostRuntime) -> Result<(), AllocError> {
-    let task = room(rt.alloc())?;
-    assert_steps(&rt, rt.alloc(), &task)
-}
-
-fn assert_flickers(rt: &impl Abort, alloc: Global, task: &SasTask) -> Result<(), AllocError>
+fn does_flicker(alloc: Global, task: &SasTask) -> Result<bool, AllocError>
     requires { task.now ≡ room }
 {
     let outside = flickered(alloc, task, &[0, 0, 1, 1])?;
-    assert!(rt; matches!(&outside, Some(state) if state.as_slice() == [0, 1, 1, 1].as_slice()));
-    assert!(rt; flickered(alloc, task, &[1, 0, 1, 1])?.is_none());
-    Ok(())
+    let inside = flickered(alloc, task, &[1, 0, 1, 1])?;
+    Ok(is_state(&outside, &[0, 1, 1, 1]) && inside.is_none())
+}
+
+fn does_room_flicker(alloc: Global) -> Result<bool, AllocError> {
+    let task = examples::room(alloc)?;
+    let answer = does_flicker(alloc, &task);
+    drop(task);
+    answer
 }
 
 #[test]
-fn firing_effects_may_disagree(rt: HostRuntime) -> Result<(), AllocError> {
-    let task = examples::room(rt.alloc())?;
-    assert_flickers(&rt, rt.alloc(), &task)
+fn firing_effects_may_disagree(rt: HostRuntime) {
+    assert!(rt; matches!(does_room_flicker(rt.alloc()), Ok(true)));
 }

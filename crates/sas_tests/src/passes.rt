@@ -50,46 +50,51 @@ fn copies_have_one_text(alloc: Global, task: SasTask) -> Result<bool, AllocError
     has_text(alloc, copy, text.as_slice())
 }
 
+fn is_switch_copied(alloc: Global) -> Result<bool, AllocError> {
+    copies_have_one_text(alloc, switch(alloc)?)
+}
+
+fn is_room_copied(alloc: Global) -> Result<bool, AllocError> {
+    copies_have_one_text(alloc, room(alloc)?)
+}
+
 #[test]
-fn a_copy_has_the_same_text(rt: HostRuntime) -> Result<(), AllocError> {
-    let alloc = rt.alloc();
-    assert!(rt; copies_have_one_text(alloc, switch(alloc)?)?);
-    assert!(rt; copies_have_one_text(alloc, room(alloc)?)?);
-    Ok(())
+fn a_copy_has_the_same_text(rt: HostRuntime) {
+    assert!(rt; matches!(is_switch_copied(rt.alloc()), Ok(true)));
+    assert!(rt; matches!(is_room_copied(rt.alloc()), Ok(true)));
 }
 
 fn copy_of(alloc: Global, task: SasTask) -> Result<SasTask, AllocError> {
     task.copy(alloc)
 }
 
-#[test]
-fn a_copy_of_the_lamp_has_its_text(rt: HostRuntime) -> Result<(), AllocError> {
-    let alloc = rt.alloc();
+fn is_lamp_copied(alloc: Global) -> Result<bool, AllocError> {
     let copy = copy_of(alloc, task_of(alloc, LAMP)?)?;
-    assert!(rt; has_text(alloc, copy, LAMP.as_bytes())?);
-    Ok(())
+    has_text(alloc, copy, LAMP.as_bytes())
+}
+
+#[test]
+fn a_copy_of_the_lamp_has_its_text(rt: HostRuntime) {
+    assert!(rt; matches!(is_lamp_copied(rt.alloc()), Ok(true)));
 }
 
 fn ordered(alloc: Global, task: SasTask) -> Result<SasTask, AllocError> {
     order_variables(alloc, &task)
 }
 
-#[test]
-fn variables_are_ordered(rt: HostRuntime) -> Result<(), AllocError> {
-    let alloc = rt.alloc();
+fn is_room_ordered(alloc: Global) -> Result<bool, AllocError> {
     let ordered = ordered(alloc, room(alloc)?)?;
-    assert!(rt; has_text(alloc, ordered, REORDERED.as_bytes())?);
-    Ok(())
+    has_text(alloc, ordered, REORDERED.as_bytes())
 }
 
-/// Whether passes of these kinds make no task of the room, and why.
-fn ends(
-    alloc: Global,
-    book: &Book,
-    kinds: &[PassKind],
-    wanted: ApplyEnd,
-) -> Result<bool, AllocError> {
-    match book.apply(alloc, kinds, room(alloc)?) {
+#[test]
+fn variables_are_ordered(rt: HostRuntime) {
+    assert!(rt; matches!(is_room_ordered(rt.alloc()), Ok(true)));
+}
+
+/// Whether the order of variables makes no task of the room, and why.
+fn ends(alloc: Global, book: &Book, wanted: ApplyEnd) -> Result<bool, AllocError> {
+    match book.apply(alloc, &[PassKind::Order], room(alloc)?) {
         Ok(_) => Ok(false),
         Err(end) => Ok(end == wanted),
     }
@@ -104,9 +109,7 @@ fn orders(alloc: Global, book: &Book) -> Result<bool, AllocError> {
     Ok(book.has(kind) && once && twice)
 }
 
-#[test]
-fn a_pass_is_applied(rt: HostRuntime) -> Result<(), AllocError> {
-    let alloc = rt.alloc();
+fn is_pass_applied(alloc: Global) -> Result<bool, AllocError> {
     let mut book = Book::new(alloc);
     let run = Box::new(
         alloc,
@@ -114,13 +117,15 @@ fn a_pass_is_applied(rt: HostRuntime) -> Result<(), AllocError> {
     )?;
     let kind = PassKind::Order;
     let is_added = book.add(Pass { kind, run }).is_ok();
-    assert!(rt; is_added && orders(alloc, &book)?);
-    Ok(())
+    Ok(is_added && orders(alloc, &book)?)
 }
 
 #[test]
-fn a_kind_is_taken_once(rt: HostRuntime) -> Result<(), AllocError> {
-    let alloc = rt.alloc();
+fn a_pass_is_applied(rt: HostRuntime) {
+    assert!(rt; matches!(is_pass_applied(rt.alloc()), Ok(true)));
+}
+
+fn is_kind_taken_once(alloc: Global) -> Result<bool, AllocError> {
     let mut book = Book::new(alloc);
     let run = Box::new(
         alloc,
@@ -133,17 +138,20 @@ fn a_kind_is_taken_once(rt: HostRuntime) -> Result<(), AllocError> {
         book.add(Pass { kind, run: other }),
         Err((_, AddEnd::KindTaken))
     );
-    assert!(rt; is_added && is_taken && orders(alloc, &book)?);
-    Ok(())
+    Ok(is_added && is_taken && orders(alloc, &book)?)
 }
 
 #[test]
-fn an_empty_book_has_no_pass(rt: HostRuntime) -> Result<(), AllocError> {
+fn a_kind_is_taken_once(rt: HostRuntime) {
+    assert!(rt; matches!(is_kind_taken_once(rt.alloc()), Ok(true)));
+}
+
+#[test]
+fn an_empty_book_has_no_pass(rt: HostRuntime) {
     let book = Book::new(rt.alloc());
     let kind = PassKind::Order;
-    let is_missing = ends(rt.alloc(), &book, &[kind], ApplyEnd::NotInBook(kind))?;
-    assert!(rt; is_missing && !book.has(kind));
-    Ok(())
+    let is_missing = ends(rt.alloc(), &book, ApplyEnd::NotInBook(kind));
+    assert!(rt; matches!(is_missing, Ok(true)) && !book.has(kind));
 }
 
 /// Whether no passes leave the room as it is.
@@ -155,18 +163,19 @@ fn leaves_the_room(alloc: Global, book: &Book) -> Result<bool, AllocError> {
 
 /// Whether the book has a pass that finds no memory, and no passes leave the room as it is.
 fn wants_memory(alloc: Global, book: &Book) -> Result<bool, AllocError> {
-    let kind = PassKind::Order;
-    let is_starved = ends(alloc, book, &[kind], ApplyEnd::NoMemory)?;
-    Ok(is_starved && book.has(kind) && leaves_the_room(alloc, book)?)
+    let is_starved = ends(alloc, book, ApplyEnd::NoMemory)?;
+    Ok(is_starved && book.has(PassKind::Order) && leaves_the_room(alloc, book)?)
 }
 
-#[test]
-fn a_pass_may_want_memory(rt: HostRuntime) -> Result<(), AllocError> {
-    let alloc = rt.alloc();
+fn is_memory_wanted(alloc: Global) -> Result<bool, AllocError> {
     let mut book = Book::new(alloc);
     let run = Box::new(alloc, |_: Global, _: &SasTask| Err(AllocError))?;
     let kind = PassKind::Order;
     let is_added = book.add(Pass { kind, run }).is_ok();
-    assert!(rt; is_added && wants_memory(alloc, &book)?);
-    Ok(())
+    Ok(is_added && wants_memory(alloc, &book)?)
+}
+
+#[test]
+fn a_pass_may_want_memory(rt: HostRuntime) {
+    assert!(rt; matches!(is_memory_wanted(rt.alloc()), Ok(true)));
 }

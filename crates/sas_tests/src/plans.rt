@@ -4,7 +4,6 @@ use crate::examples;
 use plan_backmap::{MapEnd, Mapped, Step, map_plan, plan_text};
 use sas_task::SasTask;
 use std::alloc::{AllocError, Global};
-use std::process::Abort;
 use std::test::*;
 
 // Each plan beside the switch, whose one operator is `flip` at cost 1: how often it flips, or its first faulty line.
@@ -105,35 +104,41 @@ fn comes_to(found: &Result<Mapped, MapEnd>, expected: Result<u64, MapEnd>) -> bo
     }
 }
 
-// Each test owns its task, and a function that is handed it asserts, so that the task is let go at one place.
-
-fn assert_switch_plans(rt: &impl Abort, alloc: Global, task: &SasTask) {
-    for row in &SWITCH_PLANS {
-        let (text, expected) = *row;
-        assert!(rt; text.len() < 1000);
-        let found = map_plan(alloc, task, text);
-        assert!(rt; comes_to(&found, expected), "{text:?}");
+/// What comes of a short plan.
+fn mapped(alloc: Global, task: &SasTask, text: &[u8]) -> Result<Mapped, MapEnd> {
+    if text.len() < 1000 {
+        map_plan(alloc, task, text)
+    } else {
+        Err(MapEnd::NoMemory)
     }
 }
 
-#[test]
-fn each_plan_gives_its_steps_or_its_first_faulty_line(rt: HostRuntime) -> Result<(), AllocError> {
-    let task = examples::switch(rt.alloc())?;
-    assert_switch_plans(&rt, rt.alloc(), &task);
-    Ok(())
-}
-
-fn assert_room_plan(rt: &impl Abort, alloc: Global, task: &SasTask) {
-    assert!(rt; ROOM_PLAN.len() < 1000);
-    let found = map_plan(alloc, task, ROOM_PLAN);
-    assert!(rt; matches!(&found, Ok(mapped) if is_room_plan(mapped)));
+/// Whether the plan beside the switch comes to this.
+fn is_mapped(alloc: Global, text: &[u8], wanted: Result<u64, MapEnd>) -> Result<bool, AllocError> {
+    let task = examples::switch(alloc)?;
+    let found = mapped(alloc, &task, text);
+    drop(task);
+    Ok(comes_to(&found, wanted))
 }
 
 #[test]
-fn steps_have_their_words_and_costs(rt: HostRuntime) -> Result<(), AllocError> {
-    let task = examples::room(rt.alloc())?;
-    assert_room_plan(&rt, rt.alloc(), &task);
-    Ok(())
+fn each_plan_gives_its_steps_or_its_first_faulty_line(rt: HostRuntime) {
+    for row in &SWITCH_PLANS {
+        let answer = is_mapped(rt.alloc(), row.0, row.1);
+        assert!(rt; matches!(answer, Ok(true)), "{:?}", row.0);
+    }
+}
+
+fn room_mapped(alloc: Global) -> Result<Mapped, MapEnd> {
+    let task = examples::room(alloc)?;
+    let found = mapped(alloc, &task, ROOM_PLAN);
+    drop(task);
+    found
+}
+
+#[test]
+fn steps_have_their_words_and_costs(rt: HostRuntime) {
+    assert!(rt; matches!(&room_mapped(rt.alloc()), Ok(mapped) if is_room_plan(mapped)));
 }
 
 const ROOM_STEP_LINES: &str = "(enter room)\n(press)\n(toggle)\n(enter room)\n";
@@ -150,18 +155,14 @@ fn has_both_lines(alloc: Global, mapped: &Mapped) -> Result<bool, AllocError> {
     Ok(has_own && has_lines(alloc, mapped, false, "; cost = 16 (unit cost)\n")?)
 }
 
-fn assert_room_lines(rt: &impl Abort, alloc: Global, task: &SasTask) -> Result<(), AllocError> {
-    assert!(rt; ROOM_PLAN.len() < 1000);
-    let are_told = match &map_plan(alloc, task, ROOM_PLAN) {
-        Ok(mapped) => has_both_lines(alloc, mapped)?,
-        Err(_) => false,
-    };
-    assert!(rt; are_told);
-    Ok(())
+fn are_lines_told(alloc: Global) -> Result<bool, AllocError> {
+    match &room_mapped(alloc) {
+        Ok(mapped) => has_both_lines(alloc, mapped),
+        Err(_) => Ok(false),
+    }
 }
 
 #[test]
-fn a_mapped_plan_has_a_line_for_each_step(rt: HostRuntime) -> Result<(), AllocError> {
-    let task = examples::room(rt.alloc())?;
-    assert_room_lines(&rt, rt.alloc(), &task)
+fn a_mapped_plan_has_a_line_for_each_step(rt: HostRuntime) {
+    assert!(rt; matches!(are_lines_told(rt.alloc()), Ok(true)));
 }

@@ -14,16 +14,20 @@ fn is_projected_to(alloc: Global, task: SasTask, other: SasTask) -> Result<bool,
     has_text(alloc, new, text?.as_slice())
 }
 
-#[test]
-fn the_room_is_its_own_projection(rt: HostRuntime) -> Result<(), AllocError> {
-    let alloc = rt.alloc();
-    assert!(rt; is_projected_to(alloc, room(alloc)?, room(alloc)?)?);
-    Ok(())
+fn is_room_its_projection(alloc: Global) -> Result<bool, AllocError> {
+    is_projected_to(alloc, room(alloc)?, room(alloc)?)
 }
 
 #[test]
-fn the_switch_is_its_own_projection(rt: HostRuntime) -> Result<(), AllocError> {
-    let alloc = rt.alloc();
-    assert!(rt; is_projected_to(alloc, switch(alloc)?, switch(alloc)?)?);
-    Ok(())
+fn the_room_is_its_own_projection(rt: HostRuntime) {
+    assert!(rt; matches!(is_room_its_projection(rt.alloc()), Ok(true)));
+}
+
+fn is_switch_its_projection(alloc: Global) -> Result<bool, AllocError> {
+    is_projected_to(alloc, switch(alloc)?, switch(alloc)?)
+}
+
+#[test]
+fn the_switch_is_its_own_projection(rt: HostRuntime) {
+    assert!(rt; matches!(is_switch_its_projection(rt.alloc()), Ok(true)));
 }

@@ -1,5 +1,7 @@
 //! Texts with a line changed, and what reading them gives.
 
+ghost use Rattle.std.specs.Prelude.{◌<◌};
+
 use crate::tasks::has_text;
 use sas_reader::{ReadTaskEnd, SasPlace, read_task};
 use sas_task::SasTask;
@@ -60,25 +62,34 @@ fn meets(alloc: Global, text: &[u8], row: &Refused) -> Result<bool, AllocError> 
 }
 
 /// Asserts that the text is refused as each row says.
-pub(crate) fn assert_refused(
-    rt: &impl Abort,
-    alloc: Global,
-    text: &[u8],
-    rows: &[Refused],
-) -> Result<(), AllocError> {
+pub(crate) fn assert_refused(rt: &impl Abort, alloc: Global, text: &[u8], rows: &[Refused]) {
     for row in rows {
-        let (line, other, ..) = *row;
-        assert!(rt; meets(alloc, text, row)?, "{line} {other:?}");
+        let answer = meets(alloc, text, row);
+        assert!(rt; matches!(answer, Ok(true)), "{} {:?}", row.0, row.1);
     }
-    Ok(())
 }
 
 /// The first lines of the text, with their line feeds.
-pub(crate) fn first_lines(alloc: Global, text: &[u8], count: u64) -> Result<Vec<u8>, AllocError> {
+fn first_lines(alloc: Global, text: &[u8], count: u64) -> Result<Vec<u8>, AllocError> {
     let mut lines = Vec::new(alloc);
     for line in text.split(|byte| *byte == b'\n').take(count as usize) {
         lines.extend_from_slice(line)?;
         lines.push(b'\n')?;
     }
     Ok(lines)
+}
+
+/// Whether the text is refused after so many lines, at the next one, which is missing or has no line feed.
+pub(crate) fn is_cut(
+    alloc: Global,
+    text: &[u8],
+    before: u64,
+    place: SasPlace,
+) -> Result<bool, AllocError>
+    requires { before < 89 }
+{
+    let mut cut = first_lines(alloc, text, before)?;
+    let is_missing = is_refused(alloc, cut.as_slice(), before + 1, place);
+    cut.extend_from_slice(b"0")?;
+    Ok(is_missing && is_refused(alloc, cut.as_slice(), before + 1, place))
 }

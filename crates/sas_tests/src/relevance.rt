@@ -102,34 +102,35 @@ fn leaves(alloc: Global, text: &str, wanted: &str) -> Result<bool, AllocError> {
     has_text(alloc, new, wanted.as_bytes())
 }
 
-/// Whether the pass leaves the text of the task itself.
-fn stays(alloc: Global, task: SasTask) -> Result<bool, AllocError> {
-    let text = written(alloc, &task)?;
-    let new = left(alloc, task)?;
+/// Whether the pass leaves the text of the room itself.
+fn does_room_stay(alloc: Global) -> Result<bool, AllocError> {
+    let room = examples::room(alloc)?;
+    let text = written(alloc, &room)?;
+    let new = left(alloc, room)?;
     has_text(alloc, new, text.as_slice())
 }
 
 #[test]
-fn what_is_of_no_account_is_left_out(rt: HostRuntime) -> Result<(), AllocError> {
-    let alloc = rt.alloc();
-    assert!(rt; leaves(alloc, tasks::BACK, BACK)?);
-    assert!(rt; leaves(alloc, shop!(goal 1 "0 0"), SMALL_SHOP)?);
-    Ok(())
+fn what_is_of_no_account_is_left_out(rt: HostRuntime) {
+    for (text, wanted) in [(tasks::BACK, BACK), (shop!(goal 1 "0 0"), SMALL_SHOP)] {
+        let answer = leaves(rt.alloc(), text, wanted);
+        assert!(rt; matches!(answer, Ok(true)), "{text}");
+    }
 }
 
 /// Through conditions of effects and of rules, and by two effects with different new values on one variable.
 #[test]
-fn what_can_influence_the_goal_stays(rt: HostRuntime) -> Result<(), AllocError> {
-    let alloc = rt.alloc();
-    assert!(rt; leaves(alloc, TOUCH, TOUCH)?);
-    assert!(rt; leaves(alloc, tasks::GATE, GATE)?);
-    assert!(rt; stays(alloc, examples::room(alloc)?)?);
-    Ok(())
+fn what_can_influence_the_goal_stays(rt: HostRuntime) {
+    for (text, wanted) in [(TOUCH, TOUCH), (tasks::GATE, GATE)] {
+        let answer = leaves(rt.alloc(), text, wanted);
+        assert!(rt; matches!(answer, Ok(true)), "{text}");
+    }
+    assert!(rt; matches!(does_room_stay(rt.alloc()), Ok(true)));
 }
 
 /// The operators of the shop stay in their own order.
 #[test]
-fn with_an_empty_goal_the_task_stays(rt: HostRuntime) -> Result<(), AllocError> {
-    assert!(rt; leaves(rt.alloc(), shop!(goal 0), shop!(goal 0))?);
-    Ok(())
+fn with_an_empty_goal_the_task_stays(rt: HostRuntime) {
+    let shop = shop!(goal 0);
+    assert!(rt; matches!(leaves(rt.alloc(), shop, shop), Ok(true)));
 }
