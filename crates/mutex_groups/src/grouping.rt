@@ -4,9 +4,10 @@ ghost use Rattle.std.specs.List.{list_any, list_all};
 ghost use Rattle.names.specs.Names.{is_same};
 ghost use Rattle.normal_task.specs.Lawful.{IsLawful};
 ghost use Rattle.invariant_check.specs.WellFormed.{is_well_formed};
+ghost use Rattle.relaxed_reach.specs.declared.types.Fact.{Fact as ReachedFact};
 ghost use Rattle.mutex_groups.specs.Groups.{AreGroups};
 ghost use Rattle.mutex_groups.specs.Laws.{AreExclusive};
-ghost use Rattle.mutex_groups.specs.Found.{parts_differ, AddsGroup, covers_just, has_group};
+ghost use Rattle.mutex_groups.specs.Found.{parts_differ, AddsGroup, HoldsNumbers, HoldsWeights, covers_just, has_group};
 
 use crate::instances::{instance_of, members, weights};
 use crate::tables::Weights;
@@ -51,6 +52,23 @@ fn add_group(
     }
 }
 
+/// Adds the groups of the instances that cover the atoms, by the tables.
+fn add_each_group(
+    alloc: Global,
+    candidate: &Candidate,
+    init: &[GroundAtom],
+    weights: &Weights,
+    members: &Buckets,
+    groups: &mut NumberLists,
+) -> Result<(), AllocError>
+    ensures { OnOk result ((facts : List ReachedFact) → HoldsWeights candidate.now init.now weights.now → HoldsNumbers candidate.now facts members.now → (group : List ℕ) → list_any (is_same group) groups.new ≡ (has_group init.now facts group candidate.now || list_any (is_same group) groups.old)) }
+{
+    for atom in init {
+        add_group(alloc, candidate, atom, weights, members, groups)?;
+    }
+    Ok(())
+}
+
 /// Adds the groups of the candidate's instances. One of initial weight one covers an initial atom, so that all are met on
 /// the way over these.
 fn add_groups(
@@ -65,10 +83,7 @@ fn add_groups(
 {
     let weights = weights(alloc, candidate, init)?;
     let members = members(alloc, candidate, facts)?;
-    for atom in init {
-        add_group(alloc, candidate, atom, &weights, &members, groups)?;
-    }
-    Ok(())
+    add_each_group(alloc, candidate, init, &weights, &members, groups)
 }
 
 /// The groups of the candidates.
