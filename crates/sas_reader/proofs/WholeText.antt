@@ -218,10 +218,31 @@ task_read bytes t after e =
     subst (λ w. IsValid w × IsTextOf bytes w) p.same (valid, text)
 
 -- a whole text by its parts
-pub parts_are : (bytes : List ℕ) (a0 a1 a2 a3 a4 a5 a6 a7 a8 : Unread) (m : Bool) (vs : List Variable) (gs : List Group) (st : List ℕ) (g : List Pair) (os : List Operator) (rs : List Rule)
+parts_are : (bytes : List ℕ) (a0 a1 a2 a3 a4 a5 a6 a7 a8 : Unread) (m : Bool) (vs : List Variable) (gs : List Group) (st : List ℕ) (g : List Pair) (os : List Operator) (rs : List Rule)
     → version (unread bytes) ≡ Ok (tt, a0) → metric (in_section places.Metric a0) ≡ Ok (m, a1) → variables (in_section places.Variables a1) ≡ Ok (vs, a2) → groups (so_far vs []) (in_section places.Groups a2) ≡ Ok (gs, a3)
     → state (so_far vs []) (in_section places.State a3) ≡ Ok (st, a4) → goal (so_far vs []) (in_section places.Goal a4) ≡ Ok (g, a5) → operators m (so_far vs []) (in_section places.Operators a5) ≡ Ok (os, a6)
     → rules vs st (in_section places.Rules a6) ≡ Ok (rs, a7) → end (in_section places.End a7) ≡ Ok (tt, a8)
     → task (unread bytes) ≡ Ok (record { metric = m; variables = vs; groups = gs; state = st; goal = g; operators = os; rules = rs }, a8)
 unfolding task
 parts_are bytes a0 a1 a2 a3 a4 a5 a6 a7 a8 m vs gs st g os rs e0 e1 e2 e3 e4 e5 e6 e7 e8 = rw (e0, e1, e2, e3, e4, e5, e6, e7, e8) refl
+
+-- The same, as the code reads them: the readers at the beginnings of the sections, and the slices of the variables and of the state, are other words for these.
+pub parts_read : (bytes : List ℕ) (n0 n1 n2 n3 n4 n5 n6 n7 n8 a0 a1 a2 a3 a4 a5 a6 a7 a8 : Unread) (v3 v4 v5 v6 v7 vs : List Variable) (s7 st : List ℕ)
+    (m : Bool) (gs : List Group) (g : List Pair) (os : List Operator) (rs : List Rule)
+    → n0 ≡ unread bytes → n1 ≡ in_section places.Metric a0 → n2 ≡ in_section places.Variables a1 → n3 ≡ in_section places.Groups a2 → n4 ≡ in_section places.State a3
+    → n5 ≡ in_section places.Goal a4 → n6 ≡ in_section places.Operators a5 → n7 ≡ in_section places.Rules a6 → n8 ≡ in_section places.End a7
+    → v3 ≡ vs → v4 ≡ vs → v5 ≡ vs → v6 ≡ vs → v7 ≡ vs → s7 ≡ st
+    → version n0 ≡ Ok (tt, a0) → metric n1 ≡ Ok (m, a1) → variables n2 ≡ Ok (vs, a2) → groups (so_far v3 []) n3 ≡ Ok (gs, a3) → state (so_far v4 []) n4 ≡ Ok (st, a4)
+    → goal (so_far v5 []) n5 ≡ Ok (g, a5) → operators m (so_far v6 []) n6 ≡ Ok (os, a6) → rules v7 s7 n7 ≡ Ok (rs, a7) → end n8 ≡ Ok (tt, a8)
+    → task (unread bytes) ≡ Ok (made m vs gs st g os rs, a8)
+parts_read bytes n0 n1 n2 n3 n4 n5 n6 n7 n8 a0 a1 a2 a3 a4 a5 a6 a7 a8 v3 v4 v5 v6 v7 vs s7 st m gs g os rs i0 i1 i2 i3 i4 i5 i6 i7 i8 j3 j4 j5 j6 j7 k7 e0 e1 e2 e3 e4 e5 e6 e7 e8 =
+    parts_are bytes a0 a1 a2 a3 a4 a5 a6 a7 a8 m vs gs st g os rs
+    (subst (λ r. version r ≡ Ok (tt, a0)) i0 e0)
+    (subst (λ r. metric r ≡ Ok (m, a1)) i1 e1)
+    (subst (λ r. variables r ≡ Ok (vs, a2)) i2 e2)
+    (subst (λ r. groups (so_far vs []) r ≡ Ok (gs, a3)) i3 (subst (λ l. groups (so_far l []) n3 ≡ Ok (gs, a3)) j3 e3))
+    (subst (λ r. state (so_far vs []) r ≡ Ok (st, a4)) i4 (subst (λ l. state (so_far l []) n4 ≡ Ok (st, a4)) j4 e4))
+    (subst (λ r. goal (so_far vs []) r ≡ Ok (g, a5)) i5 (subst (λ l. goal (so_far l []) n5 ≡ Ok (g, a5)) j5 e5))
+    (subst (λ r. operators m (so_far vs []) r ≡ Ok (os, a6)) i6 (subst (λ l. operators m (so_far l []) n6 ≡ Ok (os, a6)) j6 e6))
+    (subst (λ r. rules vs st r ≡ Ok (rs, a7)) i7 (subst (λ l. rules l st n7 ≡ Ok (rs, a7)) j7 (subst (λ l. rules v7 l n7 ≡ Ok (rs, a7)) k7 e7)))
+    (subst (λ r. end r ≡ Ok (tt, a8)) i8 e8)
