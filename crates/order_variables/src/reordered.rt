@@ -4,7 +4,8 @@ ghost use Rattle.std.specs.Prelude.{IfOk};
 ghost use Rattle.sas_restriction.specs.Reordered.{IsReordered};
 
 use crate::counted::variable_order;
-use sas_restriction::{Once, all_marks, all_values, is_valid, restrict};
+use restricted_task::restrict;
+use sas_restriction::{Once, all_marks, all_values, is_valid};
 use sas_task::SasTask;
 use std::alloc::{AllocError, Global};
 

@@ -12,7 +12,8 @@ ghost use Rattle.pass_h2.specs.Search.{found, nothing};
 use crate::search::{is_possible, mark_possible};
 use crate::table::Table;
 use lists::List;
-use sas_restriction::{Chosen, Once, is_valid, restrict};
+use restricted_task::restrict;
+use sas_restriction::{Chosen, Once, is_valid};
 use sas_task::{Operator, Pair, SasTask};
 use std::alloc::{AllocError, Global};
 

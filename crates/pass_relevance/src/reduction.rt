@@ -4,7 +4,8 @@ ghost use Rattle.std.specs.Prelude.{◌≡◌, ◌==◌, length, IfOk};
 ghost use Rattle.sas_restriction.specs.Reduced.{HasRelevantAlone, IsReduced};
 
 use crate::search::relevant_variables;
-use sas_restriction::{Once, all_values, busy_marks, is_valid, restrict};
+use restricted_task::{busy_marks, restrict};
+use sas_restriction::{Once, all_values, is_valid};
 use sas_task::SasTask;
 use std::alloc::{AllocError, Global};
 

@@ -1,11 +1,11 @@
 mod Pairs
-mod Pieces
 mod Places
 mod Rising
 mod Shape
 mod Completed
-mod Assembled
 -- what a pass owes and gets, which crates above cite
+pub mod Pieces
+pub mod Assembled
 pub mod Exact
 pub mod Numbers
 pub mod Alike

@@ -14,6 +14,15 @@ ghost use Rattle.sas_restriction.specs.KeepsPart.{KeepsPart};
 ghost use Rattle.sas_restriction.specs.Reduced.{has_effect_on, reduced, HasRelevantAlone, IsReduced};
 ghost use Rattle.sas_restriction.specs.Examples.{room_reordered, belfry, belfry_reduced};
 
+use sas_task::SasTask;
+
+/// Every task is valid. This does nothing: its clause says so.
+pub fn is_valid(task: &SasTask)
+    ensures { IsValid task.now }
+{
+    task.metric();
+}
+
 /// A restriction of a valid task is valid. It may stand for the task where the choice meets `MayStand`, and where all
 /// variables are told too, each solution of the task whose every step changes the state is a solution of the
 /// restriction, with its names and its cost.

@@ -1,8 +1,10 @@
-// What is left of variables, groups, effects, operators and rules.
+// What is left of variables, of the goal, of effects, operators and rules.
 
-ghost use Rattle.std.specs.Prelude.{◌≡◌, ◌++◌, ◌<◌, ◌&&◌, Bool, nat_lt, List, [], ◌∷◌, map, filter, length, All, IfOk, OnOk, if◌then◌else◌, slice_index, slice_index_or};
+ghost use Rattle.std.specs.Prelude.{◌≡◌, ◌++◌, ◌<◌, ◌&&◌, Bool, [], ◌∷◌, map, filter, length, All, IfOk, OnOk, if◌then◌else◌, slice_index_or};
+ghost use Rattle.std.specs.Option.{option_map_or};
 ghost use Rattle.sas_task.specs.declared.parts.Operator.{Operator as AnOperator};
-ghost use Rattle.sas_task.specs.Valid.{IsValid};
+ghost use Rattle.sas_task.specs.Orders.{operator_cmp};
+ghost use Rattle.sas_orders.specs.InOrder.{arranged};
 ghost use Rattle.sas_restriction.specs.Listed.{chosen, with_operators};
 ghost use Rattle.sas_restriction.specs.Choice as choice;
 ghost use Rattle.sas_restriction.specs.Restriction as restriction;
@@ -10,7 +12,7 @@ ghost use Rattle.sas_restriction.specs.Restriction as restriction;
 use crate::chosen::{Chosen, Once};
 use lists::{List, Text};
 use sas_orders::arrange;
-use sas_task::{Effect, Group, Operator, Rule, SasTask, Variable};
+use sas_task::{Effect, Operator, Pair, Rule, SasTask, Variable};
 use std::alloc::{AllocError, Global};
 
 /// A copy of the fact of this value.
@@ -54,11 +56,7 @@ fn new_variable(
 }
 
 /// The variables that are shown.
-pub(crate) fn new_variables(
-    alloc: Global,
-    shown: &Chosen,
-    task: &SasTask,
-) -> Result<Vec<Variable>, AllocError>
+fn new_variables(alloc: Global, shown: &Chosen, task: &SasTask) -> Result<Vec<Variable>, AllocError>
     requires { All (λ v. v < length task.now.variables) shown.now.vars }
     ensures { IfOk result (λ variables. variables.items ≡ map (choice.new_variable (chosen shown.now) task.now) shown.now.vars) }
 {
@@ -69,52 +67,61 @@ pub(crate) fn new_variables(
     Ok(variables)
 }
 
-/// The initial values of the variables that are shown.
-pub(crate) fn new_state(
-    alloc: Global,
-    shown: &Chosen,
-    task: &SasTask,
-) -> Result<Vec<u64>, AllocError>
-    requires { All (λ v. v < length task.now.variables) shown.now.vars }
-    ensures { IfOk result (λ state. state.items ≡ map (λ var. choice.new_val (chosen shown.now) var (slice_index task.now.state var)) shown.now.vars) }
+fn text(alloc: Global, bytes: &[u8]) -> Result<Text, AllocError>
+    ensures { IfOk result (λ text. text ≡ bytes.now) }
 {
-    let mut state = Vec::new(alloc);
-    for var in shown.vars() {
-        state.push(shown.new_val(*var, task.state(*var)))?;
-    }
-    Ok(state)
+    Ok(Text::from_vec(bytes.to_vec(alloc)?))
 }
 
-fn add_group(
-    alloc: Global,
-    shown: &Chosen,
-    groups: &mut Vec<Group>,
-    group: &Group,
-) -> Result<(), AllocError>
-    ensures { OnOk result (let new = choice.new_group (chosen shown.now) group.now in groups.new.items ≡ groups.old.items ++ (if nat_lt 1 (length new.facts) then new ∷ [] else [])) }
+fn holder_variable(alloc: Global) -> Result<Variable, AllocError>
+    ensures { IfOk result (λ variable. variable ≡ choice.holder_variable) }
 {
-    let facts = shown.new_facts(alloc, group.facts.as_slice())?;
-    if facts.len() > 1 {
-        groups.push(Group {
-            facts: List::from_vec(facts),
-        })?;
+    let met = text(alloc, b"Atom goal@holder()")?;
+    let missed = text(alloc, b"NegatedAtom goal@holder()")?;
+    Ok(Variable {
+        layer: None,
+        facts: List::from_vec(vec![in alloc; met, missed]?),
+    })
+}
+
+fn add_holder(
+    alloc: Global,
+    variables: &mut Vec<Variable>,
+    holder: Option<u64>,
+) -> Result<(), AllocError>
+    ensures { OnOk result (variables.new.items ≡ variables.old.items ++ option_map_or (λ start. choice.holder_variable ∷ []) holder []) }
+{
+    if holder.is_some() {
+        variables.push(holder_variable(alloc)?)?;
     }
     Ok(())
 }
 
-/// What is left of the groups that have two facts left.
-pub(crate) fn groups_left(
+/// The variables that are shown, and the holder's.
+pub fn all_variables(
     alloc: Global,
     shown: &Chosen,
     task: &SasTask,
-) -> Result<Vec<Group>, AllocError>
-    ensures { IfOk result (λ groups. groups.items ≡ restriction.new_groups (chosen shown.now) task.now) }
+) -> Result<List<Variable>, AllocError>
+    requires { All (λ v. v < length task.now.variables) shown.now.vars }
+    ensures { IfOk result (λ all. all ≡ map (choice.new_variable (chosen shown.now) task.now) shown.now.vars ++ option_map_or (λ start. choice.holder_variable ∷ []) shown.now.holder []) }
 {
-    let mut groups = Vec::new(alloc);
-    for i in 0..task.groups() {
-        add_group(alloc, shown, &mut groups, task.group(i))?;
+    let mut all = new_variables(alloc, shown, task)?;
+    add_holder(alloc, &mut all, shown.holder())?;
+    Ok(List::from_vec(all))
+}
+
+/// What is left of the goal, or that the holder has its first value.
+pub fn goal(alloc: Global, shown: &Chosen, task: &SasTask) -> Result<List<Pair>, AllocError>
+    ensures { IfOk result (λ goal. goal ≡ option_map_or (λ start. record { var = length shown.now.vars; val = 0 } ∷ []) shown.now.holder (choice.new_pairs (chosen shown.now) task.now.goal)) }
+{
+    match shown.holder() {
+        Some(_) => {
+            let var = shown.vars().len() as u64;
+            Ok(List::from_vec(vec![in alloc; Pair { var, val: 0 }]?))
+        }
+        None => shown.new_pairs(alloc, task.goal()),
     }
-    Ok(groups)
 }
 
 fn new_effect(shown: &Chosen, effect: Effect) -> Result<Effect, AllocError>
@@ -141,25 +148,6 @@ impl Chosen {
             && self.has(effect.var, effect.after)
             && self.shows(effect.var)
     }
-
-    /// Whether some effect of the operator stays.
-    pub fn is_busy(&self, operator: &Operator) -> bool
-        ensures { result ≡ choice.is_busy (chosen self.now) operator.now }
-    {
-        let effects = operator.effects.as_slice();
-        effects.iter().any(|effect| self.keeps_effect(effect))
-    }
-}
-
-/// For each operator whether some effect of it stays.
-pub fn busy_marks(alloc: Global, shown: &Chosen, task: &SasTask) -> Result<Vec<bool>, AllocError>
-    ensures { IfOk result (λ marks. marks.items ≡ map (choice.is_busy (chosen shown.now)) task.now.operators) }
-{
-    let mut marks = Vec::new(alloc);
-    for i in 0..task.operators() {
-        marks.push(shown.is_busy(task.operator(i)))?;
-    }
-    Ok(marks)
 }
 
 fn add_effect(shown: &Chosen, effects: &mut Vec<Effect>, effect: Effect) -> Result<(), AllocError>
@@ -223,7 +211,7 @@ fn add_operator(
 }
 
 /// What is left of the operators that stay, whose lists are handed on. The marks tell which operators are left.
-pub(crate) fn operators_left(
+fn operators_left(
     alloc: Global,
     once: Once,
     shown: &Chosen,
@@ -241,6 +229,22 @@ pub(crate) fn operators_left(
         i += 1;
     }
     Ok(operators)
+}
+
+/// What is left of the operators that stay, in order. The marks tell which operators are left.
+pub fn whole_operators(
+    alloc: Global,
+    once: Once,
+    shown: &Chosen,
+    marks: &[bool],
+    old: List<Operator>,
+) -> Result<List<Operator>, AllocError>
+    requires { length marks.now ≡ length old }
+    ensures { IfOk result (λ operators. (leaves : AnOperator → Bool) → marks.now ≡ map leaves old →
+        operators ≡ arranged once.operators operator_cmp (map (restriction.new_operator once (with_operators shown.now leaves)) (filter (choice.operator_stays (with_operators shown.now leaves)) old))) }
+{
+    let operators = operators_left(alloc, once, shown, marks, old.into_vec())?;
+    Ok(List::from_vec(arrange(once.operators, operators)?))
 }
 
 fn new_rule(alloc: Global, shown: &Chosen, rule: &Rule) -> Result<Rule, AllocError>
@@ -269,11 +273,7 @@ fn add_rule(
 }
 
 /// What is left of the rules that stay.
-pub(crate) fn rules_left(
-    alloc: Global,
-    shown: &Chosen,
-    task: &SasTask,
-) -> Result<Vec<Rule>, AllocError>
+pub fn rules_left(alloc: Global, shown: &Chosen, task: &SasTask) -> Result<Vec<Rule>, AllocError>
     ensures { IfOk result (λ rules. rules.items ≡ restriction.new_rules (chosen shown.now) task.now) }
 {
     let mut rules = Vec::new(alloc);

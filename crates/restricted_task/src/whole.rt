@@ -1,51 +1,30 @@
-// The restriction as a whole.
+// The restriction as a whole, with what is left of the values at the start and of the groups.
 
-ghost use Rattle.std.specs.Prelude.{◌≡◌, ◌++◌, ◌<◌, Bool, [], ◌∷◌, map, filter, length, All, IfOk, OnOk, slice_index};
+ghost use Rattle.std.specs.Prelude.{◌≡◌, ◌++◌, ◌<◌, Bool, nat_lt, [], ◌∷◌, map, length, All, IfOk, OnOk, if◌then◌else◌, slice_index};
 ghost use Rattle.std.specs.Option.{option_map_or};
 ghost use Rattle.sas_task.specs.declared.parts.Operator.{Operator as AnOperator};
 ghost use Rattle.sas_task.specs.Valid.{IsValid};
-ghost use Rattle.sas_task.specs.Orders.{operator_cmp};
-ghost use Rattle.sas_orders.specs.InOrder.{arranged};
 ghost use Rattle.sas_restriction.specs.Listed.{chosen, with_operators};
 ghost use Rattle.sas_restriction.specs.Choice.{IsChoice};
 ghost use Rattle.sas_restriction.specs.Choice as choice;
 ghost use Rattle.sas_restriction.specs.Restriction as restriction;
 
-use crate::chosen::{Chosen, Once};
-use crate::parts::{groups_left, new_state, new_variables, operators_left, rules_left};
-use lists::{List, Text};
+use lists::List;
 use sas_orders::arrange;
+use sas_restriction::{Chosen, Once, all_variables, goal, is_valid, rules_left, whole_operators};
 use sas_task::{Group, Operator, Pair, Rule, SasTask, Variable};
 use std::alloc::{AllocError, Global};
 
-fn text(alloc: Global, bytes: &[u8]) -> Result<Text, AllocError>
-    ensures { IfOk result (λ text. text ≡ bytes.now) }
+/// The initial values of the variables that are shown.
+fn new_state(alloc: Global, shown: &Chosen, task: &SasTask) -> Result<Vec<u64>, AllocError>
+    requires { All (λ v. v < length task.now.variables) shown.now.vars }
+    ensures { IfOk result (λ state. state.items ≡ map (λ var. choice.new_val (chosen shown.now) var (slice_index task.now.state var)) shown.now.vars) }
 {
-    Ok(Text::from_vec(bytes.to_vec(alloc)?))
-}
-
-fn holder_variable(alloc: Global) -> Result<Variable, AllocError>
-    ensures { IfOk result (λ variable. variable ≡ choice.holder_variable) }
-{
-    let met = text(alloc, b"Atom goal@holder()")?;
-    let missed = text(alloc, b"NegatedAtom goal@holder()")?;
-    Ok(Variable {
-        layer: None,
-        facts: List::from_vec(vec![in alloc; met, missed]?),
-    })
-}
-
-fn add_holder(
-    alloc: Global,
-    variables: &mut Vec<Variable>,
-    holder: Option<u64>,
-) -> Result<(), AllocError>
-    ensures { OnOk result (variables.new.items ≡ variables.old.items ++ option_map_or (λ start. choice.holder_variable ∷ []) holder []) }
-{
-    if holder.is_some() {
-        variables.push(holder_variable(alloc)?)?;
+    let mut state = Vec::new(alloc);
+    for var in shown.vars() {
+        state.push(shown.new_val(*var, task.state(*var)))?;
     }
-    Ok(())
+    Ok(state)
 }
 
 fn add_start(state: &mut Vec<u64>, holder: Option<u64>) -> Result<(), AllocError>
@@ -60,16 +39,61 @@ fn add_start(state: &mut Vec<u64>, holder: Option<u64>) -> Result<(), AllocError
     }
 }
 
-fn goal(alloc: Global, shown: &Chosen, task: &SasTask) -> Result<List<Pair>, AllocError>
-    ensures { IfOk result (λ goal. goal ≡ option_map_or (λ start. record { var = length shown.now.vars; val = 0 } ∷ []) shown.now.holder (choice.new_pairs (chosen shown.now) task.now.goal)) }
+/// The values at the start, and the holder's.
+fn whole_state(alloc: Global, shown: &Chosen, task: &SasTask) -> Result<List<u64>, AllocError>
+    requires { All (λ v. v < length task.now.variables) shown.now.vars }
+    ensures { IfOk result (λ state. state ≡ map (λ var. choice.new_val (chosen shown.now) var (slice_index task.now.state var)) shown.now.vars ++ option_map_or (λ start. start ∷ []) shown.now.holder []) }
 {
-    match shown.holder() {
-        Some(_) => {
-            let var = shown.vars().len() as u64;
-            Ok(List::from_vec(vec![in alloc; Pair { var, val: 0 }]?))
-        }
-        None => shown.new_pairs(alloc, task.goal()),
+    let mut state = new_state(alloc, shown, task)?;
+    add_start(&mut state, shown.holder())?;
+    Ok(List::from_vec(state))
+}
+
+fn add_group(
+    alloc: Global,
+    shown: &Chosen,
+    groups: &mut Vec<Group>,
+    group: &Group,
+) -> Result<(), AllocError>
+    ensures { OnOk result (let new = choice.new_group (chosen shown.now) group.now in groups.new.items ≡ groups.old.items ++ (if nat_lt 1 (length new.facts) then new ∷ [] else [])) }
+{
+    let facts = shown.new_facts(alloc, group.facts.as_slice())?;
+    if facts.len() > 1 {
+        groups.push(Group {
+            facts: List::from_vec(facts),
+        })?;
     }
+    Ok(())
+}
+
+/// What is left of the groups that have two facts left.
+fn groups_left(alloc: Global, shown: &Chosen, task: &SasTask) -> Result<Vec<Group>, AllocError>
+    ensures { IfOk result (λ groups. groups.items ≡ restriction.new_groups (chosen shown.now) task.now) }
+{
+    let mut groups = Vec::new(alloc);
+    for i in 0..task.groups() {
+        add_group(alloc, shown, &mut groups, task.group(i))?;
+    }
+    Ok(groups)
+}
+
+/// Whether some effect of the operator stays.
+fn is_busy(shown: &Chosen, operator: &Operator) -> bool
+    ensures { result ≡ choice.is_busy (chosen shown.now) operator.now }
+{
+    let effects = operator.effects.as_slice();
+    effects.iter().any(|effect| shown.keeps_effect(effect))
+}
+
+/// For each operator whether some effect of it stays.
+pub fn busy_marks(alloc: Global, shown: &Chosen, task: &SasTask) -> Result<Vec<bool>, AllocError>
+    ensures { IfOk result (λ marks. marks.items ≡ map (choice.is_busy (chosen shown.now)) task.now.operators) }
+{
+    let mut marks = Vec::new(alloc);
+    for i in 0..task.operators() {
+        marks.push(is_busy(shown, task.operator(i)))?;
+    }
+    Ok(marks)
 }
 
 /// What a restriction has beside its operators.
@@ -129,30 +153,6 @@ impl Beside {
     }
 }
 
-/// The variables that are shown, and the holder's.
-fn all_variables(
-    alloc: Global,
-    shown: &Chosen,
-    task: &SasTask,
-) -> Result<List<Variable>, AllocError>
-    requires { All (λ v. v < length task.now.variables) shown.now.vars }
-    ensures { IfOk result (λ all. all ≡ map (choice.new_variable (chosen shown.now) task.now) shown.now.vars ++ option_map_or (λ start. choice.holder_variable ∷ []) shown.now.holder []) }
-{
-    let mut all = new_variables(alloc, shown, task)?;
-    add_holder(alloc, &mut all, shown.holder())?;
-    Ok(List::from_vec(all))
-}
-
-/// The values at the start, and the holder's.
-fn whole_state(alloc: Global, shown: &Chosen, task: &SasTask) -> Result<List<u64>, AllocError>
-    requires { All (λ v. v < length task.now.variables) shown.now.vars }
-    ensures { IfOk result (λ state. state ≡ map (λ var. choice.new_val (chosen shown.now) var (slice_index task.now.state var)) shown.now.vars ++ option_map_or (λ start. start ∷ []) shown.now.holder []) }
-{
-    let mut state = new_state(alloc, shown, task)?;
-    add_start(&mut state, shown.holder())?;
-    Ok(List::from_vec(state))
-}
-
 /// What the restriction has beside its operators.
 fn beside_operators(
     alloc: Global,
@@ -180,32 +180,9 @@ fn beside_operators(
     })
 }
 
-/// What is left of the operators that stay, in order. The marks tell which operators are left.
-fn whole_operators(
-    alloc: Global,
-    once: Once,
-    shown: &Chosen,
-    marks: &[bool],
-    old: List<Operator>,
-) -> Result<List<Operator>, AllocError>
-    requires { length marks.now ≡ length old }
-    ensures { IfOk result (λ operators. (leaves : AnOperator → Bool) → marks.now ≡ map leaves old →
-        operators ≡ arranged once.operators operator_cmp (map (restriction.new_operator once (with_operators shown.now leaves)) (filter (choice.operator_stays (with_operators shown.now leaves)) old))) }
-{
-    let operators = operators_left(alloc, once, shown, marks, old.into_vec())?;
-    Ok(List::from_vec(arrange(once.operators, operators)?))
-}
-
-/// Every task is valid. This does nothing: its clause says so.
-pub fn is_valid(task: &SasTask)
-    ensures { IsValid task.now }
-{
-    task.metric();
-}
-
 /// The restriction of the task to these variables, values and operators, with all lists in order. The marks tell which
-/// operators are left; the lists of those are handed on. `laws::restriction_keeps` says when the restriction may stand
-/// for the task. Where memory is wanting, the task is dropped.
+/// operators are left; the lists of those are handed on. `sas_restriction::laws::restriction_keeps` says when the
+/// restriction may stand for the task. Where memory is wanting, the task is dropped.
 pub fn into_restriction(
     alloc: Global,
     once: Once,

@@ -7,10 +7,10 @@ use Rattle.sas_orders.specs.InOrder.{arranged}
 use Rattle.sas_restriction.specs.Listed.{with_operators}
 use Rattle.sas_restriction.specs.Choice.{operator_stays}
 use Rattle.sas_restriction.specs.Restriction.{new_operator, restriction}
-use Rattle.sas_restriction.proofs.Assembled.{joined}
+use Rattle.restricted_task.proofs.Joined.{joined}
 use Rattle.sas_restriction.proofs.Valid.{restriction_valid}
 use Rattle.sas_restriction.proofs.Arranged.{restricts}
-use Rattle.sas_restriction.proofs.whole.into_restriction.Goals as goal
+use Rattle.restricted_task.proofs.whole.into_restriction.Goals as goal
 
 pub beside_operators-requires : goal.beside_operators-requires
 beside_operators-requires c = c.requires.marks.2.inside

@@ -4,7 +4,7 @@ use Rattle.sas_task.specs.Task.{Task}
 use Rattle.sas_restriction.specs.Listed.{with_operators}
 use Rattle.sas_restriction.specs.Choice.{IsChoice}
 use Rattle.sas_restriction.specs.Restriction.{restriction}
-use Rattle.sas_restriction.proofs.whole.restrict.Goals as goal
+use Rattle.restricted_task.proofs.whole.restrict.Goals as goal
 
 pub into_restriction-requires : goal.into_restriction-requires
 into_restriction-requires c =

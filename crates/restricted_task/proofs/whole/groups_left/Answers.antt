@@ -4,7 +4,7 @@ use Rattle.lists.proofs.LoopSteps.{take_got}
 use Rattle.sas_restriction.proofs.Pieces.{made_piece, made_pieces, piece_more, piece_all}
 use Rattle.sas_restriction.specs.Listed.{chosen}
 use Rattle.sas_restriction.specs.Choice.{new_group}
-use Rattle.sas_restriction.proofs.parts.groups_left.Goals as goal
+use Rattle.restricted_task.proofs.whole.groups_left.Goals as goal
 
 pub loop-i-preserved : goal.loop-i-preserved
 loop-i-preserved c =
