@@ -1,8 +1,6 @@
 -- laws, which other crates may cite
 pub mod SolutionCosts
 -- lemmas of this crate
-mod Slices
-mod Cuts
 mod CostTables
 mod Turns
 mod Ends

@@ -4,9 +4,9 @@ use Rattle.std.specs.List.{enumerate_from, filter_map, sum_by}
 use Rattle.std.specs.Option.{option_map}
 use Rattle.names.specs.Names.{Name, is_same}
 use Rattle.sas_task.specs.declared.parts.Operator.{Operator}
-use Rattle.plan_backmap.specs.Lines.{is_comment, is_step, words, name}
-use Rattle.plan_backmap.specs.declared.plan.Step.{Step}
-use Rattle.plan_backmap.specs.declared.plan.Mapped.{Mapped}
+use Rattle.plan_lines.specs.Lines.{is_comment, is_step, words, name}
+use Rattle.plan_lines.specs.declared.plan.Step.{Step}
+use Rattle.plan_lines.specs.declared.plan.Mapped.{Mapped}
 use Rattle.plan_backmap.specs.declared.plan.MapEnd.{MapEnd}
 use Rattle.plan_backmap.specs.declared.plan.MapEnd.TheVariants.{BadLine, UnknownStep, NoMemory}
 

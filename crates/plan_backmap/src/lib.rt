@@ -3,12 +3,9 @@
 
 mod costs;
 mod laws;
-mod lines;
 mod mapping;
 mod plan;
-mod text;
 
 pub use laws::{solutions_cost_the_total, worked_lines, worked_plans};
 pub use mapping::map_plan;
-pub use plan::{MapEnd, Mapped, Step};
-pub use text::plan_text;
+pub use plan::MapEnd;

@@ -1,24 +1,9 @@
-//! What a plan file comes to.
+//! Why a plan file comes to nothing.
 
 ghost use Rattle.std.specs.Prelude.{◌≡◌};
 ghost use Rattle.plan_backmap.specs.declared.plan.MapEnd.TheVariants.{NoMemory};
 
-use lists::{List, Text};
 use std::alloc::{AllocError, AllocFailed};
-
-/// A step of a plan: the operator's name and its objects, lowered, and what it costs.
-#[derive(Drop)]
-pub struct Step {
-    pub words: List<Text>,
-    pub cost: u64,
-}
-
-/// The steps of a plan, and what they cost together.
-#[derive(Drop)]
-pub struct Mapped {
-    pub steps: List<Step>,
-    pub total: u64,
-}
 
 /// Why a plan file isn't mapped. Lines are counted from 1.
 #[derive(Clone, Copy, PartialEq, Eq)]

@@ -4,10 +4,10 @@ use Rattle.std.specs.Prelude.{Bool, Contains}
 use Rattle.std.specs.declared.option.Option.{Option}
 use Rattle.std.specs.declared.option.Option.TheVariants.{Some, None}
 use Rattle.tl_device.specs.Contents.{Contents}
-use Rattle.plan_backmap.specs.Lines.{plan_lines}
+use Rattle.plan_lines.specs.Lines.{plan_lines}
 use Rattle.plan_backmap.specs.Plans.{faults, mapped, IsFirst, IfFault}
-use Rattle.plan_backmap.specs.PlanText.{plan_text}
-use Rattle.plan_backmap.specs.declared.plan.Mapped.{Mapped}
+use Rattle.plan_lines.specs.PlanText.{plan_text}
+use Rattle.plan_lines.specs.declared.plan.Mapped.{Mapped}
 use Rattle.plan_backmap.specs.declared.plan.MapEnd.{MapEnd}
 use Rattle.plan_backmap.specs.declared.plan.MapEnd.TheVariants as map_ends
 use Rattle.sas_task.specs.Task.{Task}

@@ -1,7 +1,7 @@
 //! A plan file, mapped back to the task.
 
 ghost use Rattle.std.specs.Prelude.{◌≡◌, ◌≤◌, [], IfOk, IfErr, OnOk, length};
-ghost use Rattle.plan_backmap.specs.Lines.{plan_lines};
+ghost use Rattle.plan_lines.specs.Lines.{plan_lines};
 ghost use Rattle.plan_backmap.specs.Plans.{faults, mapped as mapped_to};
 ghost use Rattle.translator.specs.Ending.{Gives};
 ghost use Rattle.translator.specs.Plan as plans;
@@ -9,7 +9,8 @@ ghost use Rattle.translator.specs.Stages.{StopsWhere, text_by};
 
 use crate::translation::Input;
 use messages::{End, Message};
-use plan_backmap::{MapEnd, Mapped, map_plan, plan_text};
+use plan_backmap::{MapEnd, map_plan};
+use plan_lines::{Mapped, plan_text};
 use sas_task::SasTask;
 use std::alloc::Global;
 

@@ -3,8 +3,7 @@ use Rattle.std.proofs.lemmas.List.Elements.{All-cons}
 use Rattle.sas_task.specs.declared.parts.Operator.{Operator}
 use Rattle.plan_backmap.specs.Plans.{cost_of}
 use Rattle.plan_backmap.specs.Costs.{AreSmall}
-use Rattle.plan_backmap.proofs.Slices.{drop_got}
-use Rattle.plan_backmap.proofs.CostTables.{costs_more}
+use Rattle.plan_backmap.proofs.CostTables.{drop_got, costs_more}
 use Rattle.plan_backmap.proofs.costs.cost_table.Goals as goal
 
 pub loop-left-preserved : goal.loop-left-preserved

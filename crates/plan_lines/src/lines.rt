@@ -3,8 +3,8 @@
 ghost use Rattle.std.specs.Prelude.{◌≡◌, ◌≤◌, ◌||◌, ◌++◌, ◌∷◌, length, map, flat_map, IsTrue, IfOk, OnOk};
 ghost use Rattle.std.specs.List.{list_any, list_all, prefix_len, suffix_len};
 ghost use Rattle.pddl_lexer.specs.Text.{is_word_byte, lowered};
-ghost use Rattle.plan_backmap.specs.FirstLine as cut;
-ghost use Rattle.plan_backmap.specs.Lines as spec;
+ghost use Rattle.plan_lines.specs.FirstLine as cut;
+ghost use Rattle.plan_lines.specs.Lines as spec;
 
 use lists::{List, Text};
 use std::alloc::{AllocError, Global};
@@ -18,14 +18,14 @@ fn line_len(text: &[u8]) -> usize
 }
 
 /// The first line of a text.
-pub(crate) fn first_line(text: &[u8]) -> &[u8]
+pub fn first_line(text: &[u8]) -> &[u8]
     ensures { result.now ≡ cut.first_line text.now }
 {
     &text[..line_len(text)]
 }
 
 /// What follows the first line of a text and its line feed.
-pub(crate) fn after_line(text: &[u8]) -> &[u8]
+pub fn after_line(text: &[u8]) -> &[u8]
     ensures { result.now ≡ cut.after_line text.now }
 {
     match &text[line_len(text)..] {
@@ -87,14 +87,14 @@ fn without_end(line: &[u8]) -> &[u8]
 }
 
 /// The line without the spaces, tabs and carriage returns at both ends.
-pub(crate) fn trimmed(line: &[u8]) -> &[u8]
+pub fn trimmed(line: &[u8]) -> &[u8]
     ensures { result.now ≡ spec.trimmed line.now }
 {
     without_end(without_start(line))
 }
 
 /// Whether the trimmed line is a comment.
-pub(crate) fn is_comment(text: &[u8]) -> bool
+pub fn is_comment(text: &[u8]) -> bool
     ensures { result ≡ spec.is_comment text.now }
 {
     match text {
@@ -110,7 +110,7 @@ fn is_enclosed(text: &[u8]) -> bool
 }
 
 /// What stands between the parentheses of a step.
-pub(crate) fn inside(text: &[u8]) -> &[u8]
+pub fn inside(text: &[u8]) -> &[u8]
     requires { IsTrue (spec.is_enclosed text.now) }
     ensures { result.now ≡ spec.inside text.now }
 {
@@ -137,7 +137,7 @@ fn are_words(text: &[u8]) -> bool
 }
 
 /// Whether the trimmed line is a step.
-pub(crate) fn is_step(line: &[u8]) -> bool
+pub fn is_step(line: &[u8]) -> bool
     ensures step { result ≡ spec.is_step line.now }
     ensures enclosed { IsTrue result → IsTrue (spec.is_enclosed line.now) }
 {
@@ -170,7 +170,7 @@ fn lowered_words(alloc: Global, written: &[&[u8]]) -> Result<List<Text>, AllocEr
 }
 
 /// The words of a step, lowered.
-pub(crate) fn words(alloc: Global, text: &[u8]) -> Result<List<Text>, AllocError>
+pub fn words(alloc: Global, text: &[u8]) -> Result<List<Text>, AllocError>
     ensures { IfOk result (λ words. words ≡ map lowered (spec.words_inside text.now)) }
 {
     let written = words_inside(alloc, text)?;
@@ -189,7 +189,7 @@ fn add_words(name: &mut Vec<u8>, words: &[Text]) -> Result<(), AllocError>
 }
 
 /// The name that the words make: they are joined by single spaces.
-pub(crate) fn name(alloc: Global, words: &[Text]) -> Result<Vec<u8>, AllocError>
+pub fn name(alloc: Global, words: &[Text]) -> Result<Vec<u8>, AllocError>
     ensures { IfOk result (λ name. name.items ≡ spec.name words.now) }
 {
     let mut name = Vec::new(alloc);

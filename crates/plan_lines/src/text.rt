@@ -1,7 +1,7 @@
 //! The lines of a plan that is mapped back.
 
 ghost use Rattle.std.specs.Prelude.{◌≡◌, ◌++◌, IfOk, OnOk};
-ghost use Rattle.plan_backmap.specs.PlanText as spec;
+ghost use Rattle.plan_lines.specs.PlanText as spec;
 
 use crate::lines::name;
 use crate::plan::{Mapped, Step};

@@ -2,9 +2,9 @@
 use Rattle.std.specs.Prelude.{ℕ, Bool, List, ◌++◌, codes, if◌then◌else◌}
 use Rattle.std.specs.Fmt.{decimal}
 use Rattle.std.specs.List.{flat_map}
-use Rattle.plan_backmap.specs.Lines.{name}
-use Rattle.plan_backmap.specs.declared.plan.Step.{Step}
-use Rattle.plan_backmap.specs.declared.plan.Mapped.{Mapped}
+use Rattle.plan_lines.specs.Lines.{name}
+use Rattle.plan_lines.specs.declared.plan.Step.{Step}
+use Rattle.plan_lines.specs.declared.plan.Mapped.{Mapped}
 
 -- a step's words, with single spaces between them, in parentheses
 abbrev pub step_line : Step → List ℕ

@@ -1,11 +1,15 @@
 -- How a text is cut at its first line feed.
-use Rattle.std.proofs.Common.{◌≡◌, ℕ, suc, ◌+◌, ◌<◌, ◌≤◌, length, Bool, true, false, cond, not, List, [], ◌∷◌, map, take, drop, refl, ap, ◌∙◌, arith}
+use Rattle.std.proofs.Common.{◌≡◌, ℕ, suc, ◌+◌, ◌-◌, ◌<◌, ◌≤◌, length, Bool, true, false, cond, not, List, [], ◌∷◌, map, take, drop, refl, ap, ◌∙◌, arith}
 use Rattle.std.specs.Prelude.{◌==◌, if◌then◌else◌}
 use Rattle.std.specs.List.{prefix_len, onto_first}
-use Rattle.std.proofs.lemmas.List.{length-drop}
+use Rattle.std.proofs.lemmas.List.{take_all, length-drop}
 use Rattle.pddl_lexer.specs.Text.{line_feed}
-use Rattle.plan_backmap.specs.Lines.{lines, plan_lines, trimmed}
-use Rattle.plan_backmap.specs.FirstLine.{is_no_feed, first_line, after_line}
+use Rattle.plan_lines.specs.Lines.{lines, plan_lines, trimmed}
+use Rattle.plan_lines.specs.FirstLine.{is_no_feed, first_line, after_line}
+
+-- what is left from a place on
+pub rest_from : (xs : List ℕ) (k m : ℕ) → k ≡ m → take (length xs - k) (drop k xs) ≡ drop m xs
+rest_from xs k m e = take_all (length xs - k) (drop k xs) (omega (arith, length-drop k xs)) ∙ ap (λ n. drop n xs) e
 
 -- the first line, and the lines of what follows it
 pub first_and_lines : (b : ℕ) (text : List ℕ) → lines (b ∷ text) ≡ first_line (b ∷ text) ∷ lines (after_line (b ∷ text))

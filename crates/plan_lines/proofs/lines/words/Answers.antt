@@ -2,7 +2,7 @@ use Rattle.std.proofs.Common.{◌≡◌, map, sym, ap, ◌∙◌, subst}
 use Rattle.std.specs.Prelude.{IfOk}
 use Rattle.std.proofs.lemmas.Simd.{map-map}
 use Rattle.pddl_lexer.specs.Text.{lowered}
-use Rattle.plan_backmap.proofs.lines.words.Goals as goal
+use Rattle.plan_lines.proofs.lines.words.Goals as goal
 
 pub returns : goal.returns
 returns c =

@@ -1,7 +1,7 @@
 use Rattle.std.proofs.Common.{rules, tests}
 use Rattle.std.proofs.lemmas.Iterator.Consumers.{map_from_collect, YieldsList-from_filter, YieldsList-at}
 use Rattle.std.proofs.lemmas.Iterator.Splits.{YieldsList-from_slice_split}
-use Rattle.plan_backmap.proofs.lines.words_inside.Goals as goal
+use Rattle.plan_lines.proofs.lines.words_inside.Goals as goal
 
 pub returns : goal.returns
 returns c =

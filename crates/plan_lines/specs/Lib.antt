@@ -1,0 +1,3 @@
+pub mod Lines
+pub mod FirstLine
+pub mod PlanText
