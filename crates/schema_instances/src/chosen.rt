@@ -14,7 +14,8 @@ use crate::matching::matches;
 use crate::partial::Room;
 use lists::List;
 use normal_task::Schema;
-use static_matcher::{GroundAction, Tables, condition, cost, shown_objects};
+use settled_literals::{Tables, condition, cost, shown_objects};
+use static_matcher::GroundAction;
 use std::alloc::{AllocError, Global};
 
 /// A schema with an object for each parameter, of which an instance may be made.

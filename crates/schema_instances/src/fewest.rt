@@ -8,7 +8,7 @@ ghost use Rattle.schema_instances.specs.Partial.{Completes, IsNamed};
 use crate::matching::are_within;
 use crate::partial::{Scope, are_known, known};
 use normal_task::{Literal, Place};
-use static_matcher::Tables;
+use settled_literals::Tables;
 
 /// The places of a literal, and the numbers of initial atoms among which each match has one.
 #[derive(Clone, Copy)]

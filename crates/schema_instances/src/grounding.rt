@@ -15,9 +15,8 @@ use crate::partial::Room;
 use atom_objects::Objects;
 use lists::{List, Text};
 use normal_task::{AxiomRow, EffectRow, GroundAtom};
-use static_matcher::{
-    GroundAction, GroundAxiom, GroundEffect, Tables, all_can_hold, atom, condition, shown_objects,
-};
+use settled_literals::{Tables, all_can_hold, condition, shown_objects};
+use static_matcher::{GroundAction, GroundAxiom, GroundEffect, atom};
 use std::alloc::{AllocError, Global};
 
 // ---- effects

@@ -13,7 +13,7 @@ ghost use Rattle.schema_instances.specs.Partial.{AreRising};
 use crate::partial::{Room, Scope};
 use lists::List;
 use normal_task::{Literal, ObjectRange, Place};
-use static_matcher::Tables;
+use settled_literals::Tables;
 use std::alloc::{AllocError, Global};
 
 /// Whether the place is an object, or a variable below the bound.

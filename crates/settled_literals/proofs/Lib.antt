@@ -1,0 +1,2 @@
+mod TableKeys
+mod Indexed
