@@ -1,9 +1,10 @@
 -- Tables whose keys are atoms, beside the atoms themselves.
-use Rattle.std.proofs.Common.{◌≡◌, ℕ, ◌+◌, ◌≤◌, Bool, true, false, not, cond, inl, inr, List, [], ◌∷◌, ◌++◌, Some, None, map, take, length, nat_lt, get_or, refl, sym, ap, ◌∙◌, arith}
+use Rattle.std.proofs.Common.{◌≡◌, ℕ, suc, ◌+◌, ◌≤◌, Bool, true, false, not, ◌||◌, cond, inl, inr, List, [], ◌∷◌, ◌++◌, Some, None, map, take, length, nat_lt, get_or, refl, sym, ap, ◌∙◌, arith}
+use Rattle.std.specs.Cmp.{both_ways}
 use Rattle.std.specs.List.{list_any, position, position_or_len}
 use Rattle.std.specs.List.Sorted.{IsSorted}
 use Rattle.std.specs.Ordering.{is_lt}
-use Rattle.std.proofs.lemmas.Bool.{cases_Bool, ltb-false}
+use Rattle.std.proofs.lemmas.Bool.{cases_Bool, ltb-true, ltb-false, lt-ltb}
 use Rattle.std.proofs.lemmas.Option.{none-some, same_Some}
 use Rattle.std.proofs.lemmas.List.Sums.{prefix_len-le-length}
 use Rattle.std.proofs.lemmas.List.{map_push, length-map, get_or-map, take_all}
@@ -14,7 +15,27 @@ use Rattle.normal_task.specs.Meaning.{is_same_atom}
 use Rattle.relaxed_reach.specs.AtomKeys.{Key, atom_of}
 use Rattle.relaxed_reach.specs.Reachable.{is_among, number_of, fact_cmp}
 use Rattle.relaxed_reach.specs.Rules.{added}
-use Rattle.relaxed_reach.proofs.Keeping.{position_is}
+
+-- an item is found before the end where some item passes
+found_within : {X : Type 0} (p : X → Bool) (xs : List X) → nat_lt (position_or_len p xs) (length xs) ≡ list_any p xs
+found_within p [] = refl
+found_within p (x ∷ xs) = elim (cases_Bool (p x)) [
+  | inl is ↦
+      let place : position_or_len p (x ∷ xs) ≡ 0 = ap (λ b. cond (not b) (1 + position_or_len p xs) 0) is in
+      ap (λ n. nat_lt n (suc (length xs))) place ∙ lt-ltb 0 (suc (length xs)) (omega arith) ∙ sym (ap (λ b. b || list_any p xs) is)
+  | inr out ↦
+      let place : position_or_len p (x ∷ xs) ≡ 1 + position_or_len p xs = ap (λ b. cond (not b) (1 + position_or_len p xs) 0) out in
+      ap (λ n. nat_lt n (suc (length xs))) place ∙ one_less (position_or_len p xs) (length xs) ∙ found_within p xs ∙ sym (ap (λ b. b || list_any p xs) out)
+]
+  where
+    one_less : (a b : ℕ) → nat_lt (1 + a) (suc b) ≡ nat_lt a b
+    one_less a b =
+        both_ways (nat_lt (1 + a) (suc b)) (nat_lt a b)
+        (λ e. let below = ltb-true (1 + a) (suc b) e in lt-ltb a b (omega (arith, below)))
+        (λ e. let below = ltb-true a b e in lt-ltb (1 + a) (suc b) (omega (arith, below)))
+
+pub position_is : (facts : List GroundAtom) (a : GroundAtom) → position (is_same_atom a) facts ≡ cond (is_among facts a) (Some (number_of facts a)) None
+position_is facts a = ap (λ b. cond b (Some (number_of facts a)) None) (found_within (is_same_atom a) facts)
 
 position_or_len-map : (test : GroundAtom → Bool) (keys : List Key) → position_or_len test (map atom_of keys) ≡ position_or_len (λ key. test (atom_of key)) keys
 position_or_len-map test [] = refl

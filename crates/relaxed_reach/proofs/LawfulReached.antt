@@ -4,10 +4,12 @@ use Rattle.std.specs.List.{list_all, slice_get}
 use Rattle.std.specs.Option.{option_map, option_map_or, unwrap_or}
 use Rattle.std.proofs.lemmas.Bool.{and_parts, true≢false, not-true, leb-true, eqb-true}
 use Rattle.std.proofs.lemmas.Option.{slice_get_within, get_or_from_slice_get}
-use Rattle.lists.proofs.Items.{Among, among_contains, among_at, map_source, all_passes}
+use Rattle.lists.proofs.Items.{Among, among_contains, among_at, map_source, all_passes, any_passes}
 use Rattle.normal_task.specs.declared.task.GroundAtom.{GroundAtom}
 use Rattle.normal_task.specs.declared.task.PredicateRow.{PredicateRow}
 use Rattle.normal_task.specs.Lawful.{most, is_word}
+use Rattle.normal_task.specs.Meaning.{is_same_atom}
+use Rattle.normal_task.proofs.OnceEach.{atom_same}
 use Rattle.static_matcher.specs.declared.types.Ground.{Ground}
 use Rattle.static_matcher.specs.declared.types.GroundAction.{GroundAction}
 use Rattle.static_matcher.specs.declared.types.GroundAxiom.{GroundAxiom}
@@ -21,7 +23,6 @@ use Rattle.relaxed_reach.specs.declared.types.Reached.{Reached}
 use Rattle.relaxed_reach.specs.Reachable.{predicate_name, IsClosed, IsReachedTask}
 use Rattle.relaxed_reach.specs.Lawful.{IsLawful}
 use Rattle.relaxed_reach.proofs.LawfulTask.{IsPaid, lawful_if}
-use Rattle.relaxed_reach.proofs.Sets.{from_in}
 use Rattle.relaxed_reach.proofs.ShownNames.{shown_is_name}
 use Rattle.lists.specs.Names.{is_name}
 
@@ -133,4 +134,4 @@ module _ (task : Ground) (lawful : IsLawfulGround task) where
   pub lawful_reached : (reached : Reached) → IsReachedTask task reached → IsLawful reached
   lawful_reached reached is =
       lawful_if task reached is (lawful_ranks task lawful) kinds paid lawful.init_once (λ atom among.
-      shown_is_name task atom lawful.objects (is.reachable.least.least (λ atom. is_word (predicate_name task atom.predicate)) closed atom (from_in is.atoms atom among)))
+      shown_is_name task atom lawful.objects (is.reachable.least.least (λ atom. is_word (predicate_name task atom.predicate)) closed atom (any_passes (is_same_atom atom) atom is.atoms among (atom_same atom))))

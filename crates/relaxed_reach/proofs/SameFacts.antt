@@ -8,7 +8,7 @@ use Rattle.std.proofs.lemmas.Bool.{true≢false}
 use Rattle.lists.proofs.Ordered.{same_ordered, strictly_ordered}
 use Rattle.normal_task.specs.declared.task.GroundAtom.{GroundAtom}
 use Rattle.relaxed_reach.specs.Reachable.{fact_cmp}
-use Rattle.relaxed_reach.proofs.Order.{fact_total}
+use Rattle.relaxed_reach.proofs.OrderedFacts.{fact_total}
 
 not_both : (a b : GroundAtom) → fact_cmp a b ≡ Less → fact_cmp b a ≡ Less → ⊥
 not_both a b less more = let e : Less ≡ Greater = sym less ∙ fact_total.antisymm a b ∙ ap ordering_reverse more in true≢false (ap is_lt e)

@@ -7,8 +7,9 @@ ghost use Rattle.relaxed_reach.specs.Lawful.{IsLawful};
 
 use crate::tasks::normal_task;
 use normal_task::Normal;
+use reachable_facts::reach;
 use reachable_instances::reachable;
-use relaxed_reach::{Reached, Steps, reach};
+use relaxed_reach::{Reached, Steps};
 use schema_instances::instances;
 use static_matcher::Ground;
 use std::alloc::{AllocError, Global};

@@ -16,8 +16,7 @@ use Rattle.relaxed_reach.specs.Examples.{fact, lamp_facts, press, rule, lamp_tas
 use Rattle.relaxed_reach.specs.ReachedTask.{is_derived, axiom_row, atoms_of}
 use Rattle.relaxed_reach.specs.Reachable.{fact_cmp}
 use Rattle.relaxed_reach.specs.Lawful.{NamesFacts, IsLawfulEffect, IsLawfulAction, IsLawfulAxiom, IsLawful}
-use Rattle.relaxed_reach.proofs.Order.{fact_total}
-use Rattle.relaxed_reach.proofs.OrderedFacts.{facts_apart}
+use Rattle.relaxed_reach.proofs.OrderedFacts.{fact_total, facts_apart}
 use Rattle.relaxed_reach.proofs.laws.lawful_examples.Goals as goal
 use Rattle.lists.specs.Names.{is_name}
 

@@ -1,0 +1,11 @@
+mod Order
+mod Sets
+mod GateRows
+mod GateRules
+mod Watched
+mod Missing
+mod Settled
+mod Turns
+mod Found
+mod Keeping
+mod KeptTurns
