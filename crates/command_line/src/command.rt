@@ -11,18 +11,20 @@ use std::alloc::{AllocError, Global};
 pub(crate) fn command<'a>(alloc: Global) -> Result<Command<'a>, AllocError>
     ensures { IfOk result (λ c. app_of c ≡ spec.command) }
 {
-    Command::new(alloc, "translate")
-        .arg(Arg::new(alloc, "domain"))?
-        .arg(Arg::new(alloc, "problem"))?
-        .arg(option(alloc, "sas-file"))?
-        .arg(option(alloc, "invariant-generation-max-candidates"))?
-        .arg(option(alloc, "map-plan"))?
-        .arg(option(alloc, "make"))?
-        .arg(option(alloc, "from-sas"))?
-        .arg(option(alloc, "pass"))?
-        .arg(flag(alloc, "keep-unimportant-variables"))?
-        .arg(flag(alloc, "skip-variable-reordering"))?
-        .arg(flag(alloc, "full-encoding"))
+    let args = vec![in alloc;
+        Arg::new(alloc, "domain"),
+        Arg::new(alloc, "problem"),
+        option(alloc, "sas-file"),
+        option(alloc, "invariant-generation-max-candidates"),
+        option(alloc, "map-plan"),
+        option(alloc, "make"),
+        option(alloc, "from-sas"),
+        option(alloc, "pass"),
+        flag(alloc, "keep-unimportant-variables"),
+        flag(alloc, "skip-variable-reordering"),
+        flag(alloc, "full-encoding"),
+    ]?;
+    Command::new(alloc, "translate").args(args)
 }
 
 /// An option with its long name alone, which takes one value.

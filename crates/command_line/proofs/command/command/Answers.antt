@@ -1,18 +1,25 @@
-use Rattle.std.proofs.Common.{◌∙◌, ap₂}
+use Rattle.std.proofs.Common.{◌≡◌, ◌∷◌, [], List, false, fold, map, refl, sym, ap, ap₂, subst, ◌∙◌}
 use Rattle.std.proofs.lemmas.Result.{IfOk-weaker}
-use Rattle.clap.specs.Words.{with_rule}
+use Rattle.clap.specs.Words.{AddsArg, AddsInTurn, app_of, rule_of, with_rule}
+use Rattle.clap.specs.declared.builder.arg.Arg.{Arg}
+use Rattle.clap.specs.declared.builder.command.Command.{Command}
 use Rattle.command_line.proofs.command.command.Goals as goal
+
+-- each argument stands for itself alone
+abbrev AreOwn : List Arg → Type 0
+AreOwn [] = false ≡ false
+AreOwn (arg ∷ args) = (arg.global ≡ false) × AreOwn args
+
+added : (old new : Command) (args : List Arg) → AreOwn args → AddsInTurn AddsArg old args new → app_of new ≡ fold with_rule (app_of old) (map rule_of args)
+added old new [] own adds = ap app_of (sym adds)
+added old new (arg ∷ args) own adds = added adds.0 new args own.1 adds.2 ∙ ap (λ app. fold with_rule app (map rule_of args)) (adds.1.shape own.0)
 
 pub returns : goal.returns
 returns c =
-    let one = c.in_ok-arg.ensures.shape c.new-2.ensures.optional.1 ∙ ap₂ with_rule c.new.ensures.app c.new-2.ensures.rule in
-    let two = c.in_ok-arg-2.ensures.shape c.new-3.ensures.optional.1 ∙ ap₂ with_rule one c.new-3.ensures.rule in
-    let three = c.in_ok-arg-3.ensures.shape c.option.ensures.own ∙ ap₂ with_rule two c.option.ensures.rule in
-    let four = c.in_ok-arg-4.ensures.shape c.option-2.ensures.own ∙ ap₂ with_rule three c.option-2.ensures.rule in
-    let five = c.in_ok-arg-5.ensures.shape c.option-3.ensures.own ∙ ap₂ with_rule four c.option-3.ensures.rule in
-    let six = c.in_ok-arg-6.ensures.shape c.option-4.ensures.own ∙ ap₂ with_rule five c.option-4.ensures.rule in
-    let seven = c.in_ok-arg-7.ensures.shape c.option-5.ensures.own ∙ ap₂ with_rule six c.option-5.ensures.rule in
-    let eight = c.in_ok-arg-8.ensures.shape c.option-6.ensures.own ∙ ap₂ with_rule seven c.option-6.ensures.rule in
-    let nine = c.in_ok-arg-9.ensures.shape c.flag.ensures.own ∙ ap₂ with_rule eight c.flag.ensures.rule in
-    let ten = c.in_ok-arg-10.ensures.shape c.flag-2.ensures.own ∙ ap₂ with_rule nine c.flag-2.ensures.rule in
-    IfOk-weaker c.arg-11.result _ _ (λ r added. added.shape c.flag-3.ensures.own ∙ ap₂ with_rule ten c.flag-3.ensures.rule) c.arg-11.ensures
+    let args : List Arg = c.new.result ∷ c.new-2.result ∷ c.option.result ∷ c.option-2.result ∷ c.option-3.result ∷ c.option-4.result ∷ c.option-5.result ∷ c.option-6.result ∷ c.flag.result ∷ c.flag-2.result ∷ c.flag-3.result ∷ [] in
+    let own : AreOwn args =
+    (c.new.ensures.optional.1, (c.new-2.ensures.optional.1, (c.option.ensures.own, (c.option-2.ensures.own, (c.option-3.ensures.own, (c.option-4.ensures.own, (c.option-5.ensures.own, (c.option-6.ensures.own, (c.flag.ensures.own, (c.flag-2.ensures.own, (c.flag-3.ensures.own, refl))))))))))) in
+    let rules = ap₂ ◌∷◌ c.new.ensures.rule (ap₂ ◌∷◌ c.new-2.ensures.rule (ap₂ ◌∷◌ c.option.ensures.rule (ap₂ ◌∷◌ c.option-2.ensures.rule (ap₂ ◌∷◌ c.option-3.ensures.rule (ap₂ ◌∷◌ c.option-4.ensures.rule (ap₂ ◌∷◌ c.option-5.ensures.rule (ap₂ ◌∷◌ c.option-6.ensures.rule (ap₂ ◌∷◌ c.flag.ensures.rule (ap₂ ◌∷◌ c.flag-2.ensures.rule (ap (λ rule. rule ∷ []) c.flag-3.ensures.rule)))))))))) in
+    IfOk-weaker c.args-2.result _ _
+    (λ new adds. added c.new-3.result new args own (subst (λ args. AddsInTurn AddsArg c.new-3.result args new) c.in_ok-args.ensures.items adds) ∙ ap₂ (fold with_rule) c.new-3.ensures.app rules)
+    c.args-2.ensures
