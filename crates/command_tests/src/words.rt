@@ -122,37 +122,59 @@ static REFUSED: [&str; 70] = [
     "translate --from t",
 ];
 
-/// The fronts of two lines that a number ends.
-static BEFORE_A_NUMBER: [&str; 2] = [
-    "translate d p --invariant-generation-max-candidates ",
-    "translate d p --invariant-generation-max-candidates=",
-];
+/// Two lines for each number: one in which it is a word of its own, and one in which it ends the word of its option.
+macro_rules! refused_numbers {
+    (candidates $($number:literal)* balls $($balls:literal)*) => {
+        [
+            $(concat!("translate d p --invariant-generation-max-candidates ", $number),)*
+            $(concat!("translate d p --invariant-generation-max-candidates=", $number),)*
+            $(concat!("translate --make ", $balls),)*
+            $(concat!("translate --make=", $balls),)*
+        ]
+    };
+}
 
-/// Numbers of candidates that are refused.
-static REFUSED_NUMBERS: [&str; 7] = [
-    "2147483648",
-    "4294967296",
-    "18446744073709551616",
-    "-1",
-    "+5",
-    "0x5",
-    "1_000",
-];
+/// Lines with numbers that are refused.
+static REFUSED_NUMBERS: [&str; 32] = refused_numbers! {
+    candidates "2147483648" "4294967296" "18446744073709551616" "-1" "+5" "0x5" "1_000"
+    balls "0" "00" "201" "4x" "-1" "+4" "4.0" "4294967297" "18446744073709551617"
+};
 
-/// Lines that are accepted, with the names of the domain, the problem and the output that they ask for.
-static ACCEPTED: [(&str, &str, &str, &str); 20] = [
+/// A line that is accepted, and what it asks for.
+type Row = (&'static str, Accepted<'static>);
+
+/// The same for numbers that are accepted.
+macro_rules! accepted_numbers {
+    (candidates $(($number:literal, $max_candidates:literal))* balls $(($digits:literal, $balls:literal))*) => {
+        [
+            $((concat!("translate d p --invariant-generation-max-candidates ", $number), Accepted { settings: Settings { max_candidates: $max_candidates, full_encoding: false }, ..PLAIN }),)*
+            $((concat!("translate d p --invariant-generation-max-candidates=", $number), Accepted { settings: Settings { max_candidates: $max_candidates, full_encoding: false }, ..PLAIN }),)*
+            $((concat!("translate --make ", $digits), Accepted { source: Source::Made { balls: $balls }, ..PLAIN }),)*
+            $((concat!("translate --make=", $digits), Accepted { source: Source::Made { balls: $balls }, ..PLAIN }),)*
+        ]
+    };
+}
+
+static ACCEPTED_NUMBERS: [Row; 16] = accepted_numbers! {
+    candidates ("0", 0) ("007", 7) ("2147483647", 2_147_483_647) ("00000000000000000000009", 9)
+    balls ("1", 1) ("4", 4) ("0004", 4) ("200", 200)
+};
+
+/// Lines with the names of the domain, the problem and the output that they ask for.
+macro_rules! accepted_files {
+    ($(($line:literal, $domain:literal, $problem:literal, $output:literal),)*) => {
+        [$(($line, Accepted { source: Source::Files { domain: $domain, problem: $problem }, output: $output, ..PLAIN }),)*]
+    };
+}
+
+static ACCEPTED: [Row; 20] = accepted_files! {
     ("translate d p", "d", "p", "output.sas"),
     ("'' d p", "d", "p", "output.sas"),
     ("--help d p", "d", "p", "output.sas"),
     ("translate '' ''", "", "", "output.sas"),
     ("translate - p", "-", "p", "output.sas"),
     ("translate help p", "help", "p", "output.sas"),
-    (
-        "translate -- -d --sas-file",
-        "-d",
-        "--sas-file",
-        "output.sas",
-    ),
+    ("translate -- -d --sas-file", "-d", "--sas-file", "output.sas"),
     ("translate -- -- p", "--", "p", "output.sas"),
     ("translate d p --", "d", "p", "output.sas"),
     ("translate d p --sas-file o", "d", "p", "o"),
@@ -165,49 +187,18 @@ static ACCEPTED: [(&str, &str, &str, &str); 20] = [
     ("translate d p --sas-file -", "d", "p", "-"),
     ("translate d p --sas-file=-o", "d", "p", "-o"),
     // Flags that change nothing.
-    (
-        "translate d p --keep-unimportant-variables",
-        "d",
-        "p",
-        "output.sas",
-    ),
-    (
-        "translate --skip-variable-reordering d p",
-        "d",
-        "p",
-        "output.sas",
-    ),
-];
+    ("translate d p --keep-unimportant-variables", "d", "p", "output.sas"),
+    ("translate --skip-variable-reordering d p", "d", "p", "output.sas"),
+};
 
-/// Numbers of candidates that are accepted.
-static ACCEPTED_NUMBERS: [(&str, u32); 4] = [
-    ("0", 0),
-    ("007", 7),
-    ("2147483647", 2_147_483_647),
-    ("00000000000000000000009", 9),
-];
+/// Lines with a plan file or a list of passes, with the name of the file and the list as it is written.
+macro_rules! accepted_named {
+    ($(($line:literal, $plan:expr, $passes:expr),)*) => {
+        [$(($line, Accepted { plan: $plan, passes: $passes, ..PLAIN }),)*]
+    };
+}
 
-/// Numbers of balls that are refused.
-static REFUSED_BALLS: [&str; 9] = [
-    "0",
-    "00",
-    "201",
-    "4x",
-    "-1",
-    "+4",
-    "4.0",
-    "4294967297",
-    "18446744073709551617",
-];
-
-/// The fronts of two lines that a number of balls ends.
-static BEFORE_BALLS: [&str; 2] = ["translate --make ", "translate --make="];
-
-/// Numbers of balls that are accepted.
-static ACCEPTED_BALLS: [(&str, u32); 4] = [("1", 1), ("4", 4), ("0004", 4), ("200", 200)];
-
-/// Lines with a plan file or a list of passes that are accepted, with the name of the file and the list as it is written.
-static ACCEPTED_NAMED: [(&str, Option<&str>, Option<&str>); 12] = [
+static ACCEPTED_NAMED: [Row; 12] = accepted_named! {
     ("translate d p --map-plan f", Some("f"), None),
     ("translate --map-plan f d p", Some("f"), None),
     ("translate d --map-plan=f p", Some("f"), None),
@@ -215,19 +206,15 @@ static ACCEPTED_NAMED: [(&str, Option<&str>, Option<&str>); 12] = [
     ("translate d p --map-plan -", Some("-"), None),
     ("translate d p --map-plan=-f", Some("-f"), None),
     ("translate d p --pass order", None, Some("order")),
-    (
-        "translate --pass order,order d p",
-        None,
-        Some("order,order"),
-    ),
+    ("translate --pass order,order d p", None, Some("order,order")),
     ("translate d --pass=order, p", None, Some("order,")),
     ("translate d p --pass=", None, Some("")),
     ("translate d p --pass ,ORDER", None, Some(",ORDER")),
     ("translate d p --pass none", None, Some("none")),
-];
+};
 
-/// Lines that ask for whole groups, and one with a number of balls and a plan file.
-static ACCEPTED_WHOLE_OR_MADE: [(&str, Accepted<'static>); 5] = [
+/// Lines that ask for whole groups, one with a number of balls and a plan file, and lines with a written task.
+static ACCEPTED_WHOLE_OR_WRITTEN: [Row; 15] = [
     ("translate d p --full-encoding", WHOLE),
     ("translate --full-encoding d p", WHOLE),
     ("translate --full-encoding -- d p", WHOLE),
@@ -246,10 +233,6 @@ static ACCEPTED_WHOLE_OR_MADE: [(&str, Accepted<'static>); 5] = [
             ..PLAIN
         },
     ),
-];
-
-/// Lines with a written task that are accepted.
-static ACCEPTED_TASKS: [(&str, Accepted<'static>); 10] = [
     ("translate --from-sas t", WRITTEN),
     ("translate --from-sas=t", WRITTEN),
     (
@@ -308,136 +291,38 @@ static ACCEPTED_TASKS: [(&str, Accepted<'static>); 10] = [
 ];
 
 #[test]
-fn refuses(rt: HostRuntime) -> Result<(), AllocError> {
-    for line in &REFUSED {
-        assert_reads(&rt, rt.alloc(), line, None)?;
+fn refuses(rt: HostRuntime) {
+    assert_refused(&rt, rt.alloc(), &REFUSED);
+    assert_refused(&rt, rt.alloc(), &REFUSED_NUMBERS);
+}
+
+#[test]
+fn accepts(rt: HostRuntime) {
+    assert_accepted(&rt, rt.alloc(), &ACCEPTED);
+    assert_accepted(&rt, rt.alloc(), &ACCEPTED_NUMBERS);
+    assert_accepted(&rt, rt.alloc(), &ACCEPTED_NAMED);
+    assert_accepted(&rt, rt.alloc(), &ACCEPTED_WHOLE_OR_WRITTEN);
+}
+
+fn assert_refused(rt: &impl Abort, alloc: Global, lines: &[&str]) {
+    for line in lines {
+        assert!(rt; is_read(alloc, line, None), "{line}");
     }
-    Ok(())
 }
 
-#[test]
-fn refuses_numbers(rt: HostRuntime) -> Result<(), AllocError> {
-    assert_refused(&rt, rt.alloc(), &BEFORE_A_NUMBER, &REFUSED_NUMBERS)
-}
-
-#[test]
-fn accepts(rt: HostRuntime) -> Result<(), AllocError> {
-    for row in &ACCEPTED {
-        let (line, domain, problem, output) = *row;
-        let wanted = Accepted {
-            source: Source::Files { domain, problem },
-            output,
-            ..PLAIN
-        };
-        assert_reads(&rt, rt.alloc(), line, Some(wanted))?;
-    }
-    Ok(())
-}
-
-#[test]
-fn accepts_numbers(rt: HostRuntime) -> Result<(), AllocError> {
-    for row in &ACCEPTED_NUMBERS {
-        let mut wanted = PLAIN;
-        wanted.settings.max_candidates = row.1;
-        assert_reads_number(&rt, rt.alloc(), &BEFORE_A_NUMBER, row.0, Some(wanted))?;
-    }
-    Ok(())
-}
-
-#[test]
-fn accepts_balls(rt: HostRuntime) -> Result<(), AllocError> {
-    for row in &ACCEPTED_BALLS {
-        let mut wanted = PLAIN;
-        wanted.source = Source::Made { balls: row.1 };
-        assert_reads_number(&rt, rt.alloc(), &BEFORE_BALLS, row.0, Some(wanted))?;
-    }
-    Ok(())
-}
-
-#[test]
-fn refuses_balls(rt: HostRuntime) -> Result<(), AllocError> {
-    assert_refused(&rt, rt.alloc(), &BEFORE_BALLS, &REFUSED_BALLS)
-}
-
-#[test]
-fn accepts_plans_and_passes(rt: HostRuntime) -> Result<(), AllocError> {
-    for row in &ACCEPTED_NAMED {
-        let (line, plan, passes) = *row;
-        let wanted = Accepted {
-            plan,
-            passes,
-            ..PLAIN
-        };
-        assert_reads(&rt, rt.alloc(), line, Some(wanted))?;
-    }
-    Ok(())
-}
-
-#[test]
-fn accepts_whole_groups_and_a_made_plan(rt: HostRuntime) -> Result<(), AllocError> {
-    assert_read(&rt, rt.alloc(), &ACCEPTED_WHOLE_OR_MADE)
-}
-
-#[test]
-fn accepts_written_tasks(rt: HostRuntime) -> Result<(), AllocError> {
-    assert_read(&rt, rt.alloc(), &ACCEPTED_TASKS)
-}
-
-/// Asserts that each line is read as its row says.
-fn assert_read(
-    rt: &impl Abort,
-    alloc: Global,
-    rows: &[(&str, Accepted<'_>)],
-) -> Result<(), AllocError> {
+fn assert_accepted(rt: &impl Abort, alloc: Global, rows: &[Row]) {
     for row in rows {
-        assert_reads(rt, alloc, row.0, Some(row.1))?;
+        assert!(rt; is_read(alloc, row.0, Some(row.1)), "{}", row.0);
     }
-    Ok(())
 }
 
-/// Asserts that both lines with these fronts and a number are refused, for each of the numbers.
-fn assert_refused(
-    rt: &impl Abort,
-    alloc: Global,
-    fronts: &[&str; 2],
-    numbers: &[&str],
-) -> Result<(), AllocError> {
-    for digits in numbers {
-        assert_reads_number(rt, alloc, fronts, digits, None)?;
-    }
-    Ok(())
+/// Whether the words of the line are read as this.
+fn is_read(alloc: Global, line: &str, wanted: Option<Accepted<'_>>) -> bool {
+    matches!(words_of(alloc, line), Ok(words) if are_read(alloc, &words, wanted))
 }
 
-/// Asserts that both lines with these fronts and this number are read as this.
-fn assert_reads_number(
-    rt: &impl Abort,
-    alloc: Global,
-    fronts: &[&str; 2],
-    digits: &str,
-    wanted: Option<Accepted<'_>>,
-) -> Result<(), AllocError> {
-    for front in fronts {
-        assert_reads(rt, alloc, &joined(alloc, front, digits)?, wanted)?;
-    }
-    Ok(())
-}
-
-/// Asserts that the words of the line are read as this.
-fn assert_reads(
-    rt: &impl Abort,
-    alloc: Global,
-    line: &str,
-    wanted: Option<Accepted<'_>>,
-) -> Result<(), AllocError> {
-    let words = words_of(alloc, line)?;
-    assert!(rt; read_words(alloc, &words)? == wanted, "{line}");
-    Ok(())
-}
-
-fn joined(alloc: Global, front: &str, end: &str) -> Result<String, AllocError> {
-    let mut line = String::from_str(alloc, front)?;
-    line.push_str(end)?;
-    Ok(line)
+fn are_read(alloc: Global, words: &Vec<String>, wanted: Option<Accepted<'_>>) -> bool {
+    matches!(read_words(alloc, words), Ok(read) if read == wanted)
 }
 
 /// The words of a line.
