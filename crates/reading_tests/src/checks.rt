@@ -10,7 +10,8 @@ use pddl_lexer::Kind::{
 };
 use pddl_lexer::{At, Fault};
 use pddl_parser::{Domain, Problem};
-use std::alloc::{AllocError, Global};
+use std::alloc::Global;
+use std::process::Abort;
 use std::test::*;
 use type_checker::{CheckEnd, Side, check};
 
@@ -75,8 +76,24 @@ const ASTRAY: &str = "(define (problem astray) (:domain stray)
 (:init)
 (:goal (at c)))";
 
-// An earlier kind comes first, whichever file has it, and of one kind the domain's faults come first.
-static FILES: &[(&str, &str, Answer)] = &[
+/// The device with these pieces of text behind it, from line 7 on.
+macro_rules! device {
+    ($($piece:literal),*) => {
+        concat!("(define (domain device)
+(:types a - b c - d)
+(:predicates (on) (off) (at ?x) (lit))
+(:functions (price))
+(:derived (lit) (off))
+(:action go :parameters (?x) :precondition (at ?x) :effect (and (on) (not (off))))
+", $($piece,)* ")")
+    };
+}
+
+/// The texts of a domain and of a problem, and what is answered of them.
+type Row = (&'static str, &'static str, Answer);
+
+/// An earlier kind comes first, whichever file has it, and of one kind the domain's faults come first.
+static FILES: &[Row] = &[
     (SWITCH, LAMP, None),
     (STRAY, ASTRAY, Some((Side::Domain, UnknownType, 2, 23))),
     (SWITCH, ASTRAY, Some((Side::Problem, UnknownType, 2, 15))),
@@ -100,238 +117,123 @@ static FILES: &[(&str, &str, Answer)] = &[
         "(define (problem p) (:domain d)\n(:objects b\na) (:init) (:goal ()))",
         Some((Side::Problem, DuplicateName, 3, 1)),
     ),
+    (
+        SWITCH,
+        "(define (problem p) (:domain d) (:init)
+(:goal (and (or (on) (on)) (or (on) (on) (on) (on) (on) (on) (on) (on))(or (on) (on) (on) (on) (on) (on) (on) (on))\
+(or (on) (on) (on) (on) (on) (on) (on) (on))(or (on) (on) (on) (on) (on) (on) (on) (on)))))",
+        Some((Side::Problem, TooManyParts, 2, 8)),
+    ),
 ];
 
-#[test]
-fn first_faults_of_two_files(rt: HostRuntime) {
-    for row in FILES {
-        let is_checked = is_checked(rt.alloc(), row.0, row.1, row.2);
-        assert!(rt; is_checked, "{} {}", row.0, row.1);
-    }
+/// Further sections of the device, and their faults.
+macro_rules! sections {
+    ($(($section:literal, $kind:expr, $line:literal, $column:literal),)*) => {
+        &[$((device!($section), LAMP, Some((Side::Domain, $kind, $line, $column))),)*]
+    };
 }
 
-/// Without its last parenthesis.
-const DEVICE: &str = "(define (domain device)
-(:types a - b c - d)
-(:predicates (on) (off) (at ?x) (lit))
-(:functions (price))
-(:derived (lit) (off))
-(:action go :parameters (?x) :precondition (at ?x) :effect (and (on) (not (off))))";
-
-/// A further section of the device, from line 7 on, and its fault.
-type SectionRow = (&'static str, Kind, u64, u64);
-
-static SECTIONS: &[SectionRow] = &[
+static SECTIONS: &[Row] = sections! {
     ("(:action b :parameters (?y - e))", UnknownType, 7, 30),
     ("(:action go)", DuplicateName, 7, 10),
     ("(:action b :parameters (?x\n?x))", DuplicateName, 8, 1),
     ("(:derived (dim) (on))", UnknownPredicate, 7, 12),
-    (
-        "(:action b :effect (increase (cost) 1))",
-        UnknownFunction,
-        7,
-        31,
-    ),
+    ("(:action b :effect (increase (cost) 1))", UnknownFunction, 7, 31),
     ("(:action b :effect (at))", WrongArity, 7, 21),
-    (
-        "(:action b :effect (increase (total-cost x) 1))",
-        WrongArity,
-        7,
-        31,
-    ),
+    ("(:action b :effect (increase (total-cost x) 1))", WrongArity, 7, 31),
     ("(:action b :precondition\n (at x))", UnknownObject, 8, 6),
     ("(:action b :precondition\n (at ?y))", UnboundVariable, 8, 6),
-    (
-        "(:action b :precondition (exists (?y) (at ?y)) :effect\n (at ?y))",
-        UnboundVariable,
-        8,
-        6,
-    ),
+    ("(:action b :precondition (exists (?y) (at ?y)) :effect\n (at ?y))", UnboundVariable, 8, 6),
     ("(:action b :effect (lit))", DerivedWritten, 7, 21),
     ("(:action b :effect (not (lit)))", DerivedWritten, 7, 26),
     ("(:derived (on)\n(not (on)))", DerivedWritten, 6, 66),
-    (
-        "(:derived (at ?x) (not (lit)))\n(:derived (lit) (exists (?x) (at ?x)))",
-        RecursiveDerived,
-        5,
-        1,
-    ),
+    ("(:derived (at ?x) (not (lit)))\n(:derived (lit) (exists (?x) (at ?x)))", RecursiveDerived, 5, 1),
     ("(:derived (at ?x) (at ?x))", RecursiveDerived, 7, 1),
-    (
-        "(:action b :effect (and (increase (total-cost) 1)\n (increase (total-cost) 1)))",
-        CostForm,
-        8,
-        2,
-    ),
+    ("(:action b :effect (and (increase (total-cost) 1)\n (increase (total-cost) 1)))", CostForm, 8, 2),
     ("(:action b :effect (increase (price) 1))", CostForm, 7, 20),
-    (
-        "(:action b :effect (when (on)\n(increase (total-cost) 1)))",
-        CostForm,
-        8,
-        1,
-    ),
-    (
-        "(:action b :effect (increase (total-cost) (total-cost)))",
-        CostForm,
-        7,
-        20,
-    ),
-];
+    ("(:action b :effect (when (on)\n(increase (total-cost) 1)))", CostForm, 8, 1),
+    ("(:action b :effect (increase (total-cost) (total-cost)))", CostForm, 7, 20),
+};
 
-/// Whether the checker answers so of the device with one more section and this problem.
-fn is_device_checked(
-    alloc: Global,
-    section: &str,
-    problem: &str,
-    expected: Answer,
-) -> Result<bool, AllocError> {
-    let domain = format!(in alloc; "{DEVICE}\n{section})")?;
-    Ok(is_checked(alloc, &domain, problem, expected))
+const DEVICE: &str = device!();
+
+/// The entries of `:init` of a problem of the device, from line 2 on, its goal, and what is answered.
+macro_rules! problems {
+    ($(($init:literal, $goal:literal, $answer:expr),)*) => {
+        &[$((
+            DEVICE,
+            concat!("(define (problem p) (:domain device)\n(:init ", $init, ")\n(:goal ", $goal, "))"),
+            $answer,
+        ),)*]
+    };
 }
 
-fn is_section_checked(alloc: Global, row: &SectionRow) -> Result<bool, AllocError> {
-    let (section, kind, line, column) = *row;
-    let expected = Some((Side::Domain, kind, line, column));
-    is_device_checked(alloc, section, LAMP, expected)
-}
-
-#[test]
-fn faults_of_a_domain(rt: HostRuntime) {
-    for row in SECTIONS {
-        let answer = is_section_checked(rt.alloc(), row);
-        assert!(rt; matches!(answer, Ok(true)), "{}", row.0);
-    }
-}
-
-/// The entries of `:init` of a problem of the device, from line 2 on, its goal, and its fault.
-type ProblemRow = (&'static str, &'static str, Option<(Kind, u64, u64)>);
-
-static PROBLEMS: &[ProblemRow] = &[
-    (
-        "(off)",
-        "(exists (?z - f) (on))",
-        Some((UnknownType, 3, 22)),
-    ),
+static PROBLEMS: &[Row] = problems! {
+    ("(off)", "(exists (?z - f) (on))", Some((Side::Problem, UnknownType, 3, 22))),
     ("(off)", "(forall (?z) (at ?z))", None),
-    ("(up)", "(down)", Some((UnknownPredicate, 2, 9))),
-    ("", "(and (on)\n (down))", Some((UnknownPredicate, 4, 3))),
-    ("(= (cost) 1)", "(on)", Some((UnknownFunction, 2, 12))),
+    ("(up)", "(down)", Some((Side::Problem, UnknownPredicate, 2, 9))),
+    ("", "(and (on)\n (down))", Some((Side::Problem, UnknownPredicate, 4, 3))),
+    ("(= (cost) 1)", "(on)", Some((Side::Problem, UnknownFunction, 2, 12))),
     ("(= (total-cost) 1)", "(on)", None),
-    ("(= (price x) 1)", "(on)", Some((WrongArity, 2, 12))),
-    ("(on x)", "(on)", Some((WrongArity, 2, 9))),
-    ("(at x)", "(= y y)", Some((UnknownObject, 2, 12))),
-    ("", "(= y y)", Some((UnknownObject, 3, 11))),
-    ("", "(at ?z)", Some((UnboundVariable, 3, 12))),
-    ("(lit)", "(on)", Some((DerivedWritten, 2, 9))),
-    ("(not (lit))", "(lit)", Some((DerivedWritten, 2, 14))),
-    (
-        "(on)\n(not (on)) (not (off))",
-        "(on)",
-        Some((InitConflict, 3, 1)),
-    ),
-    (
-        "(= (price) 1)\n(= (price) 1)\n(= (price) 2)",
-        "(on)",
-        Some((ValueConflict, 4, 1)),
-    ),
-];
+    ("(= (price x) 1)", "(on)", Some((Side::Problem, WrongArity, 2, 12))),
+    ("(on x)", "(on)", Some((Side::Problem, WrongArity, 2, 9))),
+    ("(at x)", "(= y y)", Some((Side::Problem, UnknownObject, 2, 12))),
+    ("", "(= y y)", Some((Side::Problem, UnknownObject, 3, 11))),
+    ("", "(at ?z)", Some((Side::Problem, UnboundVariable, 3, 12))),
+    ("(lit)", "(on)", Some((Side::Problem, DerivedWritten, 2, 9))),
+    ("(not (lit))", "(lit)", Some((Side::Problem, DerivedWritten, 2, 14))),
+    ("(on)\n(not (on)) (not (off))", "(on)", Some((Side::Problem, InitConflict, 3, 1))),
+    ("(= (price) 1)\n(= (price) 1)\n(= (price) 2)", "(on)", Some((Side::Problem, ValueConflict, 4, 1))),
+};
 
-fn is_problem_checked(alloc: Global, row: &ProblemRow) -> Result<bool, AllocError> {
-    let (init, goal, fault) = *row;
-    let problem = format!(in alloc;
-        "(define (problem p) (:domain device)\n(:init {init})\n(:goal {goal}))"
-    )?;
-    let expected = fault.map(|(kind, line, column)| (Side::Problem, kind, line, column));
-    is_device_checked(alloc, "", &problem, expected)
+/// What stands in a section of the device before four times eight parts, and after them. Joined they have 4,096 parts, which is
+/// as many as a condition may have.
+macro_rules! parts {
+    ($(($before:literal, $behind:literal, $answer:expr),)*) => {
+        &[$((
+            device!(
+                $before,
+                "(or (on) (on) (on) (on) (on) (on) (on) (on))(or (on) (on) (on) (on) (on) (on) (on) (on))",
+                "(or (on) (on) (on) (on) (on) (on) (on) (on))(or (on) (on) (on) (on) (on) (on) (on) (on))",
+                $behind
+            ),
+            LAMP,
+            $answer,
+        ),)*]
+    };
 }
 
-#[test]
-fn faults_of_a_problem(rt: HostRuntime) {
-    for row in PROBLEMS {
-        let answer = is_problem_checked(rt.alloc(), row);
-        assert!(rt; matches!(answer, Ok(true)), "{} {}", row.0, row.1);
-    }
-}
-
-/// It falls into 8 parts, so that four of them joined have 4,096, which is as many as a condition may have.
-const EIGHT: &str = "(or (on) (on) (on) (on) (on) (on) (on) (on))";
-
-/// What stands in a section of the device before four times eight parts, and after them; and the line and the
-/// column of the condition that has too many.
-type PartsRow = (&'static str, &'static str, Option<(u64, u64)>);
-
-static PARTS: &[PartsRow] = &[
+static PARTS: &[Row] = parts! {
     ("(:action b :precondition (and", "))", None),
-    (
-        "(:action b :precondition\n(and (or (on) (on))",
-        "))",
-        Some((8, 1)),
-    ),
-    (
-        "(:action b :precondition (and (not ()) (or (on) (on))",
-        "))",
-        None,
-    ),
-    (
-        "(:action b :precondition (and (on)\n(exists (?x) (and (or (on) (on))",
-        "))))",
-        Some((7, 26)),
-    ),
+    ("(:action b :precondition\n(and (or (on) (on))", "))", Some((Side::Domain, TooManyParts, 8, 1))),
+    ("(:action b :precondition (and (not ()) (or (on) (on))", "))", None),
+    ("(:action b :precondition (and (on)\n(exists (?x) (and (or (on) (on))", "))))", Some((Side::Domain, TooManyParts, 7, 26))),
     // A quantifier that is replaced is one part, and what replaces it is counted by itself.
-    (
-        "(:action b :precondition (and (or (on) (on)) (not (exists (?x) (and",
-        ")))))",
-        None,
-    ),
-    (
-        "(:action b :precondition (not\n(exists (?x) (and (or (on) (on))",
-        "))))",
-        Some((8, 1)),
-    ),
-    (
-        "(:action b :precondition\n(forall (?x) (not (and (or (on) (on))",
-        "))))",
-        Some((8, 1)),
-    ),
+    ("(:action b :precondition (and (or (on) (on)) (not (exists (?x) (and", ")))))", None),
+    ("(:action b :precondition (not\n(exists (?x) (and (or (on) (on))", "))))", Some((Side::Domain, TooManyParts, 8, 1))),
+    ("(:action b :precondition\n(forall (?x) (not (and (or (on) (on))", "))))", Some((Side::Domain, TooManyParts, 8, 1))),
     // The conditions of a `when` and of those around it are joined, and those of two beside each other aren't.
-    (
-        "(:action b :effect (when (and",
-        ")\n(when (or (on) (on)) (on))))",
-        Some((8, 7)),
-    ),
-    (
-        "(:action b :effect (and (when (or (on) (on)) (on)) (when (and",
-        ") (on))))",
-        None,
-    ),
-    ("(:derived (lit)\n(and (or (on) (on))", "))", Some((8, 1))),
+    ("(:action b :effect (when (and", ")\n(when (or (on) (on)) (on))))", Some((Side::Domain, TooManyParts, 8, 7))),
+    ("(:action b :effect (and (when (or (on) (on)) (on)) (when (and", ") (on))))", None),
+    ("(:derived (lit)\n(and (or (on) (on))", "))", Some((Side::Domain, TooManyParts, 8, 1))),
     ("(:derived (lit) (and", "))", None),
-];
+};
 
-fn are_parts_counted(alloc: Global, row: &PartsRow) -> Result<bool, AllocError> {
-    let (before, after, place) = *row;
-    let section = format!(in alloc; "{before}{EIGHT}{EIGHT}{EIGHT}{EIGHT}{after}")?;
-    let expected = place.map(|(line, column)| (Side::Domain, TooManyParts, line, column));
-    is_device_checked(alloc, &section, LAMP, expected)
-}
-
-#[test]
-fn more_than_4096_parts_are_too_many(rt: HostRuntime) {
-    for row in PARTS {
-        let answer = are_parts_counted(rt.alloc(), row);
-        assert!(rt; matches!(answer, Ok(true)), "{} {}", row.0, row.1);
+fn assert_checked(rt: &impl Abort, alloc: Global, rows: &[Row]) {
+    for row in rows {
+        assert!(rt;
+            is_checked(alloc, row.0, row.1, row.2),
+            "{} {}",
+            row.0,
+            row.1
+        );
     }
 }
 
-fn is_goal_too_large(alloc: Global) -> Result<bool, AllocError> {
-    let goal = format!(in alloc;
-        "(define (problem p) (:domain d) (:init)\n(:goal (and (or (on) (on)) {EIGHT}{EIGHT}{EIGHT}{EIGHT})))"
-    )?;
-    let expected = Some((Side::Problem, TooManyParts, 2, 8));
-    Ok(is_checked(alloc, SWITCH, &goal, expected))
-}
-
 #[test]
-fn a_goal_of_too_many_parts(rt: HostRuntime) {
-    assert!(rt; matches!(is_goal_too_large(rt.alloc()), Ok(true)));
+fn first_faults_of_two_files(rt: HostRuntime) {
+    assert_checked(&rt, rt.alloc(), FILES);
+    assert_checked(&rt, rt.alloc(), SECTIONS);
+    assert_checked(&rt, rt.alloc(), PROBLEMS);
+    assert_checked(&rt, rt.alloc(), PARTS);
 }

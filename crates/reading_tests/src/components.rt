@@ -39,13 +39,6 @@ static SMALL_GRAPHS: [&[(usize, usize)]; 8] = [
     &[(0, 1), (0, 1), (1, 0), (2, 0), (2, 3)],
 ];
 
-#[test]
-fn searches_of_small_graphs_are_right(rt: HostRuntime) {
-    for graph in &SMALL_GRAPHS {
-        assert!(rt; matches!(are_searched(rt.alloc(), 6, graph), Ok(true)));
-    }
-}
-
 /// Arcs between eight numbers, as a generator of numbers picks them.
 fn mixed(alloc: Global, seed: u64) -> Result<Vec<(usize, usize)>, AllocError> {
     let mut state = seed;
@@ -65,7 +58,10 @@ fn is_mixed_graph_searched(alloc: Global, seed: u64) -> Result<bool, AllocError>
 }
 
 #[test]
-fn searches_of_mixed_graphs_are_right(rt: HostRuntime) {
+fn searches_of_small_and_of_mixed_graphs_are_right(rt: HostRuntime) {
+    for graph in &SMALL_GRAPHS {
+        assert!(rt; matches!(are_searched(rt.alloc(), 6, graph), Ok(true)));
+    }
     for seed in 0..2000_u64 {
         let answer = is_mixed_graph_searched(rt.alloc(), seed);
         assert!(rt; matches!(answer, Ok(true)), "{seed}");

@@ -1,6 +1,6 @@
 //! Which names are on a cycle of links.
 
-use names::Links;
+use names::{Links, Names};
 use std::alloc::{AllocError, Global};
 use std::test::*;
 
@@ -28,6 +28,16 @@ fn chain<'a>(
     Ok(links)
 }
 
+/// Whether each of the names is on the cycle, or none is.
+fn are_all(cycle: &Names<'_>, names: &[&[u8]], is_there: bool) -> bool {
+    for name in names {
+        if cycle.has(name) != is_there {
+            return false;
+        }
+    }
+    true
+}
+
 /// Whether the former names are on a cycle, and the latter aren't.
 fn are_told(
     alloc: Global,
@@ -36,8 +46,7 @@ fn are_told(
     others: &[&[u8]],
 ) -> Result<bool, AllocError> {
     let cycle = links.cycles(alloc)?;
-    let all_found = cyclic.iter().all(|name| cycle.has(name));
-    Ok(all_found && others.iter().all(|name| !cycle.has(name)))
+    Ok(are_all(&cycle, cyclic, true) && are_all(&cycle, others, false))
 }
 
 /// Whether a chain of names is no cycle, and a link back from the last one of them to the seventh makes one.

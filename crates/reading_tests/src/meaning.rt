@@ -5,7 +5,18 @@ use lists::{List, Text};
 use pddl_parser::{Condition, Domain, Problem};
 use pddl_plain::{Bound, GroundAtom, Step, action_cost, holds, initial, is_given, take_step};
 use std::alloc::{AllocError, Global};
+use std::process::Abort;
 use std::test::*;
+
+/// A problem with these entries of `:init`, and without objects or with those of the domain, with two, with three of two types, or
+/// with two of which one has a price; or a problem with a ship and this goal.
+macro_rules! problem {
+    (plain $entries:literal) => { concat!("(define (problem p) (:domain d) (:init", $entries, ") (:goal ()))") };
+    (two $entries:literal) => { concat!("(define (problem p) (:domain d) (:objects a b) (:init", $entries, ") (:goal ()))") };
+    (typed $entries:literal) => { concat!("(define (problem p) (:domain d) (:objects a - t b c - u) (:init", $entries, ") (:goal ()))") };
+    (sold $entries:literal) => { concat!("(define (problem p) (:domain d) (:objects a b) (:init (= (price a) 7)", $entries, ") (:goal ()) (:metric minimize (total-cost)))") };
+    (ship $goal:literal) => { concat!("(define (problem p) (:domain d) (:objects ship - boat) (:init (p) (p) (not (q))) (:goal ", $goal, "))") };
+}
 
 fn text(alloc: Global, bytes: &[u8]) -> Result<Text, AllocError> {
     Ok(Text::from_vec(Vec::from_slice(alloc, bytes)?))
@@ -101,63 +112,131 @@ fn stated(alloc: Global, problem: &str) -> Result<Vec<GroundAtom>, AllocError> {
 }
 
 fn is_within(atom: &GroundAtom, others: &[GroundAtom]) -> bool {
-    others.iter().any(|other| atom.predicate == other.predicate && atom.objects == other.objects)
+    for other in others {
+        if atom.predicate == other.predicate && atom.objects == other.objects {
+            return true;
+        }
+    }
+    false
 }
 
 fn are_within(atoms: &[GroundAtom], others: &[GroundAtom]) -> bool {
-    atoms.iter().all(|atom| is_within(atom, others))
+    for atom in atoms {
+        if !is_within(atom, others) {
+            return false;
+        }
+    }
+    true
 }
 
 fn are_same(atoms: &[GroundAtom], others: &[GroundAtom]) -> bool {
     are_within(atoms, others) && are_within(others, atoms)
 }
 
+/// Whether the first action with these objects leads from the initial state to that of another problem, or nowhere where there is
+/// none.
+fn leads(
+    alloc: Global,
+    domain: &Domain,
+    problem: &Problem,
+    objects: &str,
+    wanted: Option<&str>,
+) -> Result<bool, AllocError> {
+    match (after_step(alloc, domain, problem, objects)?, wanted) {
+        (Some(next), Some(wanted)) => Ok(are_same(&next, &stated(alloc, wanted)?)),
+        (next, wanted) => Ok(next.is_none() && wanted.is_none()),
+    }
+}
+
+/// What the first action costs where its `?x` stands for the object.
+fn cost_in(
+    alloc: Global,
+    domain: &Domain,
+    problem: &Problem,
+    object: &str,
+) -> Result<Option<u64>, AllocError> {
+    let binding = [Bound {
+        variable: text(alloc, b"?x")?,
+        object: text(alloc, object.as_bytes())?,
+    }];
+    match domain.actions.as_slice() {
+        [action, ..] => action_cost(alloc, problem, &binding, action),
+        [] => Ok(None),
+    }
+}
+
+/// Whether each of these derived atoms is in the full state exactly where some axiom gives it.
+fn are_given(
+    alloc: Global,
+    domain: &Domain,
+    problem: &Problem,
+    full: &[GroundAtom],
+    derived: &[GroundAtom],
+) -> Result<bool, AllocError> {
+    for atom in derived {
+        if given(alloc, domain, problem, full, atom)? != is_within(atom, full) {
+            return Ok(false);
+        }
+    }
+    Ok(true)
+}
+
+/// The same of the initial state of the problem.
+fn are_given_at_first(
+    alloc: Global,
+    domain: &Domain,
+    problem: &Problem,
+) -> Result<bool, AllocError> {
+    let full = state(alloc, problem)?;
+    let derived = stated(alloc, problem!(typed "(seen a) (seen b) (dark)"))?;
+    are_given(alloc, domain, problem, &full, &derived)
+}
+
+fn is_reached(alloc: Global, domain: &Domain, problem: &Problem) -> Result<bool, AllocError> {
+    let state = state(alloc, problem)?;
+    is_true(alloc, domain, problem, &state, &problem.goal, &[])
+}
+
+/// What is asked of a domain and a problem, with the answer.
+#[derive(Clone, Copy)]
+enum Asked {
+    /// To which problem's initial state the first action with the row's objects leads, or that it leads nowhere.
+    Leads(Option<&'static str>),
+    /// What the first action costs where its `?x` stands for the row's object.
+    Costs(Option<u64>),
+    /// Whether the initial state is a full state.
+    IsFull(bool),
+    /// Whether the initial state reaches the goal.
+    Reaches(bool),
+}
+
+/// A domain, a problem, objects of one letter each, and what is asked.
+type Row = (&'static str, &'static str, &'static str, Asked);
+
+fn is_answered(
+    alloc: Global,
+    domain: &Domain,
+    problem: &Problem,
+    objects: &str,
+    asked: Asked,
+) -> Result<bool, AllocError> {
+    match asked {
+        Asked::Leads(wanted) => leads(alloc, domain, problem, objects, wanted),
+        Asked::Costs(cost) => Ok(cost_in(alloc, domain, problem, objects)? == cost),
+        Asked::IsFull(wanted) => Ok(are_given_at_first(alloc, domain, problem)? == wanted),
+        Asked::Reaches(wanted) => Ok(is_reached(alloc, domain, problem)? == wanted),
+    }
+}
+
 // A function owns little, and hands on references: the proof of a function that owns much lets go of it at each end. What is
 // read goes by a call, which costs the proof next to nothing.
 
-/// Where the step leads from the initial state of the problem.
-fn next_in(
-    alloc: Global,
-    domain: &str,
-    problem: &str,
-    objects: &str,
-) -> Result<Option<Vec<GroundAtom>>, AllocError> {
-    let (domain, problem) = read(alloc, domain, problem)?;
-    let next = after_step(alloc, &domain, &problem, objects);
+fn is_so(alloc: Global, row: &Row) -> Result<bool, AllocError> {
+    let (domain, problem) = read(alloc, row.0, row.1)?;
+    let answer = is_answered(alloc, &domain, &problem, row.2, row.3);
     drop(domain);
     drop(problem);
-    next
-}
-
-/// Where the step leads from the state with these entries.
-fn next_from(
-    alloc: Global,
-    domain: &str,
-    (before, after): (&str, &str),
-    init: &str,
-    objects: &str,
-) -> Result<Option<Vec<GroundAtom>>, AllocError> {
-    let problem = format!(in alloc; "{before}{init}{after}")?;
-    next_in(alloc, domain, &problem, objects)
-}
-
-/// The state with these entries.
-fn state_with(
-    alloc: Global,
-    (before, after): (&str, &str),
-    entries: &str,
-) -> Result<Vec<GroundAtom>, AllocError> {
-    let problem = format!(in alloc; "{before}{entries}{after}")?;
-    stated(alloc, &problem)
-}
-
-/// Whether the step leads from the state with these entries to the other one, or nowhere where there is none.
-fn leads(alloc: Global, row: &StepRow) -> Result<bool, AllocError> {
-    let (domain, around, init, objects, wanted) = *row;
-    match (next_from(alloc, domain, around, init, objects)?, wanted) {
-        (Some(next), Some(wanted)) => Ok(are_same(&next, &state_with(alloc, around, wanted)?)),
-        (next, wanted) => Ok(next.is_none() && wanted.is_none()),
-    }
+    answer
 }
 
 /// An atom that is deleted and added is true.
@@ -198,132 +277,8 @@ const NEST: &str = "(define (domain nest) (:predicates (p) (q) (r))
 const REST: &str = "(define (domain rest) (:predicates (p)) (:action act :effect ())
  (:action other :effect (not (p))))";
 
-const PRICED: &str = "(define (problem s) (:domain shop) (:objects a b c)
- (:init (= (price c) 3) (= (price a) 7)) (:goal ()) (:metric minimize (total-cost)))";
-
-const COUNTED: &str = "(define (problem s) (:domain shop) (:objects a b c)
- (:init (= (price c) 3) (= (price a) 7)) (:goal ()))";
-
-/// Of a problem without objects, or with those of the domain: before the entries of `:init`, and after them.
-const PLAIN: (&str, &str) = ("(define (problem p) (:domain d) (:init", ") (:goal ()))");
-
-const TWO: (&str, &str) = (
-    "(define (problem p) (:domain d) (:objects a b) (:init",
-    ") (:goal ()))",
-);
-
-const TYPED: (&str, &str) = (
-    "(define (problem p) (:domain d) (:objects a - t b c - u) (:init",
-    ") (:goal ()))",
-);
-
-const SOLD: (&str, &str) = (
-    "(define (problem p) (:domain d) (:objects a b) (:init (= (price a) 7)",
-    ") (:goal ()) (:metric minimize (total-cost)))",
-);
-
-/// A domain, a problem around its entries, those entries, the objects of a step, and the state to which it leads.
-type StepRow = (
-    &'static str,
-    (&'static str, &'static str),
-    &'static str,
-    &'static str,
-    Option<&'static str>,
-);
-
-static STEPS: &[StepRow] = &[
-    (BACK, TWO, "(q a)", "aa", Some("(p a) (q a)")),
-    (BACK, TWO, "(q a)", "ab", Some("(p a) (q b)")),
-    (BACK, TWO, "(q a)", "ba", None),
-    (BACK, TWO, "(q a)", "a", None),
-    (SHOP, SOLD, "", "a", Some("(done a)")),
-    (SHOP, SOLD, "", "b", None),
-    (SHOP, TWO, "(= (price a) 7)", "b", Some("(done b)")),
-    (TOUCH, PLAIN, "(p) (q)", "", Some("(q) (p)")),
-    (TOUCH, PLAIN, "(q)", "", Some("")),
-    (BELL, PLAIN, "(at l1)", "", None),
-    (BELL, PLAIN, "", "", Some("(rung)")),
-    (FIT, TYPED, "(p b)", "b", Some("(p b) (done)")),
-    (FIT, TYPED, "(p a)", "a", None),
-    (INNER, TYPED, "(p a) (p b)", "a", Some("(p b) (q b)")),
-    (
-        INNER,
-        TYPED,
-        "(p b) (p c)",
-        "a",
-        Some("(p b) (p c) (q b) (q c)"),
-    ),
-    (INNER, TYPED, "(p a)", "a", None),
-    (
-        KEPT,
-        TWO,
-        "(r a b) (r b a)",
-        "a",
-        Some("(r a b) (r b a) (q b)"),
-    ),
-    (KEPT, TWO, "(r b a)", "a", None),
-    (NEST, PLAIN, "(p) (q)", "", Some("(p) (q) (r)")),
-    (NEST, PLAIN, "(p)", "", Some("(p)")),
-    (NEST, PLAIN, "(q)", "", Some("(q)")),
-    (REST, PLAIN, "(p)", "", Some("(p)")),
-];
-
-#[test]
-fn steps_lead_as_worked_by_hand(rt: HostRuntime) {
-    for row in STEPS {
-        let answer = leads(rt.alloc(), row);
-        assert!(rt; matches!(answer, Ok(true)), "{} {} {}", row.0, row.2, row.3);
-    }
-}
-
-/// What the first action costs where its `?x` stands for the object.
-fn cost_in(
-    alloc: Global,
-    domain: &Domain,
-    problem: &Problem,
-    object: &str,
-) -> Result<Option<u64>, AllocError> {
-    let binding = [Bound {
-        variable: text(alloc, b"?x")?,
-        object: text(alloc, object.as_bytes())?,
-    }];
-    match domain.actions.as_slice() {
-        [action, ..] => action_cost(alloc, problem, &binding, action),
-        [] => Ok(None),
-    }
-}
-
-/// Whether the first action of the domain costs so much for the object of the problem.
-fn is_cost(alloc: Global, row: &CostRow) -> Result<bool, AllocError> {
-    let (domain, problem) = read(alloc, row.0, row.1)?;
-    let cost = cost_in(alloc, &domain, &problem, row.2);
-    drop(domain);
-    drop(problem);
-    Ok(cost? == row.3)
-}
-
 const FIVE: &str = "(define (domain five) (:predicates (p ?x))
  (:action act :parameters (?x) :effect (increase (total-cost) 5)))";
-
-/// A domain, a problem, an object of it, and the cost.
-type CostRow = (&'static str, &'static str, &'static str, Option<u64>);
-
-static COSTS: &[CostRow] = &[
-    (SHOP, PRICED, "a", Some(7)),
-    (SHOP, PRICED, "b", None),
-    (SHOP, COUNTED, "b", Some(1)),
-    (FIVE, PRICED, "b", Some(5)),
-    (FIVE, COUNTED, "b", Some(1)),
-    (FIT, PRICED, "b", Some(0)),
-];
-
-#[test]
-fn costs_as_worked_by_hand(rt: HostRuntime) {
-    for row in COSTS {
-        let answer = is_cost(rt.alloc(), row);
-        assert!(rt; matches!(answer, Ok(true)), "{} {}", row.0, row.2);
-    }
-}
 
 /// `seen` has two axioms, one for each type.
 const LIGHT: &str = "(define (domain light) (:types t u)
@@ -332,53 +287,64 @@ const LIGHT: &str = "(define (domain light) (:types t u)
  (:derived (dark) (not (exists (?x) (seen ?x))))
  (:action act :parameters (?x) :precondition (dark) :effect (p ?x)))";
 
-/// Whether each of these derived atoms is in the full state exactly where some axiom gives it.
-fn are_given(
-    alloc: Global,
-    domain: &Domain,
-    problem: &Problem,
-    full: &[GroundAtom],
-    derived: &[GroundAtom],
-) -> Result<bool, AllocError> {
-    for atom in derived {
-        if given(alloc, domain, problem, full, atom)? != is_within(atom, full) {
-            return Ok(false);
-        }
-    }
-    Ok(true)
+/// A boat is a vessel, which is a thing and a vehicle; what an entry says of `object` is ignored.
+const PORT: &str = "(define (domain port) (:predicates (p) (q))
+ (:types boat - vessel vessel - thing vessel - vehicle object - odd spare))";
+
+const PRICED: &str = "(define (problem s) (:domain shop) (:objects a b c)
+ (:init (= (price c) 3) (= (price a) 7)) (:goal ()) (:metric minimize (total-cost)))";
+
+const COUNTED: &str = "(define (problem s) (:domain shop) (:objects a b c)
+ (:init (= (price c) 3) (= (price a) 7)) (:goal ()))";
+
+macro_rules! steps {
+    ($(($domain:expr, $around:ident $entries:literal, $objects:literal, $wanted:expr),)*) => {
+        &[$(($domain, problem!($around $entries), $objects, Asked::Leads($wanted)),)*]
+    };
 }
 
-/// The same of the initial state of the problem.
-fn are_given_at_first(
-    alloc: Global,
-    domain: &Domain,
-    problem: &Problem,
-    derived: &[GroundAtom],
-) -> Result<bool, AllocError> {
-    let full = state(alloc, problem)?;
-    are_given(alloc, domain, problem, &full, derived)
+static STEPS: &[Row] = steps! {
+    (BACK, two "(q a)", "aa", Some(problem!(two "(p a) (q a)"))),
+    (BACK, two "(q a)", "ab", Some(problem!(two "(p a) (q b)"))),
+    (BACK, two "(q a)", "ba", None),
+    (BACK, two "(q a)", "a", None),
+    (SHOP, sold "", "a", Some(problem!(sold "(done a)"))),
+    (SHOP, sold "", "b", None),
+    (SHOP, two "(= (price a) 7)", "b", Some(problem!(two "(done b)"))),
+    (TOUCH, plain "(p) (q)", "", Some(problem!(plain "(q) (p)"))),
+    (TOUCH, plain "(q)", "", Some(problem!(plain ""))),
+    (BELL, plain "(at l1)", "", None),
+    (BELL, plain "", "", Some(problem!(plain "(rung)"))),
+    (FIT, typed "(p b)", "b", Some(problem!(typed "(p b) (done)"))),
+    (FIT, typed "(p a)", "a", None),
+    (INNER, typed "(p a) (p b)", "a", Some(problem!(typed "(p b) (q b)"))),
+    (INNER, typed "(p b) (p c)", "a", Some(problem!(typed "(p b) (p c) (q b) (q c)"))),
+    (INNER, typed "(p a)", "a", None),
+    (KEPT, two "(r a b) (r b a)", "a", Some(problem!(two "(r a b) (r b a) (q b)"))),
+    (KEPT, two "(r b a)", "a", None),
+    (NEST, plain "(p) (q)", "", Some(problem!(plain "(p) (q) (r)"))),
+    (NEST, plain "(p)", "", Some(problem!(plain "(p)"))),
+    (NEST, plain "(q)", "", Some(problem!(plain "(q)"))),
+    (REST, plain "(p)", "", Some(problem!(plain "(p)"))),
+};
+
+static COSTS: &[Row] = &[
+    (SHOP, PRICED, "a", Asked::Costs(Some(7))),
+    (SHOP, PRICED, "b", Asked::Costs(None)),
+    (SHOP, COUNTED, "b", Asked::Costs(Some(1))),
+    (FIVE, PRICED, "b", Asked::Costs(Some(5))),
+    (FIVE, COUNTED, "b", Asked::Costs(Some(1))),
+    (FIT, PRICED, "b", Asked::Costs(Some(0))),
+];
+
+/// Entries over `a` of type `t` and `b` and `c` of type `u`, which are those of a full state or not.
+macro_rules! states {
+    ($(($state:literal, $is_full:expr),)*) => {
+        &[$((LIGHT, problem!(typed $state), "", Asked::IsFull($is_full)),)*]
+    };
 }
 
-fn is_full_in(alloc: Global, problem: &str, derived: &[GroundAtom]) -> Result<bool, AllocError> {
-    let (domain, problem) = read(alloc, LIGHT, problem)?;
-    let are_given = are_given_at_first(alloc, &domain, &problem, derived);
-    drop(domain);
-    drop(problem);
-    are_given
-}
-
-/// Whether the entries, over `a` of type `t` and `b` and `c` of type `u`, are those of a full state, or not, as the row says.
-fn is_full(alloc: Global, (entries, wanted): &TruthRow) -> Result<bool, AllocError> {
-    let (before, after) = TYPED;
-    let problem = format!(in alloc; "{before}{entries}{after}")?;
-    let derived = state_with(alloc, TYPED, "(seen a) (seen b) (dark)")?;
-    Ok(is_full_in(alloc, &problem, &derived)? == *wanted)
-}
-
-/// Entries of `:init` or a goal, and whether what is asked of it is so.
-type TruthRow = (&'static str, bool);
-
-static FULL_STATES: &[TruthRow] = &[
+static FULL_STATES: &[Row] = states! {
     ("(dark)", true),
     ("", false),
     ("(p a) (seen a)", true),
@@ -389,38 +355,16 @@ static FULL_STATES: &[TruthRow] = &[
     ("(q b) (seen b)", true),
     ("(p a) (q b) (seen a) (seen b)", true),
     ("(q a) (dark)", true),
-];
+};
 
-#[test]
-fn full_states_as_worked_by_hand(rt: HostRuntime) {
-    for row in FULL_STATES {
-        let answer = is_full(rt.alloc(), row);
-        assert!(rt; matches!(answer, Ok(true)), "{}", row.0);
-    }
+/// Goals of a problem with the boat `ship`, (p) twice and (not (q)), which its initial state reaches or not.
+macro_rules! conditions {
+    ($(($goal:literal, $is_reached:expr),)*) => {
+        &[$((PORT, problem!(ship $goal), "", Asked::Reaches($is_reached)),)*]
+    };
 }
 
-/// A boat is a vessel, which is a thing and a vehicle; what an entry says of `object` is ignored.
-const PORT: &str = "(define (domain port) (:predicates (p) (q))
- (:types boat - vessel vessel - thing vessel - vehicle object - odd spare))";
-
-fn is_reached(alloc: Global, domain: &Domain, problem: &Problem) -> Result<bool, AllocError> {
-    let state = state(alloc, problem)?;
-    is_true(alloc, domain, problem, &state, &problem.goal, &[])
-}
-
-/// Whether the goal holds, or not, in the initial state of a problem with the boat `ship`, (p) twice and (not (q)).
-fn holds_or_not(alloc: Global, (goal, truth): &TruthRow) -> Result<bool, AllocError> {
-    let text = format!(in alloc;
-        "(define (problem p) (:domain d) (:objects ship - boat) (:init (p) (p) (not (q))) (:goal {goal}))"
-    )?;
-    let (domain, problem) = read(alloc, PORT, &text)?;
-    let holds = is_reached(alloc, &domain, &problem);
-    drop(domain);
-    drop(problem);
-    Ok(holds? == *truth)
-}
-
-static CONDITIONS: &[TruthRow] = &[
+static CONDITIONS: &[Row] = conditions! {
     ("()", true),
     ("(and)", true),
     ("(or)", false),
@@ -444,12 +388,19 @@ static CONDITIONS: &[TruthRow] = &[
     ("(exists (?x - (either spare object)) (= ?x ship))", true),
     ("(forall (?x ?y) (= ?x ?y))", true),
     ("(exists (?x) (forall (?x - spare) (q)))", true),
-];
+};
+
+fn assert_so(rt: &impl Abort, alloc: Global, rows: &[Row]) {
+    for row in rows {
+        let answer = is_so(alloc, row);
+        assert!(rt; matches!(answer, Ok(true)), "{} {} {}", row.0, row.1, row.2);
+    }
+}
 
 #[test]
-fn conditions_hold_as_worked_by_hand(rt: HostRuntime) {
-    for row in CONDITIONS {
-        let answer = holds_or_not(rt.alloc(), row);
-        assert!(rt; matches!(answer, Ok(true)), "{}", row.0);
-    }
+fn steps_costs_states_and_conditions_as_worked_by_hand(rt: HostRuntime) {
+    assert_so(&rt, rt.alloc(), STEPS);
+    assert_so(&rt, rt.alloc(), COSTS);
+    assert_so(&rt, rt.alloc(), FULL_STATES);
+    assert_so(&rt, rt.alloc(), CONDITIONS);
 }

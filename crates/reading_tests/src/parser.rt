@@ -74,12 +74,6 @@ fn is_lamp_read(alloc: Global) -> bool {
     is_read
 }
 
-#[test]
-fn the_switch_files_are_read(rt: HostRuntime) {
-    assert!(rt; is_switch_read(rt.alloc()));
-    assert!(rt; is_lamp_read(rt.alloc()));
-}
-
 /// Whether the second of three constants has one type, and the third none.
 fn are_typed(constants: &[Typed]) -> bool {
     match constants {
@@ -128,7 +122,10 @@ fn is_typed(domain: &Domain) -> bool {
         && is_forall(domain.actions.as_slice())
 }
 
+/// Sections and keys stand in any order.
 #[test]
-fn sections_and_keys_stand_in_any_order(rt: HostRuntime) {
+fn files_are_read(rt: HostRuntime) {
+    assert!(rt; is_switch_read(rt.alloc()));
+    assert!(rt; is_lamp_read(rt.alloc()));
     assert!(rt; matches!(&domain_of(rt.alloc(), TYPED), Ok(domain) if is_typed(domain)));
 }

@@ -10,10 +10,6 @@ use std::alloc::Global;
 use std::process::Abort;
 use std::test::*;
 
-/// What stands at a place of a file, and the fault that the file has with it, with its line and column. It begins
-/// line 2, but for names, which begin in column 17 of line 1.
-type Row = (&'static str, Kind, u64, u64);
-
 const FILE: Kind = Kind::Shape(ShapePlace::File);
 
 const SECTION: Kind = Kind::Shape(ShapePlace::Section);
@@ -36,21 +32,9 @@ const COST: Kind = Kind::Shape(ShapePlace::Cost);
 
 const ENTRY: Kind = Kind::Shape(ShapePlace::InitEntry);
 
-/// Asserts of each row that its text, between those before and after it, has the row's fault as its first.
-fn assert_faults(rt: &impl Abort, alloc: Global, file: File, around: (&str, &str), rows: &[Row]) {
-    for row in rows {
-        assert!(rt; has_fault(alloc, file, around, row), "{}", row.0);
-    }
-}
-
-fn has_fault(alloc: Global, file: File, (before, after): (&str, &str), row: &Row) -> bool {
-    let (inside, kind, line, column) = *row;
-    let at = At { line, column };
-    match format!(in alloc; "{before}{inside}{after}") {
-        Ok(text) => has_first_fault(alloc, file, &text, Fault { kind, at }),
-        Err(_) => false,
-    }
-}
+/// What stands at a place of a file, and the fault that the file has with it, with its line and column. It begins
+/// line 2, but for names, which begin in column 17 of line 1.
+type Row = (&'static str, Kind, u64, u64);
 
 // A name has none of `?`, `@` and `,`, doesn't begin with `:`, and isn't `-` or `=`. A `?` begins another word.
 static NAMES: &[Row] = &[
@@ -63,12 +47,6 @@ static NAMES: &[Row] = &[
     ("d\n?e", FILE, 2, 1),
     ("d)\n(:constants d:e\n:f", BadName, 3, 1),
 ];
-
-#[test]
-fn names(rt: HostRuntime) {
-    let around = ("(define (domain ", "))");
-    assert_faults(&rt, rt.alloc(), File::Domain, around, NAMES);
-}
 
 // A list's own fault comes before those of its members, and a list at fault isn't looked into.
 static SECTIONS: &[Row] = &[
@@ -126,12 +104,6 @@ static SECTIONS: &[Row] = &[
     ("(:derived (r ?x)\n(not))", CONDITION, 3, 1),
 ];
 
-#[test]
-fn sections_of_a_domain(rt: HostRuntime) {
-    let around = ("(define (domain d)\n", ")");
-    assert_faults(&rt, rt.alloc(), File::Domain, around, SECTIONS);
-}
-
 // Behind variables a list is looked at once the list around it has no fault of its own.
 static VARIABLE_TYPES: &[Row] = &[
     ("?x - (foo a)", TYPE_NAME, 2, 6),
@@ -148,12 +120,6 @@ static VARIABLE_TYPES: &[Row] = &[
     ("?x - (foo) y", VARIABLES, 2, 12),
     ("?x - (foo) (bar)", VARIABLES, 2, 12),
 ];
-
-#[test]
-fn types_of_variables(rt: HostRuntime) {
-    let around = ("(define (domain d) (:action a :parameters (\n", ")))");
-    assert_faults(&rt, rt.alloc(), File::Domain, around, VARIABLE_TYPES);
-}
 
 static CONDITIONS: &[Row] = &[
     ("p", CONDITION, 2, 1),
@@ -172,12 +138,6 @@ static CONDITIONS: &[Row] = &[
     ("(?p)", BadName, 2, 2),
     ("(p\n(q))", TERM, 3, 1),
 ];
-
-#[test]
-fn conditions(rt: HostRuntime) {
-    let around = ("(define (domain d) (:action a :precondition\n", "))");
-    assert_faults(&rt, rt.alloc(), File::Domain, around, CONDITIONS);
-}
 
 static EFFECTS: &[Row] = &[
     ("p", EFFECT, 2, 1),
@@ -200,12 +160,6 @@ static EFFECTS: &[Row] = &[
     ("(increase (f)\n2147483648)", NumberTooLarge, 3, 1),
     ("(increase (f) (g =))", BadName, 2, 18),
 ];
-
-#[test]
-fn effects(rt: HostRuntime) {
-    let around = ("(define (domain d) (:action a :effect\n", "))");
-    assert_faults(&rt, rt.alloc(), File::Domain, around, EFFECTS);
-}
 
 // Missing sections come last.
 static PROBLEM: &[Row] = &[
@@ -244,11 +198,6 @@ static PROBLEM: &[Row] = &[
     ("(problem p) (:init\n(p))\n(:objects @)", BadName, 4, 11),
 ];
 
-#[test]
-fn sections_of_a_problem(rt: HostRuntime) {
-    assert_faults(&rt, rt.alloc(), File::Problem, ("(define\n", ")"), PROBLEM);
-}
-
 static ENTRIES: &[Row] = &[
     ("p", ENTRY, 2, 1),
     ("((p))", ENTRY, 2, 2),
@@ -272,8 +221,46 @@ static ENTRIES: &[Row] = &[
     ("(and (p))", ReservedWord, 2, 2),
 ];
 
+fn has_fault(alloc: Global, file: File, (before, after): (&str, &str), row: &Row) -> bool {
+    let (inside, kind, line, column) = *row;
+    let at = At { line, column };
+    match format!(in alloc; "{before}{inside}{after}") {
+        Ok(text) => has_first_fault(alloc, file, &text, Fault { kind, at }),
+        Err(_) => false,
+    }
+}
+
+/// Asserts of each row that its text, between those before and after it, has the row's fault as its first.
+fn assert_faults(rt: &impl Abort, alloc: Global, file: File, around: (&str, &str), rows: &[Row]) {
+    for row in rows {
+        assert!(rt; has_fault(alloc, file, around, row), "{}", row.0);
+    }
+}
+
 #[test]
-fn entries_of_init(rt: HostRuntime) {
-    let around = ("(define (problem p) (:init\n", "))");
-    assert_faults(&rt, rt.alloc(), File::Problem, around, ENTRIES);
+fn first_faults_of_one_file(rt: HostRuntime) {
+    let parameters = "(define (domain d) (:action a :parameters (\n";
+    let precondition = "(define (domain d) (:action a :precondition\n";
+    let effect = "(define (domain d) (:action a :effect\n";
+    let init = "(define (problem p) (:init\n";
+    let alloc = rt.alloc();
+    assert_faults(&rt, alloc, File::Domain, ("(define (domain ", "))"), NAMES);
+    assert_faults(
+        &rt,
+        alloc,
+        File::Domain,
+        ("(define (domain d)\n", ")"),
+        SECTIONS,
+    );
+    assert_faults(
+        &rt,
+        alloc,
+        File::Domain,
+        (parameters, ")))"),
+        VARIABLE_TYPES,
+    );
+    assert_faults(&rt, alloc, File::Domain, (precondition, "))"), CONDITIONS);
+    assert_faults(&rt, alloc, File::Domain, (effect, "))"), EFFECTS);
+    assert_faults(&rt, alloc, File::Problem, ("(define\n", ")"), PROBLEM);
+    assert_faults(&rt, alloc, File::Problem, (init, "))"), ENTRIES);
 }
