@@ -1,9 +1,8 @@
 //! Writes a task as the text of the planner's output format, version 3.
 #![tactic(auto)]
 
-mod lines;
 mod operators;
-mod sections;
+mod rules;
 mod text;
 
 pub use text::text_of;

@@ -4,11 +4,12 @@ ghost use Rattle.std.specs.Prelude.{◌≡◌, IfOk};
 ghost use Rattle.sas_task.specs.Output as output;
 
 use crate::operators::push_operators;
-use crate::sections::{
-    push_goal, push_groups, push_metric, push_rules, push_state, push_variables, push_version,
-};
+use crate::rules::push_rules;
 use sas_task::SasTask;
 use std::alloc::{AllocError, Global};
+use written_sections::sections::{
+    push_goal, push_groups, push_metric, push_state, push_variables, push_version,
+};
 
 /// The bytes of the output file for this task: the lines of its eight sections, each ended by a line feed.
 pub fn text_of(alloc: Global, task: &SasTask) -> Result<Vec<u8>, AllocError>

@@ -1,7 +1,7 @@
 use Rattle.std.proofs.Common.{[], ◌∷◌, ◌++◌, ap, ◌∙◌}
 use Rattle.sas_task.specs.Output.{bytes_of}
-use Rattle.sas_writer.proofs.Pieces.{next_lines, item_at, all_counted}
-use Rattle.sas_writer.proofs.sections.push_facts.Goals as goal
+use Rattle.written_sections.proofs.Pieces.{next_lines, item_at, all_counted}
+use Rattle.written_sections.proofs.sections.push_facts.Goals as goal
 
 pub loop-fact-preserved : goal.loop-fact-preserved
 loop-fact-preserved c =

@@ -2,8 +2,8 @@ use Rattle.std.proofs.Common.{[], ◌∷◌, ◌++◌}
 use Rattle.std.specs.Prelude.{codes}
 use Rattle.std.proofs.lemmas.Result.{on_ok_weaker}
 use Rattle.sas_task.specs.Output.{counted, pair_lines}
-use Rattle.sas_writer.proofs.Pieces.{then_lines}
-use Rattle.sas_writer.proofs.sections.push_group.Goals as goal
+use Rattle.written_sections.proofs.Pieces.{then_lines}
+use Rattle.written_sections.proofs.sections.push_group.Goals as goal
 
 pub returns : goal.returns
 returns c =

@@ -1,14 +1,11 @@
-//! The sections of the version, the metric, the variables, the mutex groups, the state, the goal and the rules.
+//! The sections of the version, the metric, the variables, the mutex groups, the state and the goal.
 
 ghost use Rattle.std.specs.Prelude.{◌≡◌, ◌++◌, [], ◌∷◌, codes, length, OnOk};
 ghost use Rattle.std.specs.List.{enumerate_from};
-ghost use Rattle.sas_task.specs.Output.{bytes_of, counted, version_lines, metric_lines, variable_lines, group_lines, state_lines, goal_lines, rule_line, rule_lines, numeral};
+ghost use Rattle.sas_task.specs.Output.{bytes_of, counted, version_lines, metric_lines, variable_lines, group_lines, state_lines, goal_lines, numeral};
 
-use crate::lines::{
-    push_line, push_next_number, push_number, push_number_line, push_number_or_none_line,
-    push_pairs,
-};
-use sas_task::{Group, Pair, Rule, SasTask, Text, Variable};
+use crate::lines::{push_line, push_number_line, push_number_or_none_line, push_pairs};
+use sas_task::{Group, Pair, SasTask, Text, Variable};
 use std::alloc::AllocError;
 
 pub fn push_version(out: &mut Vec<u8>) -> Result<(), AllocError>
@@ -106,36 +103,4 @@ pub fn push_goal(out: &mut Vec<u8>, goal: &[Pair]) -> Result<(), AllocError>
     push_line(out, b"begin_goal")?;
     push_pairs(out, goal)?;
     push_line(out, b"end_goal")
-}
-
-/// The line of what a rule changes.
-fn push_rule_line(out: &mut Vec<u8>, rule: &Rule) -> Result<(), AllocError>
-    ensures { OnOk result (out.new.items ≡ out.old.items ++ bytes_of (rule_line rule.now ∷ [])) }
-{
-    push_number(out, rule.var)?;
-    push_next_number(out, rule.before)?;
-    push_next_number(out, rule.after)?;
-    out.push(b'\n')?;
-    Ok(())
-}
-
-fn push_rule(out: &mut Vec<u8>, rule: &Rule) -> Result<(), AllocError>
-    ensures { OnOk result (out.new.items ≡ out.old.items ++ bytes_of (rule_lines rule.now)) }
-{
-    push_line(out, b"begin_rule")?;
-    push_pairs(out, rule.conditions.as_slice())?;
-    push_rule_line(out, rule)?;
-    push_line(out, b"end_rule")
-}
-
-/// The number of rules, and then the lines of each.
-pub fn push_rules(out: &mut Vec<u8>, task: &SasTask) -> Result<(), AllocError>
-    ensures { OnOk result (out.new.items ≡ out.old.items ++ bytes_of (counted rule_lines task.now.rules)) }
-{
-    let count = task.rules();
-    push_number_line(out, count)?;
-    for i in 0..count {
-        push_rule(out, task.rule(i))?;
-    }
-    Ok(())
 }

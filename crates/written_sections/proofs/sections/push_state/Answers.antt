@@ -3,8 +3,8 @@ use Rattle.std.specs.Prelude.{codes}
 use Rattle.std.proofs.lemmas.List.{take_all}
 use Rattle.std.proofs.lemmas.Result.{on_ok_weaker}
 use Rattle.sas_task.specs.Output.{bytes_of, numeral}
-use Rattle.sas_writer.proofs.Pieces.{then_lines}
-use Rattle.sas_writer.proofs.sections.push_state.Goals as goal
+use Rattle.written_sections.proofs.Pieces.{then_lines}
+use Rattle.written_sections.proofs.sections.push_state.Goals as goal
 
 pub returns : goal.returns
 returns c =

@@ -1,7 +1,7 @@
 use Rattle.std.proofs.Common.{◌≡◌, [], ◌∷◌, ◌++◌, length, ap, ◌∙◌, arith}
 use Rattle.sas_task.specs.Output.{bytes_of, numeral, group_lines}
-use Rattle.sas_writer.proofs.Pieces.{next_lines, all_counted}
-use Rattle.sas_writer.proofs.sections.push_groups.Goals as goal
+use Rattle.written_sections.proofs.Pieces.{next_lines, all_counted}
+use Rattle.written_sections.proofs.sections.push_groups.Goals as goal
 
 pub loop-i-preserved : goal.loop-i-preserved
 loop-i-preserved c =

@@ -3,8 +3,8 @@ use Rattle.std.specs.List.{enumerate_from, flat_map}
 use Rattle.std.proofs.lemmas.List.{take_all}
 use Rattle.std.proofs.lemmas.List.FromFn.{length-enumerate_from}
 use Rattle.sas_task.specs.Output.{bytes_of, variable_lines, numeral}
-use Rattle.sas_writer.proofs.Pieces.{next_lines, numbered_at, then_lines}
-use Rattle.sas_writer.proofs.sections.push_variables.Goals as goal
+use Rattle.written_sections.proofs.Pieces.{next_lines, numbered_at, then_lines}
+use Rattle.written_sections.proofs.sections.push_variables.Goals as goal
 
 pub loop-i-preserved : goal.loop-i-preserved
 loop-i-preserved c =
