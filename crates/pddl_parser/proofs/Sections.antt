@@ -1,12 +1,16 @@
 -- The sections of a file, one at a time.
-use Rattle.std.proofs.Common.{◌≡◌, ℕ, true, false, List, [], ◌∷◌, ◌++◌, Ok, Err, refl, sym, ap, ◌∙◌}
-use Rattle.std.specs.Prelude.{◌||◌, ◌&&◌}
+use Rattle.std.proofs.Common.{◌≡◌, ℕ, Bool, true, false, List, [], ◌∷◌, ◌++◌, Ok, Err, refl, sym, ap, ◌∙◌}
+use Rattle.std.specs.Prelude.{All, Option, Some, None, if◌then◌else◌}
 use Rattle.std.proofs.lemmas.List.{append-nil}
-use Rattle.pddl_lexer.specs.Members.{Members, NoMore, WordThen, ListThen, is_empty, is_list, word, inside, rest}
+use Rattle.pddl_lexer.specs.declared.position.At.{At}
+use Rattle.pddl_lexer.specs.declared.fault.ShapePlace.TheVariants as places
+use Rattle.pddl_lexer.specs.Members.{Members, NoMore, WordThen, ListThen, is_empty, is_list, position, word, inside, rest}
 use Rattle.pddl_parser.specs.declared.end.ParseEnd.{ParseEnd}
-use Rattle.pddl_parser.specs.Outcome.{Reading, both, first}
-use Rattle.pddl_parser.specs.Reading.{sections, has_section}
-use Rattle.pddl_parser.specs.Words.{Name, is_word}
+use Rattle.pddl_parser.specs.Outcome.{Reading, Reads, both, refused, first}
+use Rattle.pddl_parser.specs.Reading.{is_repeated, keyed_section, section, sections}
+use Rattle.pddl_parser.specs.Shapes.{unsupported, repeated, malformed}
+use Rattle.pddl_parser.specs.Words.{Name, begins_with_colon}
+use Rattle.pddl_parser.proofs.Given.{pairs_have, nothing_has, refused_never}
 use Rattle.pddl_parser.proofs.Rows.{after, after_both, after_fails}
 
 module _ {S : Type 0} (one : List Name → Members → Reading S) where
@@ -38,16 +42,28 @@ module _ {S : Type 0} (one : List Name → Members → Reading S) where
   ended earlier xs (WordThen at bytes more) none = absurd cc
   ended earlier xs (ListThen at inner more) none = absurd cc
 
--- ---- whether a section is there
+-- ---- what each section that is read has
 
-pub has_none : (keyword : List ℕ) (m : Members) → is_empty m ≡ true → has_section keyword m ≡ false
-unfolding has_section
-has_none keyword NoMore none = refl
-has_none keyword (WordThen at bytes more) none = absurd cc
-has_none keyword (ListThen at inner more) none = absurd cc
+module _ {K S : Type 0} (key_of : List ℕ → Option K) (section_of : K → At → Members → Reading S) (P : S → Type 0) where
+  keyed_has : ((key : K) (at : At) (m : Members) (s : S) → section_of key at m ≡ Reads s → P s) →
+      (repeats : Bool) (key : Option K) (at : At) (m : Members) (s : S) → keyed_section section_of repeats key at m ≡ Reads s → P s
+  keyed_has of repeats None at m s e = absurd (refused_never (unsupported at) s e)
+  keyed_has of true (Some key) at m s e = absurd (refused_never (repeated at) s e)
+  keyed_has of false (Some key) at m s e = of key at m s e
 
-pub has_first : (keyword : List ℕ) (m : Members) → is_empty m ≡ false → has_section keyword m ≡ ((is_list m && is_word keyword (inside m)) || has_section keyword (rest m))
-unfolding has_section
-has_first keyword NoMore some = absurd cc
-has_first keyword (WordThen at bytes more) some = refl
-has_first keyword (ListThen at inner more) some = refl
+  pub section_has : ((key : K) (at : At) (m : Members) (s : S) → section_of key at m ≡ Reads s → P s) →
+      (earlier : List Name) (m : Members) (s : S) → section key_of section_of earlier m ≡ Reads s → P s
+  section_has of earlier m s e = by (begins_with_colon (word (inside m))) e
+    where
+      by : (keyed : Bool) → (if keyed then keyed_section section_of (is_repeated earlier (word (inside m))) (key_of (word (inside m))) (position m) (rest (inside m)) else refused (malformed places.Section (position m))) ≡ Reads s → P s
+      by true found = keyed_has of (is_repeated earlier (word (inside m))) (key_of (word (inside m))) (position m) (rest (inside m)) s found
+      by false found = absurd (refused_never (malformed places.Section (position m)) s found)
+
+pub sections_have : {S : Type 0} (P : S → Type 0) (one : List Name → Members → Reading S) → ((earlier : List Name) (m : Members) (s : S) → one earlier m ≡ Reads s → P s) →
+    (earlier : List Name) (m : Members) (ss : List S) → sections one earlier m ≡ Reads ss → All P ss
+unfolding sections
+sections_have P one each earlier NoMore ss e = nothing_has P ss e
+sections_have P one each earlier (WordThen at word more) ss e = sections_have P one each earlier more ss e
+sections_have P one each earlier (ListThen at inside more) ss e =
+    pairs_have P (one earlier (ListThen at inside more)) (sections one (earlier ++ word inside ∷ []) more)
+    (each earlier (ListThen at inside more)) (sections_have P one each (earlier ++ word inside ∷ []) more) ss e

@@ -13,7 +13,8 @@ use Rattle.pddl_parser.specs.declared.types.Problem.{Problem}
 use Rattle.pddl_parser.specs.declared.end.ParseEnd.{ParseEnd}
 use Rattle.pddl_parser.specs.declared.end.ParseEnd.TheVariants as parse_ends
 use Rattle.pddl_parser.specs.Outcome.{Reading, Reads, Faults, first}
-use Rattle.pddl_parser.specs.Reading.{domain_reading, problem_reading}
+use Rattle.domain_parser.specs.Reading.{domain_reading}
+use Rattle.problem_parser.specs.Reading.{problem_reading}
 use Rattle.pddl_parser.specs.Spelled.{IsWellSpelled, IsWellSpelledProblem}
 use Rattle.type_checker.specs.Checked.{Pair, IsChecked, ChecksTo}
 use Rattle.type_checker.specs.Faults.{SidedFault, check_faults}

@@ -1,0 +1,13 @@
+use Rattle.std.proofs.Common.{◌≡◌}
+use Rattle.std.specs.Prelude.{[], map}
+use Rattle.pddl_lexer.specs.Members.{count}
+use Rattle.pddl_parser.specs.Outcome.{first}
+use Rattle.domain_parser.specs.Reading.{sections, domain_section}
+use Rattle.pddl_parser.proofs.Rows.{after}
+use Rattle.domain_parser.proofs.domain.sections.Given as goal
+
+abbrev pub invariant-loop-cursor : goal.invariant-loop-cursor
+invariant-loop-cursor l = after l.sections.items (sections domain_section (map (λ word. word.now) l.earlier.items) l.cursor) ≡ first (sections domain_section [] l.members)
+
+abbrev pub decreases-loop-cursor : goal.decreases-loop-cursor
+decreases-loop-cursor l = count l.cursor

@@ -1,0 +1,12 @@
+use Rattle.std.proofs.Common.{◌≡◌}
+use Rattle.pddl_lexer.specs.Members.{count}
+use Rattle.domain_parser.specs.Reading.{heads}
+use Rattle.pddl_parser.specs.Outcome.{first}
+use Rattle.pddl_parser.proofs.Rows.{after}
+use Rattle.domain_parser.proofs.function.functions.Given as goal
+
+abbrev pub invariant-loop-cursor : goal.invariant-loop-cursor
+invariant-loop-cursor l = after l.heads.items (heads l.cursor) ≡ first (heads l.members)
+
+abbrev pub decreases-loop-cursor : goal.decreases-loop-cursor
+decreases-loop-cursor l = count l.cursor

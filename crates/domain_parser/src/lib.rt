@@ -1,0 +1,8 @@
+//! PDDL domains: what a domain file says, read from its nested lists.
+#![tactic(auto)]
+
+mod action;
+mod domain;
+mod function;
+
+pub use domain::parse_domain;

@@ -1,0 +1,7 @@
+//! PDDL problems: what a problem file says, read from its nested lists.
+#![tactic(auto)]
+
+mod init;
+mod problem;
+
+pub use problem::parse_problem;
