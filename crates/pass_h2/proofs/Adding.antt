@@ -5,7 +5,8 @@ use Rattle.std.proofs.lemmas.Bool.{cases_eq, cases_lt, false≢true}
 use Rattle.std.proofs.lemmas.List.{length-set, get_or-set_same, get_or-set_other, get_or_past, get_or_default}
 use Rattle.lists.proofs.Members.{no_member, member_first, member_later, member_cases}
 use Rattle.sas_task.specs.declared.parts.Pair.{Pair}
-use Rattle.pass_h2.specs.Search.{Finds, high, low, number_in, mark_or, found, with_mark, with_pair, with_each, with_all, is_touched}
+use Rattle.fact_pairs.specs.Finds.{Finds, high, low, number_in, mark_or, found, with_mark, is_touched}
+use Rattle.pass_h2.specs.Search.{with_pair, with_each, with_all}
 use Rattle.pass_h2.proofs.Numbers.{one_number}
 use Rattle.pass_h2.proofs.Rows.{ordered, low_high, low_below, high_turned, low_turned, which, open_in, has_place, marked_here, marked_there, row_lengths, fewer_open}
 

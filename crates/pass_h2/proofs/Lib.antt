@@ -1,5 +1,3 @@
-mod Bits
-mod Ranges
 mod Numbers
 mod Rows
 mod Adding

@@ -11,8 +11,9 @@ use Rattle.sas_task.specs.Task.{Task}
 use Rattle.sas_task.specs.Valid.{IsValid, IsFact}
 use Rattle.sas_task.proofs.ValidParts.{effect_law}
 use Rattle.pass_possible.specs.Possible.{is_mixed, names, fact_of, Pairs, all_pairs, is_possible, HasPossible}
-use Rattle.pass_h2.specs.Facts.{all_facts, starts}
-use Rattle.pass_h2.specs.Search.{Finds, number_in, found, with_all, led_to, looked, stays_beside}
+use Rattle.fact_pairs.specs.Facts.{all_facts, starts}
+use Rattle.fact_pairs.specs.Finds.{Finds, number_in, found}
+use Rattle.pass_h2.specs.Search.{with_all, led_to, looked, stays_beside}
 use Rattle.pass_h2.proofs.Numbers.{has_number, numbered}
 use Rattle.pass_h2.proofs.Adding.{Shaped, Adds, Any, nothing_more, both, all_adds, all_found, found_low}
 

@@ -14,8 +14,9 @@ use Rattle.sas_task.specs.Task.{Task}
 use Rattle.sas_task.specs.Pairs.{pair}
 use Rattle.sas_task.specs.Valid.{IsValid, IsValue, IsFact}
 use Rattle.pass_possible.specs.Possible.{all_pairs, is_possible, is_mixed, IsInitial, ArePossible}
-use Rattle.pass_h2.specs.Search.{Finds, number_in, found, looked, looked_at, settled, is_touched, is_woken, is_woken_at, woken, turned, high, low, nothing, initial_pairs}
-use Rattle.pass_h2.specs.Facts.{all_facts, initial_facts}
+use Rattle.fact_pairs.specs.Finds.{Finds, number_in, found, settled, is_touched, is_woken, is_woken_at, high, low, nothing}
+use Rattle.pass_h2.specs.Search.{looked, looked_at, woken, turned, initial_pairs}
+use Rattle.fact_pairs.specs.Facts.{all_facts, initial_facts}
 use Rattle.pass_h2.proofs.Numbers.{has_number}
 use Rattle.pass_h2.proofs.Rows.{low_high}
 use Rattle.pass_h2.proofs.Adding.{Shaped, Adds, Any, nothing_more, both, all_adds, all_found, found_turned, found_low, below_both, some_touched, open_count}

@@ -1,10 +1,7 @@
 //! The h2 pass: a task without what no pair of facts allows.
 #![tactic(auto)]
 
-mod facts;
-mod marks;
 mod pruning;
 mod search;
-mod table;
 
 pub use pruning::prune;

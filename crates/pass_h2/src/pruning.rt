@@ -1,64 +1,21 @@
 // The task with its possible operators and values alone.
 
-ghost use Rattle.std.specs.Prelude.{◌≡◌, ◌==◌, ◌&&◌, ◌||◌, ◌<◌, true, length, map, filter, is_none, IfOk};
-ghost use Rattle.std.specs.List.{list_all, list_any, range_with_len};
+ghost use Rattle.std.specs.Prelude.{◌≡◌, ◌==◌, ◌&&◌, ◌||◌, ◌<◌, true, length, map, filter, IfOk};
+ghost use Rattle.std.specs.List.{list_any, range_with_len};
 ghost use Rattle.sas_restriction.specs.Everything.{all_values};
 ghost use Rattle.sas_restriction.specs.Listed.{with_operators};
 ghost use Rattle.pass_possible.specs.Possible as possible;
 ghost use Rattle.pass_possible.specs.Pruned.{HasPossibleAlone, IsPruned};
 ghost use Rattle.pass_possible.specs.Pruned as pruned;
-ghost use Rattle.pass_h2.specs.Search.{found, nothing};
+ghost use Rattle.fact_pairs.specs.Finds.{found, nothing};
 
 use crate::search::{is_possible, mark_possible};
-use crate::table::Table;
+use fact_pairs::{Table, is_in_goal, is_plain, variables};
 use lists::List;
 use restricted_task::restrict;
 use sas_restriction::{Chosen, Once, is_valid};
 use sas_task::{Operator, Pair, SasTask};
 use std::alloc::{AllocError, Global};
-
-/// Whether no effect of the operator has a condition.
-fn is_unconditional(operator: &Operator) -> bool
-    ensures { result ≡ list_all (λ e. length e.conditions == 0) operator.now.effects }
-{
-    let mut effects = operator.effects.as_slice().iter();
-    effects.all(|effect| effect.conditions.as_slice().is_empty())
-}
-
-/// Whether no variable is derived.
-fn has_no_layer(task: &SasTask) -> bool
-    ensures { result ≡ list_all (λ v. is_none v.layer) task.now.variables }
-{
-    for var in 0..task.variables() {
-        if task.variable(var).layer.is_some() {
-            return false;
-        }
-    }
-    true
-}
-
-/// Whether no effect of an operator has a condition.
-fn has_no_condition(task: &SasTask) -> bool
-    ensures { result ≡ list_all (λ o. list_all (λ e. length e.conditions == 0) o.effects) task.now.operators }
-{
-    task.operator_slice()
-        .iter()
-        .all(|operator| is_unconditional(operator))
-}
-
-/// Whether no variable is derived, there is no rule, and no effect has a condition.
-fn is_plain(task: &SasTask) -> bool
-    ensures { result ≡ possible.is_plain task.now }
-{
-    has_no_layer(task) && task.rule_slice().is_empty() && has_no_condition(task)
-}
-
-/// Whether the value is in the goal.
-fn is_in_goal(goal: &[Pair], var: u64, val: u64) -> bool
-    ensures { result ≡ list_any (λ p. (p.var == var) && (p.val == val)) goal.now }
-{
-    goal.iter().any(|pair| pair.var == var && pair.val == val)
-}
 
 /// Whether the value is possible or in the goal.
 fn is_wanted(table: &Table, goal: &[Pair], var: u64, val: u64) -> bool
@@ -121,13 +78,6 @@ fn possible_marks(
         .iter()
         .map(|operator| is_possible(table, operator))
         .collect(alloc)
-}
-
-/// All variables, by their numbers.
-fn variables(alloc: Global, task: &SasTask) -> Result<Vec<u64>, AllocError>
-    ensures { IfOk result (λ vars. vars.items ≡ map (λ n. n) (range_with_len 0 (length task.now.variables))) }
-{
-    (0..task.variables()).map(|var| var).collect(alloc)
 }
 
 /// All variables, each with its values that are possible or in the goal.

@@ -1,60 +1,54 @@
 // The possible pairs: the least set with those of the written state that is closed under operators.
 
-ghost use Rattle.std.specs.Prelude.{◌≡◌, ◌==◌, ◌&&◌, not, map, filter, fold, length, IfOk, OnOk};
-ghost use Rattle.std.specs.List.{list_all, list_any, range_with_len};
+ghost use Rattle.std.specs.Prelude.{◌≡◌, filter, fold, IfOk, OnOk};
 ghost use Rattle.sas_task.specs.Valid.{IsValid};
 ghost use Rattle.pass_possible.specs.Possible.{ArePossible};
 ghost use Rattle.pass_possible.specs.Possible as possible;
+ghost use Rattle.fact_pairs.specs.Finds as pairs;
 ghost use Rattle.pass_h2.specs.Search as words;
 
-use crate::facts::{facts_of, initial_facts};
-use crate::table::Table;
-use sas_task::{Effect, Operator, Pair, SasTask};
+use fact_pairs::{
+    Table, all_marked, all_places, facts_of, goes_with, initial_facts, is_mixed, names, wakes_at,
+};
+use sas_task::{Operator, Pair, SasTask};
 use std::alloc::{AllocError, Global};
 
-/// Whether one of the effects gives the effect's variable another value.
-fn disagrees(effect: &Effect, effects: &[Effect]) -> bool
-    ensures { result ≡ list_any (λ b. (effect.now.var == b.var) && not (effect.now.after == b.after)) effects.now }
+/// Marks the pair, if it has a place and no mark.
+fn add(table: &mut Table, front: &Pair, back: &Pair)
+    ensures { table.new ≡ words.with_pair table.old front.now back.now }
 {
-    effects.iter().any(|other| effect.var == other.var && effect.after != other.after)
+    let (i, j) = (table.number(front), table.number(back));
+    let is_marked = if i < j {
+        table.mark_or(true, j, i)
+    } else {
+        table.mark_or(true, i, j)
+    };
+    if !is_marked {
+        table.set(i, j);
+    }
 }
 
-/// Whether two effects give one variable two values.
-fn is_mixed(operator: &Operator) -> bool
-    ensures { result ≡ possible.is_mixed operator.now }
+/// Marks the fact with each of the others.
+fn add_each(table: &mut Table, fact: &Pair, others: &[Pair])
+    ensures { table.new ≡ words.with_each fact.now table.old others.now }
 {
-    let effects = operator.effects.as_slice();
-    effects.iter().any(|effect| disagrees(effect, effects))
+    for other in others {
+        add(table, fact, other);
+    }
 }
 
-/// Whether some effect of the operator is on the variable.
-fn names(operator: &Operator, var: u64) -> bool
-    ensures { result ≡ possible.names operator.now var }
+/// Marks each of the facts with each of the others.
+fn add_all(table: &mut Table, facts: &[Pair], others: &[Pair])
+    ensures { table.new ≡ words.with_all others.now table.old facts.now }
 {
-    operator
-        .effects
-        .as_slice()
-        .iter()
-        .any(|effect| effect.var == var)
-}
-
-/// Whether the fact is marked with each of these.
-fn goes_with(table: &Table, fact: &Pair, pairs: &[Pair]) -> bool
-    ensures { result ≡ list_all (λ p. words.found table.now fact.now p) pairs.now }
-{
-    pairs.iter().all(|pair| table.has(fact, pair))
-}
-
-/// Whether all pairs of the facts are marked.
-fn all_marked(table: &Table, facts: &[Pair]) -> bool
-    ensures { result ≡ possible.all_pairs (words.found table.now) facts.now }
-{
-    facts.iter().all(|fact| goes_with(table, fact, facts))
+    for fact in facts {
+        add_each(table, fact, others);
+    }
 }
 
 /// Whether the operator isn't mixed and all pairs of its conditions are marked.
 pub(crate) fn is_possible(table: &Table, operator: &Operator) -> bool
-    ensures { result ≡ possible.is_possible (words.found table.now) operator.now }
+    ensures { result ≡ possible.is_possible (pairs.found table.now) operator.now }
 {
     !is_mixed(operator) && all_marked(table, operator.conditions.as_slice())
 }
@@ -86,8 +80,8 @@ fn add_successors(alloc: Global, table: &mut Table, operator: &Operator) -> Resu
 {
     let facts = facts_of(alloc, operator.effects.as_slice())?;
     let beside = facts_beside(alloc, table, operator)?;
-    table.add_all(facts.as_slice(), facts.as_slice());
-    table.add_all(facts.as_slice(), beside.as_slice());
+    add_all(table, facts.as_slice(), facts.as_slice());
+    add_all(table, facts.as_slice(), beside.as_slice());
     Ok(())
 }
 
@@ -130,15 +124,6 @@ fn look_at_all(
     Ok(())
 }
 
-fn wakes_at(table: &Table, operators: &[Operator], place: u64) -> bool
-    ensures { result ≡ words.is_woken_at operators.now table.now place }
-{
-    match operators.get(place as usize) {
-        Some(operator) => table.wakes(operator),
-        None => false,
-    }
-}
-
 /// The places of the operators that need a pair which was marked since the marks were settled.
 fn woken(alloc: Global, table: &Table, operators: &[Operator]) -> Result<Vec<u64>, AllocError>
     ensures { IfOk result (λ queue. queue.items ≡ words.woken operators.now table.now) }
@@ -151,11 +136,11 @@ fn woken(alloc: Global, table: &Table, operators: &[Operator]) -> Result<Vec<u64
 
 /// Marks the pairs of facts of the written state, where no pair is marked.
 fn mark_initial(alloc: Global, table: &mut Table, task: &SasTask) -> Result<(), AllocError>
-    requires { table.now ≡ words.nothing task.now }
+    requires { table.now ≡ pairs.nothing task.now }
     ensures { OnOk result (table.new ≡ words.initial_pairs task.now) }
 {
     let facts = initial_facts(alloc, task)?;
-    table.add_all(facts.as_slice(), facts.as_slice());
+    add_all(table, facts.as_slice(), facts.as_slice());
     Ok(())
 }
 
@@ -174,15 +159,6 @@ fn turn(
     woken(alloc, table, operators)
 }
 
-/// All places of operators.
-fn all_places(alloc: Global, operators: &[Operator]) -> Result<Vec<u64>, AllocError>
-    ensures { IfOk result (λ queue. queue.items ≡ map (λ n. n) (range_with_len 0 (length operators.now))) }
-{
-    (0..operators.len() as u64)
-        .map(|place| place)
-        .collect(alloc)
-}
-
 /// Marks the possible pairs of facts, where no pair is marked. Beside the operators that are looked at first, an operator
 /// is looked at again only where a pair that it needs was marked in the turn before.
 pub(crate) fn mark_possible(
@@ -191,8 +167,8 @@ pub(crate) fn mark_possible(
     task: &SasTask,
 ) -> Result<(), AllocError>
     requires valid { IsValid task.now }
-    requires open { table.now ≡ words.nothing task.now }
-    ensures { OnOk result (ArePossible task.now (words.found table.new)) }
+    requires open { table.now ≡ pairs.nothing task.now }
+    ensures { OnOk result (ArePossible task.now (pairs.found table.new)) }
 {
     mark_initial(alloc, table, task)?;
     let operators = task.operator_slice();

@@ -1,6 +1,6 @@
 -- The possible values are a list for each variable.
 use Rattle.std.proofs.lemmas.Result.{IfOk-weaker}
-use Rattle.pass_h2.specs.Search.{found}
+use Rattle.fact_pairs.specs.Finds.{found}
 use Rattle.pass_h2.proofs.Left.{choice_is, inside, rising}
 use Rattle.pass_h2.proofs.pruning.chosen.Goals as goal
 

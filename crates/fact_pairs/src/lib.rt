@@ -1,0 +1,11 @@
+//! Pairs of facts of a task: a table in which they are marked, and what the h2 pass asks of marked pairs and of a task.
+#![tactic(auto)]
+
+mod facts;
+mod marks;
+mod table;
+
+pub use facts::{
+    all_places, facts_of, initial_facts, is_in_goal, is_mixed, is_plain, names, variables,
+};
+pub use table::{Table, all_marked, goes_with, wakes_at};
