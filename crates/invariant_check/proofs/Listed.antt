@@ -14,12 +14,11 @@ use Rattle.normal_task.specs.Lawful.{differ, is_rising}
 use Rattle.contradictions.specs.declared.types.Candidate.{Candidate}
 use Rattle.contradictions.specs.declared.types.Part.{Part}
 use Rattle.contradictions.specs.Candidates.{at_positions}
-use Rattle.invariant_check.specs.Extensions.{changing, parts_of, part_at, put_in, renamed, rising_places, in_form, with_part, has_predicate, one_predicate, extensions}
+use Rattle.candidate_parts.specs.Extensions.{changing, parts_of, part_at, put_in, renamed, rising_places, in_form, with_part, has_predicate, one_predicate, extensions}
 use Rattle.invariant_check.specs.Names.{of_parts, IsNaming, named, AreSame, with_one_more, HasOneMore, OnePredicateIsAll, ExtensionsAreAll, SameAreEqual}
 use Rattle.invariant_check.specs.WellFormed.{is_part_for, is_named_by_first, is_well_formed}
 use Rattle.normal_task.proofs.RisingLists.{differ_once, once_differ, same_rising}
 use Rattle.invariant_check.proofs.FormedParts.{IsPartFor, part_facts, part_test, AreFormed, predicates, formed_facts}
-use Rattle.invariant_check.proofs.PartsOf.{part_listed}
 use Rattle.invariant_check.proofs.OnePredicate.{among_changing, one_predicate_formed, one_part, one_listed}
 use Rattle.invariant_check.proofs.NamedAnew.{first_once, of_first, in_rising, rising-once, rising-many, found_first, rising_is}
 use Rattle.invariant_check.proofs.Extended.{put_among, among_put, kept_put, rising_put, extension_formed, IsNewPart, lacks, is_lacked, extended, extends}

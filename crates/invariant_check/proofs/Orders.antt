@@ -1,23 +1,21 @@
 -- The orders of positions are what the iterator over permutations gives, and a part is put in by its place.
-use Rattle.std.proofs.Common.{◌≡◌, ℕ, zero, suc, ◌+◌, ◌-◌, ◌<◌, ◌≤◌, Bool, true, false, not, cond, ltb, List, [], ◌∷◌, ◌++◌, map, length, get_or, refl, sym, ap, ◌∙◌, subst, arith, append-nil, append_assoc, length-append, inl, inr, Global}
+use Rattle.std.proofs.Common.{◌≡◌, ℕ, zero, suc, ◌+◌, ◌-◌, ◌<◌, ◌≤◌, Bool, true, false, not, cond, ltb, List, [], ◌∷◌, ◌++◌, map, length, get_or, refl, sym, ap, ◌∙◌, subst, arith, append_assoc, length-append, inl, inr, Global}
 use Rattle.std.specs.Vec.{vec_len}
 use Rattle.std.specs.Prelude.{nat_eq, nat_lt, Option, Some, None, if◌then◌else◌}
 use Rattle.std.specs.Option.{unwrap_or}
-use Rattle.std.specs.List.{IsDistinct, AllByRecursion, flat_map, range_with_len, position, position_or_len, remove, insert}
+use Rattle.std.specs.List.{IsDistinct, AllByRecursion, flat_map, position, position_or_len, remove, insert}
 use Rattle.std.proofs.lemmas.Bool.{ltb-false, true≢false, false_from_ne_true, eqb-true, eq-eqb}
 use Rattle.std.proofs.lemmas.List.{map-append}
 use Rattle.std.proofs.lemmas.List.Edits.{length-remove}
 use Rattle.std.proofs.lemmas.List.Sums.{prefix_len-le-length}
 use Rattle.std.proofs.lemmas.Simd.{map-map}
-use Rattle.std.proofs.lemmas.List.Concat.{flat_map-append}
 use Rattle.lists.proofs.Items.{Among, map_flat_map}
-use Rattle.lists.proofs.LoopSteps.{range_next}
 use Rattle.lists.proofs.NoRepeats.{Once}
 use Rattle.itertools.specs.Odometer.{ways, numbers}
 use Rattle.itertools.specs.declared.combinations.Permutations.{Permutations}
 use Rattle.itertools.specs.Pool.{unranked, permutation_left, ClonesAt}
 use Rattle.contradictions.specs.declared.types.Part.{Part}
-use Rattle.invariant_check.specs.Extensions.{left_by, countings, without, orders, part_at, put_in}
+use Rattle.candidate_parts.specs.Extensions.{left_by, without, orders, part_at, put_in}
 use Rattle.invariant_check.proofs.PartsOf.{once_left}
 use Rattle.std.proofs.Math.Seq.{get_or-append_seam}
 
@@ -273,30 +271,3 @@ pub all_parts : (predicate : ℕ) (counted : Option ℕ) (pool positions : List 
 all_parts predicate counted pool positions k same distinct =
     sym (map-map (part_at predicate counted) (read pool) (ways low (high (length pool)) k []))
     ∙ ap (map (part_at predicate counted)) (all_orders pool k (subst Apart (sym same) (apart-from_distinct positions distinct)) ∙ ap (λ l. orders l k) same)
-
--- ---- one more counted position
-
-countings_next : (n : ℕ) → countings (n + 1) ≡ countings n ++ Some n ∷ []
-countings_next n =
-    let e : 0 + n ≡ n = omega arith in
-    ap (λ l. None ∷ map Some l) (range_next 0 n ∙ ap (λ m. range_with_len 0 n ++ m ∷ []) e)
-    ∙ ap (λ l. None ∷ l) (map-append Some (range_with_len 0 n) (n ∷ []))
-
-pub one_more_counted : {X : Type 0} (f : Option ℕ → X) (start before after : List X) (n : ℕ) →
-    after ≡ before ++ f (Some n) ∷ [] → before ≡ start ++ map f (countings n) → after ≡ start ++ map f (countings (n + 1))
-one_more_counted f start before after n pushed so_far =
-    pushed
-    ∙ ap (λ l. l ++ f (Some n) ∷ []) so_far
-    ∙ append_assoc start (map f (countings n)) (f (Some n) ∷ [])
-    ∙ ap (λ l. start ++ l) (sym (map-append f (countings n) (Some n ∷ [])) ∙ ap (map f) (sym (countings_next n)))
-
-pub all_more_counted : {X : Type 0} (f : Option ℕ → List X) (start before after : List X) (n : ℕ) →
-    after ≡ before ++ f (Some n) → before ≡ start ++ flat_map f (countings n) → after ≡ start ++ flat_map f (countings (n + 1))
-all_more_counted f start before after n pushed so_far =
-    pushed
-    ∙ ap (λ l. l ++ f (Some n)) so_far
-    ∙ append_assoc start (flat_map f (countings n)) (f (Some n))
-    ∙ ap (λ l. start ++ l) (
-    ap (λ l. flat_map f (countings n) ++ l) (sym (append-nil (f (Some n))))
-    ∙ sym (flat_map-append f (countings n) (Some n ∷ []))
-    ∙ ap (flat_map f) (sym (countings_next n)))

@@ -1,5 +1,4 @@
 pub mod Accepted
-pub mod Extensions
 pub mod WellFormed
 pub mod Names
 pub mod Repairs

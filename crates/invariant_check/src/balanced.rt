@@ -1,5 +1,5 @@
 // When a candidate is balanced: each add effect's atom is true already, or an atom of the same instance is deleted.
-ghost use Rattle.std.specs.Prelude.{◌≡◌, ◌++◌, ◌∷◌, [], ◌&&◌, not, nat_eq, true, drop, zip, length, IfOk};
+ghost use Rattle.std.specs.Prelude.{◌≡◌, ◌++◌, ◌∷◌, [], ◌&&◌, not, true, drop, zip, length, IfOk};
 ghost use Rattle.std.specs.Cmp.Lexicographic.{pointwise};
 ghost use Rattle.std.specs.List.{list_all, list_any};
 ghost use Rattle.normal_task.specs.declared.task.Literal.TheVariants.{Holds};
@@ -14,6 +14,7 @@ ghost use Rattle.invariant_check.specs.Attempts as words;
 use crate::extensions::has_predicate;
 use crate::light::{apart, push_kept, ranges_of, required};
 use crate::tried::{are_fitting, tried};
+use candidate_parts::is_add_of;
 use contradictions::{
     Candidate, Case, Part, Ranges, Renamed, Renaming, are_same, copy, is_contradictory,
     is_same_place, push_denied, renamed_row, terms_at, zipped,
@@ -139,13 +140,6 @@ fn added_beside(
     push_kept(alloc, &mut literals, condition)?;
     push_denied(alloc, &mut literals, row.predicate, row.places.as_slice())?;
     Ok(literals)
-}
-
-/// The effect adds atoms of the predicate.
-fn is_add_of(row: &EffectRow, predicate: u64) -> bool
-    ensures { result ≡ (row.now.adds && nat_eq row.now.predicate predicate) }
-{
-    row.adds && row.predicate == predicate
 }
 
 /// The effect doesn't add the atom of the predicate with these places where the other adds.

@@ -1,11 +1,12 @@
 // Candidates with one part, and those with one part more than a candidate.
-ghost use Rattle.std.specs.Prelude.{◌≡◌, ◌++◌, ◌∷◌, ◌≤◌, ◌-◌, [], not, nat_eq, nat_lt, length, map, get_or, take, IfOk, OnOk};
+ghost use Rattle.std.specs.Prelude.{◌≡◌, ◌++◌, ◌∷◌, ◌≤◌, ◌-◌, [], not, nat_eq, length, map, get_or, take, IfOk, OnOk};
 ghost use Rattle.std.specs.List.{IsDistinct, filter, list_any, flat_map, range_with_len, position, position_or_len};
 ghost use Rattle.std.specs.Vec.{vec_len};
 ghost use Rattle.itertools.specs.Odometer.{ways};
 ghost use Rattle.itertools.specs.Pool.{permutation_can, permutation_left};
-ghost use Rattle.invariant_check.specs.Extensions as spec;
+ghost use Rattle.candidate_parts.specs.Extensions as spec;
 
+use candidate_parts::{arity_of, first_above, left_by, push_candidates};
 use contradictions::{Candidate, Part, copies};
 use itertools::{Itertools, Permutations};
 use lists::List;
@@ -22,15 +23,6 @@ fn is_changing(normal: &Normal, predicate: u64) -> bool
     }
 }
 
-fn arity_of(normal: &Normal, predicate: u64) -> u64
-    ensures { result ≡ spec.arity_of normal.now predicate }
-{
-    match normal.predicates.as_slice().get(predicate as usize) {
-        Some(row) => row.arity,
-        None => 0,
-    }
-}
-
 /// The predicates that effects change, in their order.
 fn changing(alloc: Global, normal: &Normal) -> Result<Vec<u64>, AllocError>
     ensures { IfOk result (λ predicates. predicates.items ≡ spec.changing normal.now) }
@@ -39,64 +31,6 @@ fn changing(alloc: Global, normal: &Normal) -> Result<Vec<u64>, AllocError>
     (0..count)
         .filter(|predicate| is_changing(normal, *predicate))
         .collect(alloc)
-}
-
-fn is_counted(counted: Option<u64>, position: u64) -> bool
-    ensures { result ≡ spec.is_counted counted position }
-{
-    match counted {
-        Some(own) => position == own,
-        None => false,
-    }
-}
-
-/// The argument positions that are left to the parameters: all but the counted one.
-fn left_by(alloc: Global, arity: u64, counted: Option<u64>) -> Result<Vec<u64>, AllocError>
-    ensures { IfOk result (λ positions. positions.items ≡ spec.left_by arity counted) }
-{
-    (0..arity)
-        .filter(|position| !is_counted(counted, *position))
-        .collect(alloc)
-}
-
-/// The candidate with one part, each position but the counted one a parameter in its turn.
-fn with_one(
-    alloc: Global,
-    predicate: u64,
-    arity: u64,
-    counted: Option<u64>,
-) -> Result<Candidate, AllocError>
-    ensures { IfOk result (λ candidate. candidate ≡ spec.with_one predicate arity counted) }
-{
-    let places = left_by(alloc, arity, counted)?;
-    let parameters = places.len() as u64;
-    let mut parts = Vec::new(alloc);
-    parts.push(Part {
-        predicate,
-        places: List::from_vec(places),
-        counted,
-    })?;
-    Ok(Candidate {
-        parameters,
-        parts: List::from_vec(parts),
-    })
-}
-
-/// The candidates of one predicate: with no counted position, and then by the counted one.
-fn push_candidates(
-    alloc: Global,
-    candidates: &mut Vec<Candidate>,
-    normal: &Normal,
-    predicate: u64,
-) -> Result<(), AllocError>
-    ensures { OnOk result (candidates.new.items ≡ candidates.old.items ++ map (spec.with_one predicate (spec.arity_of normal.now predicate)) (spec.countings (spec.arity_of normal.now predicate))) }
-{
-    let arity = arity_of(normal, predicate);
-    candidates.push(with_one(alloc, predicate, arity, None)?)?;
-    for position in 0..arity {
-        candidates.push(with_one(alloc, predicate, arity, Some(position))?)?;
-    }
-    Ok(())
 }
 
 /// The candidates with one predicate, by predicate. Of one predicate, the one without a counted position comes first,
@@ -219,13 +153,6 @@ fn parts_beside(
         push_parts(alloc, &mut parts, normal, candidate.parameters, *predicate)?;
     }
     Ok(parts)
-}
-
-/// Where the first of the parts stands that have a higher predicate.
-fn first_above(parts: &[Part], predicate: u64) -> Option<usize>
-    ensures { result ≡ position (λ other. nat_lt predicate other.predicate) parts.now }
-{
-    parts.iter().position(|other| predicate < other.predicate)
 }
 
 /// The part put among the others, by predicate.

@@ -1,18 +1,18 @@
 // When a candidate is light: no two add effects of a schema add two atoms of one instance together.
-ghost use Rattle.std.specs.Prelude.{◌≡◌, ◌++◌, ◌∷◌, [], ◌&&◌, nat_eq, map, length, IfOk, OnOk};
+ghost use Rattle.std.specs.Prelude.{◌≡◌, ◌++◌, ◌∷◌, [], map, length, IfOk, OnOk};
 ghost use Rattle.std.specs.List.{list_all};
-ghost use Rattle.contradictions.specs.Contradictory as terms;
-ghost use Rattle.contradictions.specs.Merges.{as_pair, all_ranges, have_one_leader};
+ghost use Rattle.contradictions.specs.Merges.{as_pair, all_ranges};
 ghost use Rattle.contradictions.specs.Renamings.{denied_atom};
 ghost use Rattle.contradictions.specs.declared.renaming.Renaming.TheVariants.{Apart};
 ghost use Rattle.invariant_check.specs.Accepted as spec;
 ghost use Rattle.invariant_check.specs.Attempts as words;
 
+use candidate_parts::{AddedAtom, are_one};
 use contradictions::{
-    Candidate, Case, Pair, Part, Ranges, Renamed, Renaming, are_same, classes, contradicts,
-    push_denied, push_renamed, renamed_row, terms_at, zipped,
+    Candidate, Case, Part, Ranges, Renamed, Renaming, classes, contradicts, push_denied,
+    push_renamed, renamed_row, terms_at, zipped,
 };
-use normal_task::{EffectRow, Literal, Normal, Place, Schema};
+use normal_task::{EffectRow, Literal, Normal, Schema};
 use std::alloc::{AllocError, Global};
 
 /// Adds the literals as they are.
@@ -56,20 +56,6 @@ fn both_added(
     push_denied(alloc, &mut literals, row.predicate, row.places.as_slice())?;
     push_denied(alloc, &mut literals, predicate, beside.places.as_slice())?;
     Ok(literals)
-}
-
-/// The atom of an add effect.
-#[derive(Clone, Copy)]
-struct AddedAtom<'a> {
-    predicate: u64,
-    places: &'a [Place],
-}
-
-/// The two are one atom, by the classes that the merges tell.
-fn are_one(merges: &[Pair], one: &AddedAtom<'_>, other: &AddedAtom<'_>) -> bool
-    ensures { result ≡ (nat_eq one.now.predicate other.now.predicate && terms.are_same_terms (have_one_leader merges.now) one.now.places.now other.now.places.now) }
-{
-    one.predicate == other.predicate && are_same(merges, one.places, other.places)
 }
 
 /// With the case's terms equated, the two are one atom, or are never added together.

@@ -1,5 +1,5 @@
 use Rattle.std.proofs.Common.{◌≡◌, map, take}
-use Rattle.invariant_check.specs.Extensions.{with_part}
+use Rattle.candidate_parts.specs.Extensions.{with_part}
 use Rattle.invariant_check.proofs.extensions.extensions.Given as goal
 
 abbrev pub invariant-loop-part : goal.invariant-loop-part

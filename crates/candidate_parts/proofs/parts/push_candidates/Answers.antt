@@ -1,7 +1,7 @@
 use Rattle.std.proofs.Common.{◌∷◌, ◌++◌, [], ap, ◌∙◌}
-use Rattle.invariant_check.specs.Extensions.{with_one}
-use Rattle.invariant_check.proofs.Orders.{one_more_counted}
-use Rattle.invariant_check.proofs.extensions.push_candidates.Goals as goal
+use Rattle.candidate_parts.specs.Extensions.{with_one}
+use Rattle.candidate_parts.proofs.Countings.{one_more_counted}
+use Rattle.candidate_parts.proofs.parts.push_candidates.Goals as goal
 
 pub loop-position-preserved : goal.loop-position-preserved
 loop-position-preserved c =

@@ -1,0 +1,2 @@
+-- laws, which other crates may cite
+pub mod Countings
