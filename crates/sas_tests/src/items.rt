@@ -9,11 +9,6 @@ fn is_list_kept(alloc: Global) -> Result<bool, AllocError> {
     Ok(is_same & (list.into_vec().as_slice() == [3, 1, 4].as_slice()))
 }
 
-#[test]
-fn a_list_keeps_its_items(rt: HostRuntime) {
-    assert!(rt; matches!(is_list_kept(rt.alloc()), Ok(true)));
-}
-
 fn is_text_kept(alloc: Global) -> Result<bool, AllocError> {
     let text = Text::from_vec(Vec::from_slice(alloc, b"ball")?);
     let other = Text::from_vec(Vec::from_slice(alloc, b"bell")?);
@@ -22,6 +17,7 @@ fn is_text_kept(alloc: Global) -> Result<bool, AllocError> {
 }
 
 #[test]
-fn a_text_keeps_its_bytes(rt: HostRuntime) {
+fn a_list_keeps_its_items_and_a_text_its_bytes(rt: HostRuntime) {
+    assert!(rt; matches!(is_list_kept(rt.alloc()), Ok(true)));
     assert!(rt; matches!(is_text_kept(rt.alloc()), Ok(true)));
 }

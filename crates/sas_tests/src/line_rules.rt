@@ -346,37 +346,13 @@ static SECTIONS: [(u64, u64, SasPlace); 8] = [
 ];
 
 #[test]
-fn fixed_words_are_exactly_those(rt: HostRuntime) {
+fn lines_that_break_their_rules_are_refused(rt: HostRuntime) {
     assert_refused(&rt, rt.alloc(), HOUSE, &FIXED_WORDS);
-}
-
-#[test]
-fn counts_are_numbers(rt: HostRuntime) {
     assert_refused(&rt, rt.alloc(), HOUSE, &COUNTS);
-}
-
-#[test]
-fn variables_have_names_layers_and_ranges(rt: HostRuntime) {
     assert_refused(&rt, rt.alloc(), HOUSE, &VARIABLES);
-}
-
-#[test]
-fn pairs_are_facts_that_rise(rt: HostRuntime) {
     assert_refused(&rt, rt.alloc(), HOUSE, &PAIRS);
-}
-
-#[test]
-fn operators_keep_to_their_variables(rt: HostRuntime) {
     assert_refused(&rt, rt.alloc(), HOUSE, &OPERATORS);
-}
-
-#[test]
-fn rules_set_derived_variables_from_their_defaults(rt: HostRuntime) {
     assert_refused(&rt, rt.alloc(), HOUSE, &RULES);
-}
-
-#[test]
-fn nothing_stands_after_the_last_rule(rt: HostRuntime) {
     assert_refused(&rt, rt.alloc(), HOUSE, &ENDS);
 }
 

@@ -110,11 +110,7 @@ fn is_bell_read(alloc: Global) -> Result<bool, AllocError> {
 }
 
 #[test]
-fn what_the_planner_writes_is_read(rt: HostRuntime) {
+fn what_the_planner_writes_is_read_and_what_others_may_write_is_refused(rt: HostRuntime) {
     assert!(rt; matches!(is_bell_read(rt.alloc()), Ok(true)));
-}
-
-#[test]
-fn what_the_format_leaves_open_is_refused(rt: HostRuntime) {
     assert_refused(&rt, rt.alloc(), BELL, &REFUSED);
 }
