@@ -1,5 +1,3 @@
 -- Lemmas of this crate.
 mod Ranges
-mod NewNames
-mod FoundTypes
 mod TypeRanges

@@ -9,7 +9,7 @@ use Rattle.pddl_parser.specs.declared.types.Typed.{Typed}
 use Rattle.pddl_parser.specs.Words.{Name, is_same}
 use Rattle.pddl_parser.specs.Objects.{root, leads, has_type, has_listed_type}
 use Rattle.numbering.specs.declared.numbering.OfType.{OfType}
-use Rattle.numbering.specs.Below.{has, leads_to, has_type_among, is_any, objects_of_type, range_of_types}
+use Rattle.declarations.specs.Below.{has, leads_to, has_type_among, is_any, objects_of_type, range_of_types}
 use Rattle.normal_task.specs.Numbers.{object_number}
 use Rattle.numbering.proofs.Ranges.{ranged}
 

@@ -1,20 +1,16 @@
 // The numbers of objects, predicates and functions.
-ghost use Rattle.std.specs.Prelude.{◌≡◌, ◌++◌, ◌∷◌, [], map, length, false, IfOk, IfSome, OnOk};
-ghost use Rattle.std.specs.List.{list_any, filter, IsDistinct};
-ghost use Rattle.names.specs.Names.{is_same};
-ghost use Rattle.pddl_parser.specs.declared.types.Domain.{Domain};
-ghost use Rattle.pddl_parser.specs.declared.types.Problem.{Problem};
-ghost use Rattle.pddl_parser.specs.Objects as typing;
-ghost use Rattle.numbering.specs.Below.{has_type_among, objects_of_type, range_of_types};
-ghost use Rattle.numbering.specs.Below as spec_below;
+ghost use Rattle.std.specs.Prelude.{◌≡◌, ◌++◌, map, length, IfOk, IfSome, OnOk};
+ghost use Rattle.std.specs.List.{filter};
+ghost use Rattle.declarations.specs.Below.{has_type_among, range_of_types};
 ghost use Rattle.normal_task.specs.Numbers as spec;
 
-use crate::asked::asked_types;
-use crate::below::{Hierarchy, has_some};
+use declarations::{
+    Hierarchy, asked_types, has_some, is_any, names_of, names_of_objects, one_type,
+};
 use lists::List;
 use names::Names;
 use normal_task::ObjectRange;
-use pddl_parser::{Domain, Head, Named, Problem, Typed};
+use pddl_parser::{Domain, Named, Problem, Typed};
 use std::alloc::{AllocError, Global};
 use std::marker::Model;
 use type_checker::Checked;
@@ -48,7 +44,7 @@ impl<'a> Model for Numbering<'a> {
     ghost use Rattle.pddl_parser.specs.contracts.types.Effect as effect;
     ghost use Rattle.type_checker.specs.Checked.{Pair};
     ghost use Rattle.std.specs.Prelude.{map};
-    ghost use Rattle.numbering.specs.Below.{objects_of_type};
+    ghost use Rattle.declarations.specs.Below.{objects_of_type};
     ghost use Rattle.normal_task.specs.Numbers.{object_names, head_names};
 
     ghost Value = { Pair };
@@ -247,78 +243,4 @@ impl<'a> Numbering<'a> {
         }
         Ok(List::from_vec(ranges))
     }
-}
-
-/// The names of all objects.
-fn names_of_objects<'a>(alloc: Global, task: &'a Checked) -> Result<Names<'a>, AllocError>
-    ensures { IfOk result (λ names. names ≡ spec.object_names task.now.domain task.now.problem) }
-{
-    let domain = task.domain();
-    let problem = task.problem();
-    let mut objects = Names::new(alloc);
-    add_objects(&mut objects, domain.constants.as_slice())?;
-    add_objects(&mut objects, problem.objects.as_slice())?;
-    Ok(objects)
-}
-
-/// Adds the names of the objects, of which none is there.
-fn add_objects<'a>(names: &mut Names<'a>, objects: &'a [Typed]) -> Result<(), AllocError>
-    requires { IsDistinct is_same (names.old ++ map (λ object. object.name.name) objects.now) }
-    ensures { OnOk result (names.new ≡ names.old ++ map (λ object. object.name.name) objects.now) }
-{
-    for object in objects {
-        add_new(names, object.name.name.as_slice())?;
-    }
-    Ok(())
-}
-
-/// The names of the heads, of which no two are the same.
-fn names_of<'a>(alloc: Global, heads: &'a [Head]) -> Result<Names<'a>, AllocError>
-    requires { IsDistinct is_same (spec.head_names heads.now) }
-    ensures { IfOk result (λ names. names ≡ spec.head_names heads.now) }
-{
-    let mut names = Names::new(alloc);
-    for head in heads {
-        add_new(&mut names, head.name.name.as_slice())?;
-    }
-    Ok(names)
-}
-
-/// Adds a name that isn't there.
-fn add_new<'a>(names: &mut Names<'a>, name: &'a [u8]) -> Result<(), AllocError>
-    requires { list_any (is_same name.now) names.old ≡ false }
-    ensures { OnOk result (names.new ≡ names.old ++ name.now ∷ []) }
-{
-    names.add(name)?;
-    Ok(())
-}
-
-/// The type that is listed alone, where `object` stands for no type at all.
-fn one_type(listed: &[Named]) -> Option<&[u8]>
-    ensures { (domain : Domain) (problem : Problem) → IfSome result (λ type. objects_of_type domain problem type.now ≡ range_of_types domain problem listed.now) }
-{
-    match listed {
-        [] => Some(b"object".as_slice()),
-        [named] => Some(named.name.as_slice()),
-        _ => None,
-    }
-}
-
-/// Whether no type is listed, or `object` is.
-fn is_any(listed: &[Named]) -> bool
-    ensures { result ≡ spec_below.is_any listed.now }
-{
-    match listed {
-        [] => true,
-        _ => has_root(listed),
-    }
-}
-
-/// Whether one of the types is `object`.
-fn has_root(listed: &[Named]) -> bool
-    ensures { result ≡ list_any (λ type. is_same type.name typing.root) listed.now }
-{
-    listed
-        .iter()
-        .any(|named| named.name.as_slice() == b"object".as_slice())
 }

@@ -2,7 +2,7 @@ use Rattle.std.proofs.Common.{◌≡◌, map, sym, ap, ◌∙◌, subst, arith}
 use Rattle.names.proofs.SameNames.{same_name}
 use Rattle.type_checker.specs.Checked.{Pair}
 use Rattle.numbering.specs.declared.numbering.OfType.{OfType}
-use Rattle.numbering.specs.Below.{objects_of_type}
+use Rattle.declarations.specs.Below.{objects_of_type}
 use Rattle.numbering.proofs.TypeRanges.{known_at}
 use Rattle.numbering.proofs.numbering.Numbering.known_range.Goals as goal
 

@@ -1,0 +1,4 @@
+-- laws, which other crates may cite
+pub mod NewNames
+-- lemmas of this crate
+mod FoundTypes
