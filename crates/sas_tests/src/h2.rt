@@ -85,33 +85,28 @@ fn does_room_stay(alloc: Global) -> Result<bool, AllocError> {
     has_text(alloc, new, text.as_slice())
 }
 
+static MADE: [(&str, &str); 7] = [
+    // What no pair of facts allows is left out.
+    (HOUSE, PRUNED_HOUSE),
+    (PRUNED_HOUSE, PRUNED_HOUSE),
+    // An operator that stands twice stays twice: there are two by which one descends.
+    (
+        house!(operators 7 ["descend", 0, 1, "0 0 2 0", 1]),
+        pruned_house!(operators 4 ["descend", 0, 1, "0 0 1 0", 1]),
+    ),
+    // With a rule or an effect with a condition, and where pairs show nothing, a task stays.
+    (RESTING, RESTING),
+    (SAFE, SAFE),
+    (GATE, GATE),
+    (BACK, BACK),
+];
+
+/// The room stays too, which has rules, derived variables and effects with conditions.
 #[test]
 fn what_no_pair_of_facts_allows_is_left_out(rt: HostRuntime) {
-    for text in [HOUSE, PRUNED_HOUSE] {
-        let answer = makes(rt.alloc(), text, PRUNED_HOUSE);
-        assert!(rt; matches!(answer, Ok(true)), "{text}");
+    for row in &MADE {
+        let answer = makes(rt.alloc(), row.0, row.1);
+        assert!(rt; matches!(answer, Ok(true)), "{}", row.0);
     }
-}
-
-/// Two operators by which one descends.
-#[test]
-fn an_operator_that_stands_twice_stays_twice(rt: HostRuntime) {
-    let house = house!(operators 7 ["descend", 0, 1, "0 0 2 0", 1]);
-    let wanted = pruned_house!(operators 4 ["descend", 0, 1, "0 0 1 0", 1]);
-    assert!(rt; matches!(makes(rt.alloc(), house, wanted), Ok(true)));
-}
-
-/// The room has rules, derived variables and effects with conditions.
-#[test]
-fn a_task_that_is_not_plain_stays(rt: HostRuntime) {
-    assert!(rt; matches!(does_room_stay(rt.alloc()), Ok(true)));
-}
-
-/// With a rule or an effect with a condition, and where pairs show nothing.
-#[test]
-fn other_tasks_stay(rt: HostRuntime) {
-    for text in [RESTING, SAFE, GATE, BACK] {
-        let answer = makes(rt.alloc(), text, text);
-        assert!(rt; matches!(answer, Ok(true)), "{text}");
-    }
+    assert!(rt; matches!(does_room_stay(rt.alloc()), Ok(true)), "the room");
 }

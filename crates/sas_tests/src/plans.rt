@@ -69,31 +69,34 @@ static ROOM_STEPS: [(&[&[u8]], u64); 4] = [
 /// Whether the step has these words and this cost.
 fn is_step(step: &Step, words: &[&[u8]], cost: u64) -> bool {
     let found = step.words.as_slice();
-    step.cost == cost
-        && found.len() == words.len()
-        && found
-            .iter()
-            .zip(words)
-            .all(|(word, expected)| word.as_slice() == *expected)
+    for (word, expected) in found.iter().zip(words) {
+        if word.as_slice() != *expected {
+            return false;
+        }
+    }
+    step.cost == cost && found.len() == words.len()
 }
 
 /// Whether the plan flips the switch so often, and does nothing else.
 fn are_flips(mapped: &Mapped, flips: u64) -> bool {
     let steps = mapped.steps.as_slice();
-    steps.len() as u64 == flips
-        && mapped.total == flips
-        && steps.iter().all(|step| is_step(step, &[b"flip"], 1))
+    for step in steps {
+        if !is_step(step, &[b"flip"], 1) {
+            return false;
+        }
+    }
+    steps.len() as u64 == flips && mapped.total == flips
 }
 
 /// Whether the plan is that for the room.
 fn is_room_plan(mapped: &Mapped) -> bool {
     let steps = mapped.steps.as_slice();
-    steps.len() == ROOM_STEPS.len()
-        && mapped.total == 16
-        && steps
-            .iter()
-            .zip(&ROOM_STEPS)
-            .all(|(step, row)| is_step(step, row.0, row.1))
+    for (step, row) in steps.iter().zip(&ROOM_STEPS) {
+        if !is_step(step, row.0, row.1) {
+            return false;
+        }
+    }
+    steps.len() == ROOM_STEPS.len() && mapped.total == 16
 }
 
 /// Whether this comes of a plan.
@@ -137,11 +140,6 @@ fn room_mapped(alloc: Global) -> Result<Mapped, MapEnd> {
     found
 }
 
-#[test]
-fn steps_have_their_words_and_costs(rt: HostRuntime) {
-    assert!(rt; matches!(&room_mapped(rt.alloc()), Ok(mapped) if is_room_plan(mapped)));
-}
-
 const ROOM_STEP_LINES: &str = "(enter room)\n(press)\n(toggle)\n(enter room)\n";
 
 /// Whether these are the lines on the plan for the room, with costs that are or aren't the operators' own.
@@ -151,19 +149,20 @@ fn has_lines(alloc: Global, mapped: &Mapped, metric: bool, last: &str) -> Result
     Ok(text.as_slice() == wanted.as_bytes())
 }
 
-fn has_both_lines(alloc: Global, mapped: &Mapped) -> Result<bool, AllocError> {
+fn has_steps_and_lines(alloc: Global, mapped: &Mapped) -> Result<bool, AllocError> {
     let has_own = has_lines(alloc, mapped, true, "; cost = 16 (general cost)\n")?;
-    Ok(has_own && has_lines(alloc, mapped, false, "; cost = 16 (unit cost)\n")?)
+    let has_units = has_lines(alloc, mapped, false, "; cost = 16 (unit cost)\n")?;
+    Ok(is_room_plan(mapped) && has_own && has_units)
 }
 
-fn are_lines_told(alloc: Global) -> Result<bool, AllocError> {
+fn is_room_mapped(alloc: Global) -> Result<bool, AllocError> {
     match &room_mapped(alloc) {
-        Ok(mapped) => has_both_lines(alloc, mapped),
+        Ok(mapped) => has_steps_and_lines(alloc, mapped),
         Err(_) => Ok(false),
     }
 }
 
 #[test]
-fn a_mapped_plan_has_a_line_for_each_step(rt: HostRuntime) {
-    assert!(rt; matches!(are_lines_told(rt.alloc()), Ok(true)));
+fn a_mapped_plan_has_its_steps_and_a_line_for_each(rt: HostRuntime) {
+    assert!(rt; matches!(is_room_mapped(rt.alloc()), Ok(true)));
 }

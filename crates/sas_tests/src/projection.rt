@@ -18,16 +18,12 @@ fn is_room_its_projection(alloc: Global) -> Result<bool, AllocError> {
     is_projected_to(alloc, room(alloc)?, room(alloc)?)
 }
 
-#[test]
-fn the_room_is_its_own_projection(rt: HostRuntime) {
-    assert!(rt; matches!(is_room_its_projection(rt.alloc()), Ok(true)));
-}
-
 fn is_switch_its_projection(alloc: Global) -> Result<bool, AllocError> {
     is_projected_to(alloc, switch(alloc)?, switch(alloc)?)
 }
 
 #[test]
-fn the_switch_is_its_own_projection(rt: HostRuntime) {
+fn the_room_and_the_switch_are_their_own_projections(rt: HostRuntime) {
+    assert!(rt; matches!(is_room_its_projection(rt.alloc()), Ok(true)));
     assert!(rt; matches!(is_switch_its_projection(rt.alloc()), Ok(true)));
 }

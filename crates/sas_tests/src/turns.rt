@@ -150,10 +150,12 @@ fn are_applied(alloc: Global, rows: &[Row]) -> Result<bool, AllocError> {
 
 #[test]
 fn passes_are_applied_in_turn(rt: HostRuntime) {
-    assert!(rt; matches!(are_applied(rt.alloc(), &GATE_TURNS), Ok(true)));
-}
-
-#[test]
-fn passes_of_three_kinds_are_applied_in_turn(rt: HostRuntime) {
-    assert!(rt; matches!(are_applied(rt.alloc(), &HALL_TURNS), Ok(true)));
+    assert!(rt;
+        matches!(are_applied(rt.alloc(), &GATE_TURNS), Ok(true)),
+        "the gate"
+    );
+    assert!(rt;
+        matches!(are_applied(rt.alloc(), &HALL_TURNS), Ok(true)),
+        "the hall"
+    );
 }
