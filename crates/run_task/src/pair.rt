@@ -16,7 +16,7 @@ use crate::laws::run_task_translates;
 use axiom_layers::layers;
 use command_line::Settings;
 use fdr_encoder::encode;
-use group_cover::cover;
+use greedy_cover::cover;
 use invariant_guess::laws::finds;
 use invariant_guess::{Found, find};
 use mutex_groups::groups;

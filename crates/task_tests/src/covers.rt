@@ -1,6 +1,7 @@
 //! Covers of facts that are numbers.
 
-use group_cover::{Groups, cover};
+use greedy_cover::cover;
+use group_cover::Groups;
 use lists::List;
 use std::alloc::{AllocError, Global};
 use std::process::Abort;

@@ -2,7 +2,7 @@
 
 use crate::grouped::{Grouped, grouped_of};
 use crate::texts::{BACK, BALLS, BELL, BLOCKS, BOTH, GRIPPER, ONE, RUNG, SWITCH, THREE, TWO};
-use group_cover::cover;
+use greedy_cover::cover;
 use lists::List;
 use relaxed_reach::Fact;
 use std::alloc::Global;
