@@ -85,11 +85,10 @@ pub fn terms_at(
 ) -> Result<Vec<Place>, AllocError>
     ensures { IfOk result (λ terms. terms.items ≡ at_positions (Object 0) positions.now places.now) }
 {
-    let mut terms = Vec::new(alloc);
-    for position in positions {
-        terms.push(term_at(*position, places))?;
-    }
-    Ok(terms)
+    positions
+        .iter()
+        .map(|position| term_at(*position, places))
+        .collect(alloc)
 }
 
 /// The terms at the positions are the instance.
