@@ -5,7 +5,7 @@ ghost use Rattle.contradictions.specs.Contradictory as terms;
 ghost use Rattle.contradictions.specs.Merges.{have_one_leader};
 ghost use Rattle.candidate_parts.specs.Extensions as spec;
 
-use contradictions::{Candidate, Pair, Part, are_same};
+use contradictions::{Candidate, Part, TermPair, are_same};
 use lists::List;
 use normal_task::{EffectRow, Normal, Place};
 use std::alloc::{AllocError, Global};
@@ -93,7 +93,7 @@ pub struct AddedAtom<'a> {
 }
 
 /// The two are one atom, by the classes that the merges tell.
-pub fn are_one(merges: &[Pair], one: &AddedAtom<'_>, other: &AddedAtom<'_>) -> bool
+pub fn are_one(merges: &[TermPair], one: &AddedAtom<'_>, other: &AddedAtom<'_>) -> bool
     ensures { result ≡ (nat_eq one.now.predicate other.now.predicate && terms.are_same_terms (have_one_leader merges.now) one.now.places.now other.now.places.now) }
 {
     one.predicate == other.predicate && are_same(merges, one.places, other.places)

@@ -3,7 +3,7 @@ use Rattle.std.proofs.Common.{◌≡◌, ℕ, Bool, List, [], ◌∷◌, map, Re
 use Rattle.std.specs.Prelude.{zip, IfOk}
 use Rattle.normal_task.specs.declared.task.Literal.{Literal}
 use Rattle.normal_task.specs.declared.task.Place.{Place}
-use Rattle.contradictions.specs.declared.terms.Pair.{Pair}
+use Rattle.contradictions.specs.declared.terms.TermPair.{TermPair}
 use Rattle.contradictions.specs.declared.types.Candidate.{Candidate}
 use Rattle.contradictions.specs.Contradictory.{is_contradictory, has_contradiction, in_one_class, all_pairs, standing}
 use Rattle.contradictions.specs.Merges.{as_pair, pair_of}
@@ -17,7 +17,7 @@ pairs_zipped [] = refl
 pairs_zipped (pair ∷ pairs) = ap (λ more. pair ∷ more) (pairs_zipped pairs)
 
 -- the pairs that were made of two lists of terms
-pub equated_is : (equated : List Pair) (left right : List Place) → equated ≡ map pair_of (zip left right) → map as_pair equated ≡ zip left right
+pub equated_is : (equated : List TermPair) (left right : List Place) → equated ≡ map pair_of (zip left right) → map as_pair equated ≡ zip left right
 equated_is equated left right made = ap (map as_pair) made ∙ pairs_zipped (zip left right)
 
 pub same_case : (candidate : Candidate) (ranges ranges' : List (List ℕ)) (literals literals' : List Literal) (pairs pairs' : List (Place × Place)) (instance instance' : List Place) →

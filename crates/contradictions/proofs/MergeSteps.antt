@@ -6,7 +6,7 @@ use Rattle.std.proofs.lemmas.List.Sums.{fold-append}
 use Rattle.lists.proofs.Items.{Among, among_left, among_right, among_which}
 use Rattle.normal_task.specs.declared.task.Literal.{Literal}
 use Rattle.normal_task.specs.declared.task.Place.{Place}
-use Rattle.contradictions.specs.declared.terms.Pair.{Pair}
+use Rattle.contradictions.specs.declared.terms.TermPair.{TermPair}
 use Rattle.contradictions.specs.Contradictory.{is_same_place, in_one_class, all_pairs}
 use Rattle.contradictions.specs.Merges.{as_pair, led, leader, have_one_leader, merge_of, TellClasses}
 use Rattle.contradictions.proofs.Closure.{Ways, ways, from_ways, sameness, has_pairs, least}
@@ -70,20 +70,20 @@ module _ (L : Place → Place) (pairs : List (Place × Place)) (tells : (x y : P
       (λ is. subst (λ z. is_same_place (new x) z ≡ true) (back x y (ways (left, right) pairs x y is)) (place_itself (new x)))
       ∙ last-first pairs (left, right) x y
 
-pub merge-more : (merges pairs : List Pair) (pair : Pair) → TellClasses merges pairs →
+pub merge-more : (merges pairs : List TermPair) (pair : TermPair) → TellClasses merges pairs →
     TellClasses (merges ++ record { left = leader merges pair.left; right = leader merges pair.right } ∷ []) (pairs ++ pair ∷ [])
 merge-more merges pairs pair tells x y =
-    let merge : Pair = record { left = leader merges pair.left; right = leader merges pair.right } in
+    let merge : TermPair = record { left = leader merges pair.left; right = leader merges pair.right } in
     ap (λ z. is_same_place z (leader (merges ++ merge ∷ []) y)) (fold-append led x merges (merge ∷ []))
     ∙ ap (λ z. is_same_place (led (leader merges x) merge) z) (fold-append led y merges (merge ∷ []))
     ∙ one-more (leader merges) (map as_pair pairs) tells pair.left pair.right x y
     ∙ ap (λ ps. in_one_class ps x y) (sym (map-append pairs))
   where
-    map-append : (ps : List Pair) → map as_pair (ps ++ pair ∷ []) ≡ map as_pair ps ++ (pair.left, pair.right) ∷ []
+    map-append : (ps : List TermPair) → map as_pair (ps ++ pair ∷ []) ≡ map as_pair ps ++ (pair.left, pair.right) ∷ []
     map-append [] = refl
     map-append (p ∷ ps) = ap (λ qs. as_pair p ∷ qs) (map-append ps)
 
-pub merged-next : (pairs : List Pair) (place : ℕ) (other : Pair) → place < length pairs → (merges new : List Pair) → TellClasses merges (take place pairs) →
+pub merged-next : (pairs : List TermPair) (place : ℕ) (other : TermPair) → place < length pairs → (merges new : List TermPair) → TellClasses merges (take place pairs) →
     new ≡ merges ++ merge_of merges (get_or pairs place other) ∷ [] → TellClasses new (take (place + 1) pairs)
 merged-next pairs place other within merges new tells made x y =
     let pair = get_or pairs place other in
@@ -92,7 +92,7 @@ merged-next pairs place other within merges new tells made x y =
     ap (λ m. have_one_leader m x y) made ∙ merge-more merges (take place pairs) pair tells x y ∙ ap (λ ps. in_one_class (map as_pair ps) x y) (sym next)
 
 -- leaders tell what classes tell
-pub told : (literals : List Literal) (equated pairs merges : List Pair) → map as_pair pairs ≡ all_pairs literals (map as_pair equated) → TellClasses merges pairs →
+pub told : (literals : List Literal) (equated pairs merges : List TermPair) → map as_pair pairs ≡ all_pairs literals (map as_pair equated) → TellClasses merges pairs →
     have_one_leader merges ≡ in_one_class (all_pairs literals (map as_pair equated))
 told literals equated pairs merges made tells =
     let classes : have_one_leader merges ≡ in_one_class (map as_pair pairs) = λ i x y. tells x y i in

@@ -8,7 +8,7 @@ ghost use Rattle.contradictions.specs.Merges.{all_ranges, have_one_leader};
 
 use crate::ranges::{Ranges, range_of};
 use crate::rising::Rising;
-use crate::terms::{Pair, is_same};
+use crate::terms::{TermPair, is_same};
 use normal_task::Place;
 use std::alloc::{AllocError, Global};
 
@@ -33,7 +33,7 @@ pub fn is_among(objects: &[u64], object: u64) -> bool
 
 /// The object isn't one of some term in the class.
 fn is_lacked(
-    merges: &[Pair],
+    merges: &[TermPair],
     ranges: &Ranges<'_>,
     terms: &[Place],
     term: &Place,
@@ -45,7 +45,7 @@ fn is_lacked(
 }
 
 fn are_lacked(
-    merges: &[Pair],
+    merges: &[TermPair],
     ranges: &Ranges<'_>,
     terms: &[Place],
     term: &Place,
@@ -120,7 +120,7 @@ fn share_some(class: &[Member<'_>]) -> bool
 /// The objects of the term, and of each term in its class, where all ranges of these rise.
 fn class_of<'a>(
     alloc: Global,
-    merges: &[Pair],
+    merges: &[TermPair],
     ranges: &Ranges<'a>,
     terms: &[Place],
     term: &Place,
@@ -150,7 +150,7 @@ fn class_of<'a>(
 /// ranges rise, as those of lawful tasks do, they are leapt over side by side.
 fn has_no_object(
     alloc: Global,
-    merges: &[Pair],
+    merges: &[TermPair],
     ranges: &Ranges<'_>,
     terms: &[Place],
     term: &Place,
@@ -175,7 +175,7 @@ fn has_no_object(
 /// Some class has no object in common.
 pub(crate) fn some_has_no_object(
     alloc: Global,
-    merges: &[Pair],
+    merges: &[TermPair],
     ranges: &Ranges<'_>,
     terms: &[Place],
 ) -> Result<bool, AllocError>

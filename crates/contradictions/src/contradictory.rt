@@ -8,7 +8,7 @@ ghost use Rattle.contradictions.specs.Merges.{all_ranges, as_pair, pair_of, have
 
 use crate::common::some_has_no_object;
 use crate::ranges::Ranges;
-use crate::terms::{Pair, copy, is_same, merged, term_at};
+use crate::terms::{TermPair, copy, is_same, merged, term_at};
 use crate::types::{Candidate, Part};
 use normal_task::{Literal, Place};
 use std::alloc::{AllocError, Global};
@@ -18,14 +18,14 @@ use std::alloc::{AllocError, Global};
 pub struct Case<'a> {
     pub ranges: Ranges<'a>,
     pub literals: &'a [Literal],
-    pub equated: &'a [Pair],
+    pub equated: &'a [TermPair],
     pub instance: &'a [Place],
 }
 
 // ---- one literal or term beside another
 
 /// The terms are in one class each, the first with the first and so on, by the classes that the merges tell.
-pub fn are_same(merges: &[Pair], xs: &[Place], ys: &[Place]) -> bool
+pub fn are_same(merges: &[TermPair], xs: &[Place], ys: &[Place]) -> bool
     ensures { result ≡ spec.are_same_terms (have_one_leader merges.now) xs.now ys.now }
 {
     if xs.is_empty() {
@@ -37,7 +37,7 @@ pub fn are_same(merges: &[Pair], xs: &[Place], ys: &[Place]) -> bool
     }
 }
 
-fn is_denied_by(merges: &[Pair], one: &Literal, other: &Literal) -> bool
+fn is_denied_by(merges: &[TermPair], one: &Literal, other: &Literal) -> bool
     ensures { result ≡ spec.is_denied_by (have_one_leader merges.now) one.now other.now }
 {
     match one {
@@ -54,7 +54,7 @@ fn is_denied_by(merges: &[Pair], one: &Literal, other: &Literal) -> bool
     }
 }
 
-fn parts_a_class(merges: &[Pair], literal: &Literal) -> bool
+fn parts_a_class(merges: &[TermPair], literal: &Literal) -> bool
     ensures { result ≡ spec.parts_a_class (have_one_leader merges.now) literal.now }
 {
     match literal {
@@ -92,7 +92,7 @@ pub fn terms_at(
 }
 
 /// The terms at the positions are the instance.
-fn agrees(merges: &[Pair], positions: &[u64], places: &[Place], instance: &[Place]) -> bool
+fn agrees(merges: &[TermPair], positions: &[u64], places: &[Place], instance: &[Place]) -> bool
     ensures { result ≡ spec.are_same_terms (have_one_leader merges.now) (at_positions (Object 0) positions.now places.now) instance.now }
 {
     if positions.is_empty() {
@@ -106,7 +106,7 @@ fn agrees(merges: &[Pair], positions: &[u64], places: &[Place], instance: &[Plac
 }
 
 fn is_of_instance(
-    merges: &[Pair],
+    merges: &[TermPair],
     parts: &[Part],
     instance: &[Place],
     predicate: u64,
@@ -119,7 +119,7 @@ fn is_of_instance(
 }
 
 fn are_two_of_instance(
-    merges: &[Pair],
+    merges: &[TermPair],
     candidate: &Candidate,
     instance: &[Place],
     one: &Literal,
@@ -154,7 +154,7 @@ fn are_two_of_instance(
     }
 }
 
-fn denies_another(merges: &[Pair], literals: &[Literal], one: &Literal) -> bool
+fn denies_another(merges: &[TermPair], literals: &[Literal], one: &Literal) -> bool
     ensures { result ≡ list_any (spec.is_denied_by (have_one_leader merges.now) one.now) literals.now }
 {
     literals
@@ -162,7 +162,7 @@ fn denies_another(merges: &[Pair], literals: &[Literal], one: &Literal) -> bool
         .any(|other| is_denied_by(merges, one, other))
 }
 
-fn is_second_object(merges: &[Pair], terms: &[Place], x: &Place) -> bool
+fn is_second_object(merges: &[TermPair], terms: &[Place], x: &Place) -> bool
     ensures { result ≡ list_any (λ y. spec.are_two_objects x.now y && have_one_leader merges.now x.now y) terms.now }
 {
     terms
@@ -171,7 +171,7 @@ fn is_second_object(merges: &[Pair], terms: &[Place], x: &Place) -> bool
 }
 
 fn has_second(
-    merges: &[Pair],
+    merges: &[TermPair],
     candidate: &Candidate,
     instance: &[Place],
     literals: &[Literal],
@@ -182,7 +182,7 @@ fn has_second(
     literals.iter().any(|other| are_two_of_instance(merges, candidate, instance, one, other))
 }
 
-fn are_denied(merges: &[Pair], literals: &[Literal]) -> bool
+fn are_denied(merges: &[TermPair], literals: &[Literal]) -> bool
     ensures { result ≡ list_any (λ literal. list_any (spec.is_denied_by (have_one_leader merges.now) literal) literals.now) literals.now }
 {
     literals
@@ -190,13 +190,13 @@ fn are_denied(merges: &[Pair], literals: &[Literal]) -> bool
         .any(|literal| denies_another(merges, literals, literal))
 }
 
-fn are_two(merges: &[Pair], terms: &[Place]) -> bool
+fn are_two(merges: &[TermPair], terms: &[Place]) -> bool
     ensures { result ≡ list_any (λ x. list_any (λ y. spec.are_two_objects x y && have_one_leader merges.now x y) terms.now) terms.now }
 {
     terms.iter().any(|x| is_second_object(merges, terms, x))
 }
 
-fn are_parted(merges: &[Pair], literals: &[Literal]) -> bool
+fn are_parted(merges: &[TermPair], literals: &[Literal]) -> bool
     ensures { result ≡ list_any (spec.parts_a_class (have_one_leader merges.now)) literals.now }
 {
     literals
@@ -205,7 +205,7 @@ fn are_parted(merges: &[Pair], literals: &[Literal]) -> bool
 }
 
 fn are_two_atoms(
-    merges: &[Pair],
+    merges: &[TermPair],
     candidate: &Candidate,
     instance: &[Place],
     literals: &[Literal],
@@ -217,7 +217,7 @@ fn are_two_atoms(
 
 /// The literals or terms are contradictory, but for a class with no object in common.
 fn are_contradictory(
-    merges: &[Pair],
+    merges: &[TermPair],
     candidate: &Candidate,
     case: &Case<'_>,
     terms: &[Place],
@@ -236,12 +236,16 @@ fn are_contradictory(
 // ---- the classes, and the terms that they are over
 
 /// The pairs that are equated, and those of positive equalities.
-fn all_pairs(alloc: Global, literals: &[Literal], equated: &[Pair]) -> Result<Vec<Pair>, AllocError>
+fn all_pairs(
+    alloc: Global,
+    literals: &[Literal],
+    equated: &[TermPair],
+) -> Result<Vec<TermPair>, AllocError>
     ensures { IfOk result (λ pairs. map as_pair pairs.items ≡ spec.all_pairs literals.now (map as_pair equated.now)) }
 {
     let mut pairs = Vec::new(alloc);
     for pair in equated {
-        pairs.push(Pair {
+        pairs.push(TermPair {
             left: copy(&pair.left),
             right: copy(&pair.right),
         })?;
@@ -252,14 +256,14 @@ fn all_pairs(alloc: Global, literals: &[Literal], equated: &[Pair]) -> Result<Ve
     Ok(pairs)
 }
 
-fn push_equality(pairs: &mut Vec<Pair>, literal: &Literal) -> Result<(), AllocError>
+fn push_equality(pairs: &mut Vec<TermPair>, literal: &Literal) -> Result<(), AllocError>
     ensures { OnOk result (map as_pair pairs.new.items ≡ map as_pair pairs.old.items ++ spec.equality_of literal.now) }
 {
     match literal {
         Literal::Holds(_, _, _) => Ok(()),
         Literal::Equal(positive, left, right) => {
             if *positive {
-                pairs.push(Pair {
+                pairs.push(TermPair {
                     left: copy(left),
                     right: copy(right),
                 })?;
@@ -306,7 +310,7 @@ pub fn push_copies(terms: &mut Vec<Place>, places: &[Place]) -> Result<(), Alloc
     Ok(())
 }
 
-fn push_sides(terms: &mut Vec<Place>, pairs: &[Pair]) -> Result<(), AllocError>
+fn push_sides(terms: &mut Vec<Place>, pairs: &[TermPair]) -> Result<(), AllocError>
     ensures { OnOk result (terms.new.items ≡ terms.old.items ++ flat_map spec.sides (map as_pair pairs.now)) }
 {
     for pair in pairs {
@@ -315,7 +319,7 @@ fn push_sides(terms: &mut Vec<Place>, pairs: &[Pair]) -> Result<(), AllocError>
     Ok(())
 }
 
-fn push_both(terms: &mut Vec<Place>, pair: &Pair) -> Result<(), AllocError>
+fn push_both(terms: &mut Vec<Place>, pair: &TermPair) -> Result<(), AllocError>
     ensures { OnOk result (terms.new.items ≡ terms.old.items ++ spec.sides (as_pair pair.now)) }
 {
     terms.push(copy(&pair.left))?;
@@ -324,12 +328,12 @@ fn push_both(terms: &mut Vec<Place>, pair: &Pair) -> Result<(), AllocError>
 }
 
 /// The pairs of the first terms, the second, and so on.
-pub fn zipped(alloc: Global, left: &[Place], right: &[Place]) -> Result<Vec<Pair>, AllocError>
+pub fn zipped(alloc: Global, left: &[Place], right: &[Place]) -> Result<Vec<TermPair>, AllocError>
     ensures { IfOk result (λ pairs. pairs.items ≡ map pair_of (zip left.now right.now)) }
 {
     left.iter()
         .zip(right)
-        .map(|(one, other)| Pair {
+        .map(|(one, other)| TermPair {
             left: copy(one),
             right: copy(other),
         })
@@ -340,8 +344,8 @@ pub fn zipped(alloc: Global, left: &[Place], right: &[Place]) -> Result<Vec<Pair
 pub fn classes(
     alloc: Global,
     literals: &[Literal],
-    equated: &[Pair],
-) -> Result<Vec<Pair>, AllocError>
+    equated: &[TermPair],
+) -> Result<Vec<TermPair>, AllocError>
     ensures { IfOk result (λ merges. have_one_leader merges.items ≡ spec.in_one_class (spec.all_pairs literals.now (map as_pair equated.now))) }
 {
     let pairs = all_pairs(alloc, literals, equated)?;
@@ -351,7 +355,7 @@ pub fn classes(
 /// The merges tell a contradiction among the literals.
 pub fn contradicts(
     alloc: Global,
-    merges: &[Pair],
+    merges: &[TermPair],
     candidate: &Candidate,
     case: &Case<'_>,
 ) -> Result<bool, AllocError>

@@ -17,5 +17,5 @@ pub use contradictory::{
 };
 pub use ranges::{Ranges, range_of};
 pub use renaming::{Renamed, Renaming, push_denied, push_renamed, renamed_row};
-pub use terms::{Pair, copy, is_same_place, term_at};
+pub use terms::{TermPair, copy, is_same_place, term_at};
 pub use types::{Candidate, Part, copies};

@@ -45,13 +45,13 @@ pub fn term_at(position: u64, terms: &[Place]) -> Place
 
 /// Two terms that are equated, or the leader of a class and the one that now leads it.
 #[derive(Drop)]
-pub struct Pair {
+pub struct TermPair {
     pub left: Place,
     pub right: Place,
 }
 
 /// The leader of the term's class.
-pub(crate) fn leader_of(merges: &[Pair], term: &Place) -> Place
+pub(crate) fn leader_of(merges: &[TermPair], term: &Place) -> Place
     ensures { result ≡ leader merges.now term.now }
 {
     let mut leader = copy(term);
@@ -63,24 +63,24 @@ pub(crate) fn leader_of(merges: &[Pair], term: &Place) -> Place
     leader
 }
 
-pub(crate) fn is_same(merges: &[Pair], x: &Place, y: &Place) -> bool
+pub(crate) fn is_same(merges: &[TermPair], x: &Place, y: &Place) -> bool
     ensures { result ≡ have_one_leader merges.now x.now y.now }
 {
     is_same_place(&leader_of(merges, x), &leader_of(merges, y))
 }
 
 /// Leads the class of the one term into that of the other.
-fn merge(merges: &mut Vec<Pair>, pair: &Pair) -> Result<(), AllocError>
+fn merge(merges: &mut Vec<TermPair>, pair: &TermPair) -> Result<(), AllocError>
     ensures { OnOk result (merges.new.items ≡ merges.old.items ++ merge_of merges.old.items pair.now ∷ []) }
 {
     let left = leader_of(merges.as_slice(), &pair.left);
     let right = leader_of(merges.as_slice(), &pair.right);
-    merges.push(Pair { left, right })?;
+    merges.push(TermPair { left, right })?;
     Ok(())
 }
 
 /// Merges that lead equated terms, and no others, to one leader.
-pub(crate) fn merged(alloc: Global, pairs: &[Pair]) -> Result<Vec<Pair>, AllocError>
+pub(crate) fn merged(alloc: Global, pairs: &[TermPair]) -> Result<Vec<TermPair>, AllocError>
     ensures { IfOk result (λ merges. TellClasses merges.items pairs.now) }
 {
     let mut merges = Vec::new(alloc);

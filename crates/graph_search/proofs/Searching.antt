@@ -12,7 +12,7 @@ use Rattle.std.proofs.lemmas.List.Kept.{IsStrictlyIncreasing-filter}
 use Rattle.std.proofs.lemmas.List.Sums.{sum_by-set}
 use Rattle.std.proofs.Math.ListN.{get_or-append}
 use Rattle.lists.proofs.Members.{no_member, member_first, member_later, member_cases, member_single, member_flat_map, flat_map_member, member_filter, filter_member, member_range, range_member}
-use Rattle.graph_search.specs.declared.search.Arc.{Arc}
+use Rattle.names.specs.declared.arcs.Arc.{Arc}
 use Rattle.graph_search.specs.Reached.{IsReached, First, Next, AreReached}
 use Rattle.graph_search.specs.Search.{leads_to, Finds, has, with_number, marked}
 

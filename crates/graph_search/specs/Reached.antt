@@ -1,7 +1,7 @@
 -- What the arcs of a graph whose nodes are numbers lead to.
 use Rattle.std.specs.Prelude.{ℕ, ◌<◌, List, All, Contains}
 use Rattle.std.specs.List.Sorted.{IsStrictlyIncreasing}
-use Rattle.graph_search.specs.declared.search.Arc.{Arc}
+use Rattle.names.specs.declared.arcs.Arc.{Arc}
 
 -- what chains of arcs lead to from one of the starts
 pub data IsReached (starts : List ℕ) (arcs : List Arc) : ℕ → Type 0 where

@@ -1,7 +1,7 @@
 -- The search for the numbers that arcs lead to. Words of private contracts: no public clause cites them.
 use Rattle.std.specs.Prelude.{ℕ, Bool, true, ◌==◌, List, [], ◌∷◌, ◌++◌, filter, length, slice_index_or, slice_set, if◌then◌else◌}
 use Rattle.std.specs.List.{flat_map, range_with_len}
-use Rattle.graph_search.specs.declared.search.Arc.{Arc}
+use Rattle.names.specs.declared.arcs.Arc.{Arc}
 
 -- the numbers that arcs lead to from one
 abbrev pub leads_to : List Arc → ℕ → List ℕ

@@ -3,4 +3,4 @@
 
 mod search;
 
-pub use search::{Arc, reached};
+pub use search::reached;

@@ -7,15 +7,9 @@ ghost use Rattle.graph_search.specs.Search.{with_number, leads_to};
 ghost use Rattle.graph_search.specs.Search as words;
 
 use lists::Rows;
+use names::Arc;
 use std::alloc::{AllocError, Global};
 use std::marker::Model;
-
-/// An arc of a graph, from a number to a number.
-#[derive(Clone, Copy)]
-pub struct Arc {
-    pub from: u64,
-    pub to: u64,
-}
 
 /// The numbers that are found, in the order in which they were found, with a mark for each number below a count.
 struct Found {
@@ -123,7 +117,7 @@ fn by_source(alloc: Global, count: u64, arcs: &[Arc]) -> Result<Rows<u64>, Alloc
 {
     let mut rows = Rows::new(alloc, count)?;
     for arc in arcs {
-        rows.push(arc.from, arc.to)?;
+        rows.push(arc.from as u64, arc.to as u64)?;
     }
     Ok(rows)
 }

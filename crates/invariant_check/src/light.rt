@@ -103,7 +103,7 @@ pub(crate) fn apart(schema: &Schema, first: &EffectRow) -> Renaming<'static>
 
 /// An add effect of a schema, with the part of its predicate.
 #[derive(Clone, Copy)]
-struct Add<'a> {
+struct PartAdd<'a> {
     part: &'a Part,
     row: &'a EffectRow,
 }
@@ -113,8 +113,8 @@ fn are_light(
     alloc: Global,
     candidate: &Candidate,
     schema: &Schema,
-    one: &Add<'_>,
-    other: &Add<'_>,
+    one: &PartAdd<'_>,
+    other: &PartAdd<'_>,
 ) -> Result<bool, AllocError>
     ensures { IfOk result (λ answer. answer ≡ spec.part_passes (spec.is_light_beside candidate.now schema.now one.now.part.now one.now.row.now) other.now.row.now other.now.part.now) }
 {
@@ -152,13 +152,13 @@ fn is_light_beside_row(
     alloc: Global,
     candidate: &Candidate,
     schema: &Schema,
-    one: &Add<'_>,
+    one: &PartAdd<'_>,
     row: &EffectRow,
 ) -> Result<bool, AllocError>
     ensures { IfOk result (λ answer. answer ≡ list_all (spec.part_passes (spec.is_light_beside candidate.now schema.now one.now.part.now one.now.row.now) row.now) candidate.now.parts) }
 {
     for part in candidate.parts.as_slice() {
-        if !are_light(alloc, candidate, schema, one, &Add { part, row })? {
+        if !are_light(alloc, candidate, schema, one, &PartAdd { part, row })? {
             return Ok(false);
         }
     }
@@ -170,7 +170,7 @@ fn is_light_add(
     alloc: Global,
     candidate: &Candidate,
     schema: &Schema,
-    one: &Add<'_>,
+    one: &PartAdd<'_>,
 ) -> Result<bool, AllocError>
     ensures { IfOk result (λ answer. answer ≡ spec.is_light_add candidate.now schema.now one.now.part.now one.now.row.now) }
 {
@@ -193,7 +193,7 @@ fn is_light_row(
 {
     for part in candidate.parts.as_slice() {
         if part.predicate == row.predicate
-            && !is_light_add(alloc, candidate, schema, &Add { part, row })?
+            && !is_light_add(alloc, candidate, schema, &PartAdd { part, row })?
         {
             return Ok(false);
         }

@@ -42,12 +42,12 @@ impl<'a> Model for Numbering<'a> {
     ghost use Rattle.std.specs.Coded.{codes};
     ghost use Rattle.pddl_parser.specs.contracts.types.Condition as condition;
     ghost use Rattle.pddl_parser.specs.contracts.types.Effect as effect;
-    ghost use Rattle.type_checker.specs.Checked.{Pair};
+    ghost use Rattle.type_checker.specs.Checked.{FilePair};
     ghost use Rattle.std.specs.Prelude.{map};
     ghost use Rattle.declarations.specs.Below.{objects_of_type};
     ghost use Rattle.normal_task.specs.Numbers.{object_names, head_names};
 
-    ghost Value = { Pair };
+    ghost Value = { FilePair };
 
     ghost coded = { Prim.hlevel (codes, condition.the_row.coded, effect.the_row.coded) };
 

@@ -2,5 +2,5 @@ mod Numbers
 mod Rows
 mod Adding
 mod Searching
-mod Turns
+mod EmptyQueue
 mod Left

@@ -13,7 +13,7 @@ use Rattle.sas_task.proofs.Orders.{pair_total}
 use Rattle.sas_orders.proofs.Sorted.{member_sorted, sorted_member}
 use Rattle.sas_restriction.proofs.Exact.{pair_exact}
 use Rattle.sas_restriction.proofs.Valid.{sorted_pairs}
-use Rattle.graph_search.specs.declared.search.Arc.{Arc}
+use Rattle.names.specs.declared.arcs.Arc.{Arc}
 use Rattle.pass_relevance.specs.Influences.{arc, sets, written, arcs_of_two, pair_at, disagreements}
 
 no_later : (p q : Pair) → ComesBefore p q → p.var ≤ q.var

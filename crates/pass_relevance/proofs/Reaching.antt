@@ -17,7 +17,7 @@ use Rattle.sas_task.proofs.States.{is_variable}
 use Rattle.sas_task.proofs.ValidParts.{operator_law, effect_law, rule_law}
 use Rattle.sas_restriction.specs.Relevant.{is_among, HasInfluences, AreRelevant}
 use Rattle.sas_restriction.proofs.Numbers.{any_member, member_any}
-use Rattle.graph_search.specs.declared.search.Arc.{Arc}
+use Rattle.names.specs.declared.arcs.Arc.{Arc}
 use Rattle.graph_search.specs.Reached.{IsReached, First, Next, AreReached}
 use Rattle.pass_relevance.specs.Influences.{arc, arcs_to, arcs_of_effect, written, disagreements, arcs_of_operator, arcs_at, arcs_of_rule, influences}
 use Rattle.pass_relevance.proofs.Disagreeing.{disagreeing, some_arc}

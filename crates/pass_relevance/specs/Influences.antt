@@ -10,7 +10,7 @@ use Rattle.sas_task.specs.declared.parts.Rule.{Rule}
 use Rattle.sas_task.specs.Task.{Task}
 use Rattle.sas_task.specs.Orders.{pair_cmp}
 use Rattle.sas_orders.specs.InOrder.{sorted}
-use Rattle.graph_search.specs.declared.search.Arc.{Arc}
+use Rattle.names.specs.declared.arcs.Arc.{Arc}
 
 abbrev pub arc : ℕ → ℕ → Arc
 arc from to = record { from = from; to = to }

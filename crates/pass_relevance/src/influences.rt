@@ -6,7 +6,7 @@ ghost use Rattle.std.specs.List.{flat_map, range_with_len};
 ghost use Rattle.pass_relevance.specs.Influences.{arcs_to, arcs_of_effect, sets, arcs_of_two, disagreements, arcs_of_operator, arcs_at, arcs_of_rule};
 ghost use Rattle.pass_relevance.specs.Influences as words;
 
-use graph_search::Arc;
+use names::Arc;
 use sas_orders::arrange;
 use sas_task::{Effect, Operator, Pair, Rule, SasTask};
 use std::alloc::{AllocError, Global};
@@ -21,12 +21,22 @@ pub(crate) fn sum(number: u64, more: u64) -> Result<u64, AllocError>
     }
 }
 
+/// The arc between the two nodes.
+fn arc(from: u64, to: u64) -> Arc
+    ensures { result ≡ words.arc from to }
+{
+    Arc {
+        from: from as usize,
+        to: to as usize,
+    }
+}
+
 /// Adds an arc from the node to the variable of each pair.
 fn add_pairs(arcs: &mut Vec<Arc>, from: u64, pairs: &[Pair]) -> Result<(), AllocError>
     ensures { OnOk result (arcs.new.items ≡ arcs.old.items ++ arcs_to from pairs.now) }
 {
     for pair in pairs {
-        arcs.push(Arc { from, to: pair.var })?;
+        arcs.push(arc(from, pair.var))?;
     }
     Ok(())
 }
@@ -35,10 +45,7 @@ fn add_pairs(arcs: &mut Vec<Arc>, from: u64, pairs: &[Pair]) -> Result<(), Alloc
 fn add_effect(arcs: &mut Vec<Arc>, node: u64, effect: &Effect) -> Result<(), AllocError>
     ensures { OnOk result (arcs.new.items ≡ arcs.old.items ++ arcs_of_effect node effect.now) }
 {
-    arcs.push(Arc {
-        from: effect.var,
-        to: node,
-    })?;
+    arcs.push(arc(effect.var, node))?;
     add_pairs(arcs, effect.var, effect.conditions.as_slice())?;
     Ok(())
 }
@@ -79,10 +86,7 @@ fn add_two(arcs: &mut Vec<Arc>, node: u64, pairs: &[Pair], place: usize) -> Resu
 {
     let var = pairs[place].var;
     if var == pairs[place + 1].var {
-        arcs.push(Arc {
-            from: node,
-            to: var,
-        })?;
+        arcs.push(arc(node, var))?;
     }
     Ok(())
 }

@@ -2,5 +2,5 @@
 pub mod SolutionCosts
 -- lemmas of this crate
 mod CostTables
-mod Turns
+mod PassedLines
 mod Ends

@@ -5,7 +5,7 @@ mod GateRules
 mod Watched
 mod Missing
 mod Settled
-mod Turns
+mod SearchedFacts
 mod Found
 mod Keeping
 mod KeptTurns

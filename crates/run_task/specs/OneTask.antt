@@ -1,7 +1,7 @@
 -- That the stages have one task for a pair, whatever order their answers are listed in.
 use Rattle.std.specs.Prelude.{◌≡◌, Bool, List}
 use Rattle.command_line.specs.declared.accepted.Settings.{Settings}
-use Rattle.type_checker.specs.Checked.{Pair}
+use Rattle.type_checker.specs.Checked.{FilePair}
 use Rattle.normal_task.specs.declared.task.Normal.{Normal}
 use Rattle.invariant_guess.specs.declared.types.Found.{Found}
 use Rattle.pass_book.specs.declared.kind.PassKind.{PassKind}
@@ -15,5 +15,5 @@ OneRunTask = (full : Bool) (task : Normal) (found : Found) (one other : Task) �
 -- two tasks that are made of one pair with one number of candidates, both over whole groups or neither, and the same passes are equal, and so is what is found
 abbrev pub OneTaskOfPair : Type 0
 OneTaskOfPair =
-    (pair : Pair) (settings settings' : Settings) (passes : List PassKind) (found found' : Found) (one other : Task) → settings.max_candidates ≡ settings'.max_candidates → settings.full_encoding ≡ settings'.full_encoding →
+    (pair : FilePair) (settings settings' : Settings) (passes : List PassKind) (found found' : Found) (one other : Task) → settings.max_candidates ≡ settings'.max_candidates → settings.full_encoding ≡ settings'.full_encoding →
     IsTaskOf pair settings passes found one → IsTaskOf pair settings' passes found' other → (found ≡ found') × (one ≡ other)

@@ -1,7 +1,7 @@
 -- What a run makes of a pair: the invariants that it finds, the task that the passes make, one after another, and what is written of both.
 use Rattle.std.specs.Prelude.{◌≡◌, ℕ, Bool, ◌^◌, ◌<◌, List, [], length, sum_by}
 use Rattle.command_line.specs.declared.accepted.Settings.{Settings}
-use Rattle.type_checker.specs.Checked.{Pair}
+use Rattle.type_checker.specs.Checked.{FilePair}
 use Rattle.normal_task.specs.declared.task.Normal.{Normal}
 use Rattle.normal_task.specs.Normalised.{normal}
 use Rattle.invariant_guess.specs.declared.types.Found.{Found}
@@ -44,7 +44,7 @@ pub record IsRunTask (full : Bool) (made : Normal) (found : Found) (task : Task)
   pub projection : IsProjection encoded task
 
 -- A run makes this task of the pair, and finds these invariants, over as many candidates at most as the settings say: its own task, over whole groups where they say so, changed by the passes that are asked for, one after another. It is valid, operators of one name have one cost, and it translates the pair.
-pub record IsTaskOf (pair : Pair) (settings : Settings) (passes : List PassKind) (found : Found) (task : Task) : Type 0 where
+pub record IsTaskOf (pair : FilePair) (settings : Settings) (passes : List PassKind) (found : Found) (task : Task) : Type 0 where
   pub is_found : IsFound (normal pair.domain pair.problem) settings.max_candidates found
   pub first : Task
   pub is_run_task : IsRunTask settings.full_encoding (normal pair.domain pair.problem) found first
@@ -61,7 +61,7 @@ pub record IsReadTask (written : Task) (passes : List PassKind) (task : Task) : 
 
 -- what a source comes to: a pair without faults, or a written task
 pub data Start : Type 0 where
-  FromPair : (pair : Pair) → Start
+  FromPair : (pair : FilePair) → Start
   FromTask : (written : Task) → Start
 
 -- what is found where no invariants are searched for
@@ -98,7 +98,7 @@ output_of found task plan = record { text = text_of task; summary = summary_of f
 -- What passes make of the task of a run without passes is a task of the run with them.
 abbrev pub PassesTranslate : Type 0
 PassesTranslate =
-    (pair : Pair) (settings : Settings) (passes : List PassKind) (found : Found) (first task : Task) → IsTaskOf pair settings [] found first → IsChain passes first task → IsTaskOf pair settings passes found task
+    (pair : FilePair) (settings : Settings) (passes : List PassKind) (found : Found) (first task : Task) → IsTaskOf pair settings [] found first → IsChain passes first task → IsTaskOf pair settings passes found task
 
 -- What passes make of a valid task, they make of it as a written one.
 abbrev pub PassesKeepReadTasks : Type 0

@@ -2,7 +2,7 @@
 
 ghost use Rattle.std.specs.Prelude.{[]};
 ghost use Rattle.command_line.specs.declared.accepted.Settings.{Settings};
-ghost use Rattle.type_checker.specs.Checked.{Pair, IsChecked};
+ghost use Rattle.type_checker.specs.Checked.{FilePair, IsChecked};
 ghost use Rattle.normal_task.specs.Normalised.{normal};
 ghost use Rattle.invariant_guess.specs.declared.types.Found.{Found};
 ghost use Rattle.invariant_guess.specs.Trial.{IsFound};
@@ -24,7 +24,7 @@ use task_simplifier::laws::{orders_forgotten, projection_keeps};
 
 /// The task that a run without passes makes of a pair without faults is valid, and translates the pair.
 pub fn run_task_translates()
-    ensures { (pair : Pair) (settings : Settings) (found : Found) (task : Task) → IsChecked pair → IsFound (normal pair.domain pair.problem) settings.max_candidates found →
+    ensures { (pair : FilePair) (settings : Settings) (found : Found) (task : Task) → IsChecked pair → IsFound (normal pair.domain pair.problem) settings.max_candidates found →
         IsRunTask settings.full_encoding (normal pair.domain pair.problem) found task → IsTaskOf pair settings [] found task }
 {
     idle_steps();

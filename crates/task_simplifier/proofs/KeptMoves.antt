@@ -21,7 +21,7 @@ use Rattle.sas_task.specs.Output.{value_in}
 use Rattle.lists.proofs.Members.{no_member, member_first, member_single, all_pass, each_passes, find_found, find_nothing, member_map, map_member, flat_map_member, member_flat_map, all_from_members}
 use Rattle.sas_task.proofs.ValidParts.{effect_law, rule_law}
 use Rattle.sas_restriction.specs.Closed.{Leaves}
-use Rattle.graph_search.specs.declared.search.Arc.{Arc}
+use Rattle.names.specs.declared.arcs.Arc.{Arc}
 use Rattle.graph_search.specs.Reached.{IsReached, First, Next, AreReached}
 use Rattle.task_simplifier.specs.declared.moves.Move.{Move}
 use Rattle.task_simplifier.specs.Kept.{IsKept, Initial, ByEffect, ByRule, AreKept}

@@ -8,7 +8,7 @@ use Rattle.sas_task.specs.declared.parts.Operator.{Operator}
 use Rattle.sas_task.specs.declared.parts.Rule.{Rule}
 use Rattle.sas_task.specs.Task.{Task}
 use Rattle.sas_task.specs.Output.{value_in}
-use Rattle.graph_search.specs.declared.search.Arc.{Arc}
+use Rattle.names.specs.declared.arcs.Arc.{Arc}
 use Rattle.task_simplifier.specs.declared.moves.Move.{Move}
 
 -- whether the conditions leave this value for the variable

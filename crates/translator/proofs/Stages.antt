@@ -16,7 +16,7 @@ use Rattle.pddl_parser.specs.Outcome.{Reading, Reads, Faults, first}
 use Rattle.domain_parser.specs.Reading.{domain_reading}
 use Rattle.problem_parser.specs.Reading.{problem_reading}
 use Rattle.pddl_parser.specs.Spelled.{IsWellSpelled, IsWellSpelledProblem}
-use Rattle.type_checker.specs.Checked.{Pair, IsChecked, ChecksTo}
+use Rattle.type_checker.specs.Checked.{FilePair, IsChecked, ChecksTo}
 use Rattle.type_checker.specs.Faults.{SidedFault, check_faults}
 use Rattle.type_checker.specs.declared.end.Side.TheVariants as sides
 use Rattle.messages.specs.declared.outcome.Message.{Message}
@@ -50,7 +50,7 @@ said_refused name (Faults found more) end fault is given =
     ap (λ (f : Fault). Refused name (messages.Fault f)) same
 
 -- a pair that the check answers is checked
-pub checked_pair : (d : Domain) (p : Problem) (pair : Pair) → ChecksTo d p (Ok pair) → IsWellSpelled d → IsWellSpelledProblem p → IsChecked pair
+pub checked_pair : (d : Domain) (p : Problem) (pair : FilePair) → ChecksTo d p (Ok pair) → IsWellSpelled d → IsWellSpelledProblem p → IsChecked pair
 checked_pair d p pair checks spelled spelled' = subst IsChecked (sym checks.0) (record { faultless = checks.1; spelled = spelled; spelled_problem = spelled' })
 
 -- ---- one after another
@@ -86,7 +86,7 @@ starved e (Err end) is = subst (λ (x : End). StopsWhere e x) (sym is) tt
 -- ---- two texts
 
 module _ (domain problem : Text) where
-  abbrev Checks : Domain → Problem → Ending Pair
+  abbrev Checks : Domain → Problem → Ending FilePair
   Checks d p = unless_checked domain problem (check_faults d p) (record { domain = d; problem = p })
 
   abbrev AfterBoth : Domain → Problem → Ending Start
@@ -134,7 +134,7 @@ module _ (domain problem : Text) where
         fifth p reads' = goes_on (of_texts domain problem) (said problem.name (problem_reading u)) (AfterBoth d) fourth p reads'
 
         -- they come to the pair that is checked
-        pub comes_to_pair : (p : Problem) → said problem.name (problem_reading u) ≡ Gives p → (pair : Pair) → Checks d p ≡ Gives pair → of_texts domain problem ≡ Gives (FromPair pair)
+        pub comes_to_pair : (p : Problem) → said problem.name (problem_reading u) ≡ Gives p → (pair : FilePair) → Checks d p ≡ Gives pair → of_texts domain problem ≡ Gives (FromPair pair)
         comes_to_pair p reads' pair checks = goes_on (of_texts domain problem) (Checks d p) from_pair (fifth p reads') pair checks
 
         pub stops_in_check : (p : Problem) → said problem.name (problem_reading u) ≡ Gives p → (end : End) → StopsWhere (Checks d p) end → StopsWhere (of_texts domain problem) end
@@ -162,7 +162,7 @@ module _ (names : List (List ℕ)) where
   told_said name (Reads value) in' = tt
   told_said name (Faults fault more) in' = in'
 
-  told_checked : (domain problem : Text) (faults : List SidedFault) (pair : Pair) → Contains names domain.name → Contains names problem.name → IsToldOf (unless_checked domain problem faults pair)
+  told_checked : (domain problem : Text) (faults : List SidedFault) (pair : FilePair) → Contains names domain.name → Contains names problem.name → IsToldOf (unless_checked domain problem faults pair)
   told_checked domain problem [] pair in' in'' = tt
   told_checked domain problem ((sides.Domain, fault) ∷ more) pair in' in'' = in'
   told_checked domain problem ((sides.Problem, fault) ∷ more) pair in' in'' = in''

@@ -5,7 +5,7 @@ use Rattle.std.specs.Vec.{vec_len}
 use Rattle.std.proofs.lemmas.Bool.{eqb-true}
 use Rattle.std.proofs.lemmas.List.{nil_from_length}
 use Rattle.pass_h2.specs.Search.{woken, turned, initial_pairs}
-use Rattle.pass_h2.proofs.Turns.{Between, begins, goes_on, goes_down, are_possible}
+use Rattle.pass_h2.proofs.EmptyQueue.{Between, begins, goes_on, goes_down, are_possible}
 use Rattle.pass_h2.proofs.search.mark_possible.Goals as goal
 
 pub loop-operators-init : goal.loop-operators-init

@@ -1,5 +1,5 @@
 use Rattle.sas_task.specs.Valid.{IsValid}
-use Rattle.pass_h2.proofs.Turns.{Between, measure}
+use Rattle.pass_h2.proofs.EmptyQueue.{Between, measure}
 use Rattle.pass_h2.proofs.search.mark_possible.Given as goal
 
 abbrev pub invariant-loop-operators : goal.invariant-loop-operators
