@@ -29,7 +29,7 @@ use Rattle.fault_positions.specs.Names as names
 use Rattle.fault_positions.specs.Scopes as scopes
 use Rattle.type_checker.specs.Faults.{Row, row, check_faults}
 use Rattle.type_checker.proofs.NoFaults.{left_empty, right_empty, row_empty}
-use Rattle.lists.proofs.Items.{Among, any_passes, passing, piece_empty}
+use Rattle.lists.proofs.Items.{Among, each_both, any_passes, passing, piece_empty}
 use Rattle.normal_task.specs.declared.task.CostRow.TheVariants as costs
 use Rattle.normal_task.specs.declared.task.ValueRow.{ValueRow}
 use Rattle.normal_task.specs.Numbers.{head_names, function_number}
@@ -153,10 +153,6 @@ module _ (domain : Domain) (problem : Problem) where
   abbrev Sound : Effect → Type 0
   Sound effect = IncreasesSound (step.increases effect) (increases.increases effect) (scopes.in_effect effect) (in_effect effect)
 
-  each-both : {X : Type 0} (P : X → Type 0) (xs ys : List X) → Each P xs → Each P ys → Each P (xs ++ ys)
-  each-both P [] ys one other = other
-  each-both P (x ∷ xs) ys one other = (one.0, each-both P xs ys one.1 other)
-
   none-inner : (members : List Effect) → Each Sound members → list_all is_formed (flat_map (λ (member : Depth → List Increase). member Inner) (map increases.increases members)) ≡ true → flat_map (λ (costs : List Cost). costs) (map step.increases members) ≡ []
   none-inner [] each formed = refl
   none-inner (member ∷ members) each formed =
@@ -168,7 +164,7 @@ module _ (domain : Domain) (problem : Problem) where
       flat_map (λ member. member in_scope) (map scopes.in_effect members) ≡ [] → list_all is_sound_mention (flat_map (λ mentions. mentions) (map in_effect members)) ≡ true → Each (CostSound in_scope) (flat_map (λ (costs : List Cost). costs) (map step.increases members))
   members-sound [] each depth formed in_scope unbound mentioned = tt
   members-sound (member ∷ members) each depth formed in_scope unbound mentioned =
-      each-both (CostSound in_scope) (step.increases member) (flat_map (λ (costs : List Cost). costs) (map step.increases members))
+      each_both (CostSound in_scope) (step.increases member) (flat_map (λ (costs : List Cost). costs) (map step.increases members))
       (each.0.1 depth (all-left is_formed (increases.increases member depth) (flat_map (λ (member : Depth → List Increase). member depth) (map increases.increases members)) formed) in_scope
       (left_empty (scopes.in_effect member in_scope) (flat_map (λ member. member in_scope) (map scopes.in_effect members)) unbound)
       (all-left is_sound_mention (in_effect member) (flat_map (λ mentions. mentions) (map in_effect members)) mentioned))

@@ -51,7 +51,7 @@ IsBlind choice = (a b : Operator) → IsAlike a b → choice.operators a ≡ cho
 
 module _ (C : Choice) where
   -- variables that are shown have different numbers
-  one_shown : (v w : ℕ) → is_shown C v ≡ true → is_shown C w ≡ true → new_var C v ≡ new_var C w → v ≡ w
+  pub one_shown : (v w : ℕ) → is_shown C v ≡ true → is_shown C w ≡ true → new_var C v ≡ new_var C w → v ≡ w
   one_shown v w shown shown' same =
       sym (place_of C.vars v (any_member v C.vars shown)).1 ∙ ap (λ k. get_or C.vars k 0) same ∙ (place_of C.vars w (any_member w C.vars shown')).1
 

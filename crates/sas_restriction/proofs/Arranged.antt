@@ -17,8 +17,8 @@ use Rattle.sas_restriction.specs.Choice.{Choice, IsChoice, is_shown, all_left, n
 use Rattle.sas_restriction.specs.declared.chosen.Once.{Once}
 use Rattle.sas_restriction.specs.Restriction.{IsNewOperator, Restricts, new_operator, new_groups, new_operators, new_rules, restriction}
 use Rattle.sas_orders.proofs.Sorted.{arranged_member, member_arranged}
+use Rattle.sas_restriction.proofs.Alike.{one_shown}
 use Rattle.sas_restriction.proofs.Exact.{effect_exact, operator_exact, rule_exact}
-use Rattle.sas_restriction.proofs.Shown.{one_old}
 use Rattle.sas_restriction.proofs.Valid.{one_after}
 use Rattle.lists.proofs.Exact.{then_equal, nat_exact}
 
@@ -52,7 +52,7 @@ module _ (once : Once) (C : Choice) (T : Task) (valid : IsValid T) (choice : IsC
       let sr = and_parts (all_left C r.0.conditions) (is_shown C r.0.var) r.2 in
       let sq = and_parts (all_left C q.0.conditions) (is_shown C q.0.var) q.2 in
       let same-var : a.var ≡ b.var = nat_exact a.var b.var (then_equal (nat_cmp a.var b.var) (pairs_cmp a.conditions b.conditions) equal).0 in
-      let one : r.0.var ≡ q.0.var = one_old C T choice r.0.var q.0.var sr.1 sq.1 (ap (λ (r : Rule). r.var) r.3 ∙ same-var ∙ sym (ap (λ (r : Rule). r.var) q.3)) in
+      let one : r.0.var ≡ q.0.var = one_shown C r.0.var q.0.var sr.1 sq.1 (ap (λ (r : Rule). r.var) r.3 ∙ same-var ∙ sym (ap (λ (r : Rule). r.var) q.3)) in
       let before : r.0.before ≡ q.0.before = (rule_law T valid r.0 r.1).default ∙ ap (λ v. get_or T.state v 0) one ∙ sym (rule_law T valid q.0 q.1).default in
       rule_exact a b
       (sym (ap (λ (r : Rule). r.before) r.3) ∙ ap (new_val C r.0.var) before ∙ ap (λ w. new_val C w q.0.before) one ∙ ap (λ (r : Rule). r.before) q.3)

@@ -17,8 +17,9 @@ use Rattle.sas_restriction.specs.Choice.{Choice, IsChoice, is_shown, all_left, n
 use Rattle.sas_restriction.specs.Restriction.{Restricts}
 use Rattle.sas_restriction.specs.MayStand.{AreTold}
 use Rattle.lists.proofs.Members.{find_found, find_nothing}
+use Rattle.sas_restriction.proofs.Alike.{one_shown}
 use Rattle.sas_restriction.proofs.Shape.{layer_low, layer_high, more_low, state_low}
-use Rattle.sas_restriction.proofs.Shown.{old, num, num_low, num_high, shown_below, old_at, one_old, holds_new, holds_old, holding_left}
+use Rattle.sas_restriction.proofs.Shown.{old, num, num_low, num_high, shown_below, old_at, holds_new, holds_old, holding_left}
 use Rattle.sas_restriction.proofs.Valid.{one_after}
 
 -- values, by number
@@ -63,7 +64,7 @@ module _ (C : Choice) (T T' : Task) (valid : IsValid T) (choice : IsChoice C T) 
       let q = r.rules q' is.0 in
       let stays = and_parts (all_left C q.0.conditions) (is_shown C q.0.var) q.2 in
       let at-v = old_at C T choice v' low in
-      let var-is : q.0.var ≡ old C T choice v' = one_old C T choice q.0.var (old C T choice v') stays.1 at-v.0 (ap (λ (q : Rule). q.var) q.3 ∙ eqb-true q'.var v' parts.0 ∙ sym at-v.1) in
+      let var-is : q.0.var ≡ old C T choice v' = one_shown C q.0.var (old C T choice v') stays.1 at-v.0 (ap (λ (q : Rule). q.var) q.3 ∙ eqb-true q'.var v' parts.0 ∙ sym at-v.1) in
       let holds : all_hold full (new_pairs C q.0.conditions) ≡ true = ap (λ (q : Rule). all_hold full q.conditions) q.3 ∙ parts.1 in
       (q.0, q.1, var-is, holds_old C T choice (values T s) full (length T'.variables) (more_low C T T' r) lists all q.0.conditions (rule_law T valid q.0 q.1).conditions.facts stays.0 (told q.0 q.1 q.2) holds, sym (ap (λ (q : Rule). q.after) q.3) ∙ ap (λ w. new_val C w q.0.after) var-is)
 

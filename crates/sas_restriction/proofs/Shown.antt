@@ -44,9 +44,6 @@ module _ (C : Choice) (T : Task) (choice : IsChoice C T) where
   pub old_at : (v' : ℕ) → v' < length C.vars → (is_shown C (old v') ≡ true) × (new_var C (old v') ≡ v')
   old_at v' low = (member_any (old v') C.vars (v', low, get_or_default C.vars v' (old v') 0 low), at_place_of C.vars v' choice.once low)
 
-  pub one_old : (v w : ℕ) → is_shown C v ≡ true → is_shown C w ≡ true → new_var C v ≡ new_var C w → v ≡ w
-  one_old v w sv sw same = sym (shown_at v sv).1 ∙ ap old same ∙ (shown_at w sw).1
-
   pub num_at : (v x : ℕ) → is_shown C v ≡ true → num (new_var C v) x ≡ new_val C v x
   num_at v x shown = let at = shown_at v shown in num_low (new_var C v) x at.0 ∙ ap (λ w. new_val C w x) at.1
 

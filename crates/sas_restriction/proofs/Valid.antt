@@ -25,6 +25,7 @@ use Rattle.sas_task.specs.Orders.{pair_cmp}
 use Rattle.sas_task.proofs.Orders.{pair_total}
 use Rattle.sas_task.proofs.ValidParts.{operator_law, rule_law}
 use Rattle.lists.proofs.Members.{no_member, all_from_members, member_single, filter_member, map_member}
+use Rattle.sas_restriction.proofs.Alike.{one_shown}
 use Rattle.sas_restriction.proofs.Pairs.{of_pairs, pairs_mapped, pairs_unmapped}
 use Rattle.sas_orders.specs.InOrder.{sorted}
 use Rattle.sas_restriction.specs.Choice.{Choice, IsChoice, is_shown, is_left, all_left, new_var, new_val, new_pair, new_pairs, variable_at, new_variable, fact_stays, new_group, effect_stays, new_effect, rule_stays, new_rule, holder_variable}
@@ -32,7 +33,7 @@ use Rattle.sas_restriction.specs.Restriction.{IsNewOperator, Restricts}
 use Rattle.sas_orders.proofs.Sorted.{sorted_member, sorted_ordered}
 use Rattle.sas_restriction.proofs.Numbers.{count_some, any_member}
 use Rattle.sas_restriction.proofs.Shape.{variable_low, variable_last, layer_low, count_is, state_count, state_low, state_high}
-use Rattle.sas_restriction.proofs.Shown.{old, shown_at, shown_below, old_at, one_old, val_apart, good_of, pair_of}
+use Rattle.sas_restriction.proofs.Shown.{old, shown_at, shown_below, old_at, val_apart, good_of, pair_of}
 use Rattle.lists.proofs.Exact.{nat_exact}
 use Rattle.lists.specs.Names.{IsName}
 
@@ -113,7 +114,7 @@ module _ (C : Choice) (T T' : Task) (valid : IsValid T) (choice : IsChoice C T) 
           let p = pair_of C T choice ps a in-a in
           let q = pair_of C T choice ps b in-b in
           let vars : new_var C p.0.var ≡ new_var C q.0.var = ap (λ (p : Pair). p.var) p.3 ∙ same.0 ∙ sym (ap (λ (p : Pair). p.var) q.3) in
-          let one : p.0 ≡ q.0 = one_condition T ps law p.0 q.0 p.1 q.1 (one_old C T choice p.0.var q.0.var p.2 q.2 vars) in
+          let one : p.0 ≡ q.0 = one_condition T ps law p.0 q.0 p.1 q.1 (one_shown C p.0.var q.0.var p.2 q.2 vars) in
           let vals : a.val ≡ b.val = ap (λ (p : Pair). p.val) (sym p.3 ∙ ap (new_pair C) one ∙ q.3) in
           let less : a.val < b.val = same.1 in
           absurd (omega arith)
@@ -189,7 +190,7 @@ module _ (C : Choice) (T T' : Task) (valid : IsValid T) (choice : IsChoice C T) 
       let q = r.rules b in-b in
       let sp = and_parts (all_left C p.0.conditions) (is_shown C p.0.var) p.2 in
       let sq = and_parts (all_left C q.0.conditions) (is_shown C q.0.var) q.2 in
-      let one : p.0.var ≡ q.0.var = one_old C T choice p.0.var q.0.var sp.1 sq.1 (ap (λ (r : Rule). r.var) p.3 ∙ same ∙ sym (ap (λ (r : Rule). r.var) q.3)) in
+      let one : p.0.var ≡ q.0.var = one_shown C p.0.var q.0.var sp.1 sq.1 (ap (λ (r : Rule). r.var) p.3 ∙ same ∙ sym (ap (λ (r : Rule). r.var) q.3)) in
       sym (ap (λ (r : Rule). r.after) p.3) ∙ ap (new_val C p.0.var) (one_after T valid p.0 q.0 p.1 q.1 one) ∙ ap (λ w. new_val C w q.0.after) one ∙ ap (λ (r : Rule). r.after) q.3
 
   -- the holder
