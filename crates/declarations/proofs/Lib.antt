@@ -2,3 +2,4 @@
 pub mod NewNames
 -- lemmas of this crate
 mod FoundTypes
+mod AskedTypes

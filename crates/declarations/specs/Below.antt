@@ -48,6 +48,12 @@ abbrev pub is_any : List Named → Bool
 is_any [] = true
 is_any (type ∷ more) = list_any (λ listed. is_same listed.name root) (type ∷ more)
 
+-- the type that is listed alone, where `object` stands for no type at all
+abbrev pub one_type : List Named → List Name
+one_type [] = root ∷ []
+one_type (type ∷ []) = type.name ∷ []
+one_type (type ∷ other ∷ more) = []
+
 -- the object has a type among those found, or any type will do
 abbrev pub has_type_among : Bool → List Name → Typed → Bool
 has_type_among any found object = any || list_any (λ type. has found type.name) object.types

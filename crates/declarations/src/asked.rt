@@ -1,100 +1,56 @@
 // The types that variables range over.
-use pddl_parser::{Action, Condition, Derived, Domain, Effect, Named, Problem, Typed};
+ghost use Rattle.std.specs.Prelude.{◌≡◌, ◌++◌, map, IfOk, OnOk};
+ghost use Rattle.fault_positions.specs.Seen.{all_seen, seen};
+ghost use Rattle.declarations.specs.Asked.{types_at, types_of, variable_types};
+
+use fault_positions::{Mention, mentions_in_domain, mentions_in_problem};
+use pddl_parser::{Domain, Named, Problem, Typed};
 use std::alloc::{AllocError, Global};
 
-/// The lists of types of all variables of the two files.
+/// The lists of types of all variables of actions, axioms and the goal. The heads of predicates and functions, which a domain
+/// mentions first, have variables that range over nothing.
 pub fn asked_types<'a>(
     alloc: Global,
     domain: &'a Domain,
     problem: &'a Problem,
-) -> Result<Vec<&'a [Named]>, AllocError> {
+) -> Result<Vec<&'a [Named]>, AllocError>
+    ensures { IfOk result (λ asked. map (λ listed. listed.now) asked.items ≡ variable_types domain.now problem.now) }
+{
+    let heads = domain.predicates.as_slice().len() + domain.functions.as_slice().len();
+    let in_domain = mentions_in_domain(alloc, domain)?;
+    let in_problem = mentions_in_problem(alloc, problem)?;
     let mut asked = Vec::new(alloc);
-    for action in domain.actions.as_slice() {
-        ask_in_action(&mut asked, action)?;
-    }
-    for axiom in domain.axioms.as_slice() {
-        ask_in_axiom(&mut asked, axiom)?;
-    }
-    ask_in_condition(&mut asked, &problem.goal)?;
+    ask(&mut asked, &in_domain[heads..])?;
+    ask(&mut asked, &in_problem)?;
     Ok(asked)
 }
 
-fn ask_in_action<'a>(asked: &mut Vec<&'a [Named]>, action: &'a Action) -> Result<(), AllocError> {
-    ask(asked, action.parameters.as_slice())?;
-    ask_in_condition(asked, &action.precondition)?;
-    ask_in_effect(asked, &action.effect)
+/// Adds the types of each variable that is mentioned.
+fn ask<'a>(asked: &mut Vec<&'a [Named]>, mentions: &[Mention<'a>]) -> Result<(), AllocError>
+    ensures { OnOk result (map (λ listed. listed.now) asked.new.items ≡ map (λ listed. listed.now) asked.old.items ++ types_of (all_seen mentions.now)) }
+{
+    for mention in mentions {
+        ask_at(asked, mention)?;
+    }
+    Ok(())
 }
 
-fn ask_in_axiom<'a>(asked: &mut Vec<&'a [Named]>, axiom: &'a Derived) -> Result<(), AllocError> {
-    ask(asked, axiom.head.variables.as_slice())?;
-    ask_in_condition(asked, &axiom.body)
+/// Adds the types of each variable of the list, where one is mentioned.
+fn ask_at<'a>(asked: &mut Vec<&'a [Named]>, mention: &Mention<'a>) -> Result<(), AllocError>
+    ensures { OnOk result (map (λ listed. listed.now) asked.new.items ≡ map (λ listed. listed.now) asked.old.items ++ types_at (seen mention.now)) }
+{
+    match mention {
+        Mention::Variables(variables) => ask_each(asked, variables),
+        _ => Ok(()),
+    }
 }
 
-fn ask<'a>(asked: &mut Vec<&'a [Named]>, variables: &'a [Typed]) -> Result<(), AllocError> {
+/// Adds the types of each of the variables.
+fn ask_each<'a>(asked: &mut Vec<&'a [Named]>, variables: &'a [Typed]) -> Result<(), AllocError>
+    ensures { OnOk result (map (λ listed. listed.now) asked.new.items ≡ map (λ listed. listed.now) asked.old.items ++ map (λ variable. variable.types) variables.now) }
+{
     for variable in variables {
         asked.push(variable.types.as_slice())?;
-    }
-    Ok(())
-}
-
-#[cycle(ask_in_condition)]
-fn ask_in_condition<'a>(
-    asked: &mut Vec<&'a [Named]>,
-    condition: &'a Condition,
-) -> Result<(), AllocError> {
-    match condition {
-        Condition::True(_) | Condition::Atom(_) | Condition::Equal(_, _, _) => Ok(()),
-        Condition::Not(inside, _) => ask_in_condition(asked, inside.get()),
-        Condition::And(members, _) | Condition::Or(members, _) => {
-            ask_in_conditions(asked, members.as_slice())
-        }
-        Condition::Imply(premise, conclusion, _) => {
-            ask_in_condition(asked, premise.get())?;
-            ask_in_condition(asked, conclusion.get())
-        }
-        Condition::Forall(variables, inside, _) | Condition::Exists(variables, inside, _) => {
-            ask(asked, variables.as_slice())?;
-            ask_in_condition(asked, inside.get())
-        }
-    }
-}
-
-#[cycle(ask_in_condition)]
-fn ask_in_conditions<'a>(
-    asked: &mut Vec<&'a [Named]>,
-    members: &'a [Condition],
-) -> Result<(), AllocError> {
-    for member in members {
-        ask_in_condition(asked, member)?;
-    }
-    Ok(())
-}
-
-#[cycle(ask_in_effect)]
-fn ask_in_effect<'a>(asked: &mut Vec<&'a [Named]>, effect: &'a Effect) -> Result<(), AllocError> {
-    match effect {
-        Effect::Nothing(_) | Effect::Add(_) | Effect::Delete(_) | Effect::Increase(_, _, _) => Ok(
-            (),
-        ),
-        Effect::And(members, _) => ask_in_effects(asked, members.as_slice()),
-        Effect::When(condition, inside, _) => {
-            ask_in_condition(asked, condition)?;
-            ask_in_effect(asked, inside.get())
-        }
-        Effect::Forall(variables, inside, _) => {
-            ask(asked, variables.as_slice())?;
-            ask_in_effect(asked, inside.get())
-        }
-    }
-}
-
-#[cycle(ask_in_effect)]
-fn ask_in_effects<'a>(
-    asked: &mut Vec<&'a [Named]>,
-    members: &'a [Effect],
-) -> Result<(), AllocError> {
-    for member in members {
-        ask_in_effect(asked, member)?;
     }
     Ok(())
 }

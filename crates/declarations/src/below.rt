@@ -1,5 +1,5 @@
 // Listed types, and the types below them.
-ghost use Rattle.std.specs.Prelude.{◌≡◌, ◌+◌, ◌*◌, ◌||◌, ◌<◌, true, false, if◌then◌else◌, IfOk, IfSome, OnOk};
+ghost use Rattle.std.specs.Prelude.{◌≡◌, ◌+◌, ◌*◌, ◌||◌, ◌<◌, true, false, if◌then◌else◌, [], ◌∷◌, IfOk, IfSome, MatchOption, OnOk};
 ghost use Rattle.std.specs.List.{list_any};
 ghost use Rattle.pddl_parser.specs.declared.types.Domain.{Domain};
 ghost use Rattle.pddl_parser.specs.declared.types.Problem.{Problem};
@@ -191,7 +191,8 @@ fn add_round<'a>(found: &mut Names<'a>, entries: &'a [Typed]) -> Result<bool, Al
 
 /// The type that is listed alone, where `object` stands for no type at all.
 pub fn one_type(listed: &[Named]) -> Option<&[u8]>
-    ensures { (domain : Domain) (problem : Problem) → IfSome result (λ type. objects_of_type domain problem type.now ≡ range_of_types domain problem listed.now) }
+    ensures alone { MatchOption result (spec.one_type listed.now ≡ []) (λ type. spec.one_type listed.now ≡ type.now ∷ []) }
+    ensures objects { (domain : Domain) (problem : Problem) → IfSome result (λ type. objects_of_type domain problem type.now ≡ range_of_types domain problem listed.now) }
 {
     match listed {
         [] => Some(b"object".as_slice()),

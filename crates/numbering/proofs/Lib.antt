@@ -1,3 +1,4 @@
 -- Lemmas of this crate.
 mod Ranges
 mod TypeRanges
+mod KnownTypes

@@ -1,15 +1,14 @@
 -- The objects of listed types, by the types that are found below these.
-use Rattle.std.proofs.Common.{◌≡◌, ℕ, ◌<◌, Bool, false, ◌||◌, inl, inr, List, [], ◌∷◌, ◌++◌, map, length, get_or, refl, sym, ap, ◌∙◌, subst}
+use Rattle.std.proofs.Common.{◌≡◌, ℕ, Bool, false, ◌||◌, List, [], ◌∷◌, ◌++◌, map, length, refl, sym, ap, ◌∙◌}
 use Rattle.std.specs.List.{list_any, filter}
-use Rattle.lists.proofs.Items.{Among, among_at, same_any, any_or}
+use Rattle.lists.proofs.Items.{same_any, any_or}
 use Rattle.pddl_parser.specs.declared.types.Domain.{Domain}
 use Rattle.pddl_parser.specs.declared.types.Named.{Named}
 use Rattle.pddl_parser.specs.declared.types.Problem.{Problem}
 use Rattle.pddl_parser.specs.declared.types.Typed.{Typed}
 use Rattle.pddl_parser.specs.Words.{Name, is_same}
 use Rattle.pddl_parser.specs.Objects.{root, leads, has_type, has_listed_type}
-use Rattle.numbering.specs.declared.numbering.OfType.{OfType}
-use Rattle.declarations.specs.Below.{has, leads_to, has_type_among, is_any, objects_of_type, range_of_types}
+use Rattle.declarations.specs.Below.{has, leads_to, has_type_among, is_any, range_of_types}
 use Rattle.normal_task.specs.Numbers.{object_number}
 use Rattle.numbering.proofs.Ranges.{ranged}
 
@@ -53,25 +52,3 @@ range_found domain problem types listed found any types_are below any_is constan
     (same_filter (has_type_among any found) (has_listed_type types listed) (λ object. ap (λ b. has_type_among b found object) any_is ∙ same_listed types listed found below object) (constants ++ others)
     ∙ ap (λ (t : List Typed). filter (has_listed_type t listed) (constants ++ others)) types_are
     ∙ ap (filter (has_listed_type domain.types listed)) (ap (λ (l : List Typed). l ++ others) constants_are ∙ ap (λ (l : List Typed). domain.constants ++ l) others_are))
-
--- ---- types whose objects are known
-
-abbrev first_or : {Y : Type 0} → Y → List Y → Y
-first_or {Y} other [] = other
-first_or {Y} other (item ∷ items) = item
-
-abbrev behind_first : {Y : Type 0} → List Y → List Y
-behind_first {Y} [] = []
-behind_first {Y} (item ∷ items) = items
-
--- two lists that are made of one are the same item by item
-same_among : {X Y : Type 0} (f g : X → Y) (item : X) (xs : List X) → map f xs ≡ map g xs → Among item xs → f item ≡ g item
-same_among f g item [] same among = absurd among
-same_among f g item (x ∷ xs) same (inl here) = ap f (sym here) ∙ ap (first_or (f x)) same ∙ ap g here
-same_among f g item (x ∷ xs) same (inr there) = same_among f g item xs (ap behind_first same) there
-
--- one of the types has its objects
-pub known_at : (domain : Domain) (problem : Problem) (known : List OfType) → map (λ known. known.objects) known ≡ map (λ known. objects_of_type domain problem known.name.now) known →
-    (place : ℕ) (one : OfType) → place < length known → one ≡ get_or known place one → one.objects ≡ objects_of_type domain problem one.name.now
-known_at domain problem known are place one within is =
-    same_among (λ (k : OfType). k.objects) (λ (k : OfType). objects_of_type domain problem k.name.now) one known are (subst (λ (k : OfType). Among k known) (sym is) (among_at known place one within))

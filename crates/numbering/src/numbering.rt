@@ -1,8 +1,11 @@
 // The numbers of objects, predicates and functions.
-ghost use Rattle.std.specs.Prelude.{◌≡◌, ◌++◌, map, length, IfOk, IfSome, OnOk};
+ghost use Rattle.std.specs.Prelude.{◌≡◌, ◌++◌, [], ◌∷◌, List as Items, map, length, IfOk, IfSome, OnOk};
 ghost use Rattle.std.specs.List.{filter};
+ghost use Rattle.declarations.specs.Asked.{variable_types};
 ghost use Rattle.declarations.specs.Below.{has_type_among, range_of_types};
 ghost use Rattle.normal_task.specs.Numbers as spec;
+ghost use Rattle.numbering.specs.Known.{AreKnown};
+ghost use Rattle.pddl_parser.specs.declared.types.Named.{Named as TypeName};
 
 use declarations::{
     Hierarchy, asked_types, has_some, is_any, names_of, names_of_objects, one_type,
@@ -15,26 +18,150 @@ use std::alloc::{AllocError, Global};
 use std::marker::Model;
 use type_checker::Checked;
 
-/// The objects of a type, by their numbers.
+/// The types whose objects are known, and for each of them its objects.
 #[derive(Drop)]
-pub(crate) struct OfType<'a> {
-    name: &'a [u8],
-    objects: ObjectRange,
+struct KnownTypes<'a> {
+    types: Names<'a>,
+    ranges: Vec<ObjectRange>,
+}
+
+/// The objects of two files, by their names and by their types. Contracts see the two files.
+#[derive(Drop)]
+struct ObjectTables<'a> {
+    domain: &'a Domain,
+    problem: &'a Problem,
+    names: Names<'a>,
+    hierarchy: Hierarchy<'a>,
+}
+
+impl<'a> Model for ObjectTables<'a> {
+    ghost use Rattle.std.specs.Prelude.{◌≡◌};
+    ghost use Rattle.std.specs.Coded.{codes};
+    ghost use Rattle.pddl_parser.specs.contracts.types.Condition as condition;
+    ghost use Rattle.pddl_parser.specs.contracts.types.Effect as effect;
+    ghost use Rattle.type_checker.specs.Checked.{FilePair};
+    ghost use Rattle.normal_task.specs.Numbers.{object_names};
+
+    ghost Value = { FilePair };
+
+    ghost coded = { Prim.hlevel (codes, condition.the_row.coded, effect.the_row.coded) };
+
+    ghost view = { λ tables. record { domain = tables.domain.now; problem = tables.problem.now } };
+
+    ghost invariant = { λ tables. (tables.names ≡ object_names tables.domain.now tables.problem.now) × (tables.hierarchy.entries.now ≡ tables.domain.now.types) };
+}
+
+impl<'a> ObjectTables<'a> {
+    fn of(alloc: Global, task: &'a Checked) -> Result<ObjectTables<'a>, AllocError>
+        ensures { IfOk result (λ tables. tables ≡ task.now) }
+    {
+        let domain = task.domain();
+        let names = names_of_objects(alloc, task)?;
+        let hierarchy = Hierarchy::new(alloc, domain.types.as_slice())?;
+        Ok(ObjectTables {
+            domain,
+            problem: task.problem(),
+            names,
+            hierarchy,
+        })
+    }
+
+    /// The number of the object of this name.
+    fn number(&self, name: &[u8]) -> u64
+        ensures { result ≡ spec.object_number self.now.domain self.now.problem name.now }
+    {
+        self.names.position(name) as u64
+    }
+
+    /// The numbers of the objects that have a listed type.
+    fn range_of_types(&self, alloc: Global, listed: &'a [Named]) -> Result<ObjectRange, AllocError>
+        ensures { IfOk result (λ range. range ≡ range_of_types self.now.domain self.now.problem listed.now) }
+    {
+        let below = self.hierarchy.below(alloc, listed)?;
+        let is_any = is_any(listed);
+        let mut numbers = Vec::new(alloc);
+        self.push_numbers(
+            &mut numbers,
+            is_any,
+            &below,
+            self.domain.constants.as_slice(),
+        )?;
+        self.push_numbers(
+            &mut numbers,
+            is_any,
+            &below,
+            self.problem.objects.as_slice(),
+        )?;
+        ObjectRange::from_vec(alloc, numbers)
+    }
+
+    /// Adds the numbers of those of the objects that have one of the types, or of all of them.
+    fn push_numbers(
+        &self,
+        numbers: &mut Vec<u64>,
+        is_any: bool,
+        below: &Names<'_>,
+        objects: &[Typed],
+    ) -> Result<(), AllocError>
+        ensures { OnOk result (numbers.new.items ≡ numbers.old.items ++ map (spec.object_number self.now.domain self.now.problem) (map (λ object. object.name.name) (filter (has_type_among is_any below.now) objects.now))) }
+    {
+        for object in objects {
+            if is_any || has_some(below, object.types.as_slice()) {
+                numbers.push(self.number(object.name.name.as_slice()))?;
+            }
+        }
+        Ok(())
+    }
+
+    /// The types that a variable of the two files has alone, and their objects.
+    fn known_types(&self, alloc: Global) -> Result<KnownTypes<'a>, AllocError>
+        ensures { IfOk result (λ known. AreKnown self.now.domain self.now.problem (variable_types self.now.domain self.now.problem) known.types known.ranges.items) }
+    {
+        let asked = asked_types(alloc, self.domain, self.problem)?;
+        self.known_of(alloc, &asked)
+    }
+
+    /// The types that are listed alone, and their objects, which are looked up once for each type.
+    fn known_of(&self, alloc: Global, asked: &[&'a [Named]]) -> Result<KnownTypes<'a>, AllocError>
+        ensures { IfOk result (λ known. AreKnown self.now.domain self.now.problem (map (λ listed. listed.now) asked.now) known.types known.ranges.items) }
+    {
+        let mut known = KnownTypes {
+            types: Names::new(alloc),
+            ranges: Vec::new(alloc),
+        };
+        for listed in asked {
+            self.know_type(alloc, &mut known, *listed)?;
+        }
+        Ok(known)
+    }
+
+    /// Looks up which objects have the type, if one type alone is listed and its objects aren't known.
+    fn know_type(
+        &self,
+        alloc: Global,
+        known: &mut KnownTypes<'a>,
+        listed: &'a [Named],
+    ) -> Result<(), AllocError>
+        ensures { OnOk result ((asked : Items (Items TypeName)) → AreKnown self.now.domain self.now.problem asked known.old.types known.old.ranges.items → AreKnown self.now.domain self.now.problem (asked ++ listed.now ∷ []) known.new.types known.new.ranges.items) }
+    {
+        let Some(name) = one_type(listed) else {
+            return Ok(());
+        };
+        if known.types.add(name)? {
+            known.ranges.push(self.range_of_types(alloc, listed)?)?;
+        }
+        Ok(())
+    }
 }
 
 /// The objects, the declared predicates and the declared functions of two files, by their positions. A look-up goes
 /// through a table. Contracts see the two files.
 #[derive(Drop)]
 pub struct Numbering<'a> {
-    domain: &'a Domain,
-    problem: &'a Problem,
-    objects: Names<'a>,
+    objects: ObjectTables<'a>,
     predicates: Names<'a>,
     functions: Names<'a>,
-    hierarchy: Hierarchy<'a>,
-    /// The names of the types whose objects are known, in the order of what is known of them.
-    types: Names<'a>,
-    of_types: Vec<OfType<'a>>,
+    known: KnownTypes<'a>,
 }
 
 impl<'a> Model for Numbering<'a> {
@@ -43,77 +170,57 @@ impl<'a> Model for Numbering<'a> {
     ghost use Rattle.pddl_parser.specs.contracts.types.Condition as condition;
     ghost use Rattle.pddl_parser.specs.contracts.types.Effect as effect;
     ghost use Rattle.type_checker.specs.Checked.{FilePair};
-    ghost use Rattle.std.specs.Prelude.{map};
-    ghost use Rattle.declarations.specs.Below.{objects_of_type};
-    ghost use Rattle.normal_task.specs.Numbers.{object_names, head_names};
+    ghost use Rattle.declarations.specs.Asked.{variable_types};
+    ghost use Rattle.normal_task.specs.Numbers.{head_names};
+    ghost use Rattle.numbering.specs.Known.{AreKnown};
 
     ghost Value = { FilePair };
 
     ghost coded = { Prim.hlevel (codes, condition.the_row.coded, effect.the_row.coded) };
 
-    ghost view = { λ numbering. record { domain = numbering.domain.now; problem = numbering.problem.now } };
+    ghost view = { λ numbering. numbering.objects };
 
-    ghost invariant = { λ numbering. (numbering.objects ≡ object_names numbering.domain.now numbering.problem.now) × ((numbering.predicates ≡ head_names numbering.domain.now.predicates) × ((numbering.functions ≡ head_names numbering.domain.now.functions) × ((numbering.hierarchy.entries.now ≡ numbering.domain.now.types) × (map (λ known. known.objects) numbering.of_types.items ≡ map (λ known. objects_of_type numbering.domain.now numbering.problem.now known.name.now) numbering.of_types.items)))) };
+    ghost invariant = { λ numbering. (numbering.predicates ≡ head_names numbering.objects.domain.predicates) × ((numbering.functions ≡ head_names numbering.objects.domain.functions) × AreKnown numbering.objects.domain numbering.objects.problem (variable_types numbering.objects.domain numbering.objects.problem) numbering.known.types numbering.known.ranges.items) };
 }
 
 impl<'a> Numbering<'a> {
-    /// The numbering of a checked pair, which declares no name twice.
+    /// The numbering of a checked pair, which declares no name twice. The objects of each type that a variable has alone
+    /// are looked up once, here.
     pub fn of(alloc: Global, task: &'a Checked) -> Result<Numbering<'a>, AllocError>
         ensures { IfOk result (λ numbering. numbering ≡ task.now) }
     {
-        let mut numbering = Numbering::of_names(alloc, task)?;
-        numbering.know_asked(alloc)?;
-        Ok(numbering)
-    }
-
-    /// The numbering, before the objects of any type are looked up.
-    fn of_names(alloc: Global, task: &'a Checked) -> Result<Numbering<'a>, AllocError>
-        ensures { IfOk result (λ numbering. numbering ≡ task.now) }
-    {
         let domain = task.domain();
-        let objects = names_of_objects(alloc, task)?;
         let predicates = names_of(alloc, domain.predicates.as_slice())?;
         let functions = names_of(alloc, domain.functions.as_slice())?;
-        let hierarchy = Hierarchy::new(alloc, domain.types.as_slice())?;
+        let objects = ObjectTables::of(alloc, task)?;
+        let known = objects.known_types(alloc)?;
         Ok(Numbering {
-            domain,
-            problem: task.problem(),
             objects,
             predicates,
             functions,
-            hierarchy,
-            types: Names::new(alloc),
-            of_types: Vec::new(alloc),
+            known,
         })
-    }
-
-    /// Looks up once which objects have the types of all variables.
-    fn know_asked(&mut self, alloc: Global) -> Result<(), AllocError>
-        ensures { OnOk result (self.new ≡ self.old) }
-    {
-        let asked = asked_types(alloc, self.domain, self.problem)?;
-        self.know_types(alloc, &asked)
     }
 
     /// The domain.
     pub fn domain(&self) -> &'a Domain
         ensures { result.now ≡ self.now.domain }
     {
-        self.domain
+        self.objects.domain
     }
 
     /// The problem.
     pub fn problem(&self) -> &'a Problem
         ensures { result.now ≡ self.now.problem }
     {
-        self.problem
+        self.objects.problem
     }
 
     /// The number of the object of this name.
     pub fn object(&self, name: &[u8]) -> u64
         ensures { result ≡ spec.object_number self.now.domain self.now.problem name.now }
     {
-        self.objects.position(name) as u64
+        self.objects.number(name)
     }
 
     /// The number of the declared predicate of this name.
@@ -134,7 +241,7 @@ impl<'a> Numbering<'a> {
     pub fn domain_predicates(&self) -> u64
         ensures { result ≡ length self.now.domain.predicates }
     {
-        self.domain.predicates.as_slice().len() as u64
+        self.domain().predicates.as_slice().len() as u64
     }
 
     /// The numbers of the objects that the variable ranges over, in their order.
@@ -144,7 +251,7 @@ impl<'a> Numbering<'a> {
         let listed = variable.types.as_slice();
         match self.known_range(listed) {
             Some(range) => range.share(),
-            None => self.range_of_types(alloc, listed),
+            None => self.objects.range_of_types(alloc, listed),
         }
     }
 
@@ -153,80 +260,12 @@ impl<'a> Numbering<'a> {
         ensures { IfSome result (λ range. range.now ≡ range_of_types self.now.domain self.now.problem listed.now) }
     {
         let name = one_type(listed)?;
-        let place = self.types.position(name);
-        if place >= self.of_types.len() {
-            return None;
-        }
-        let known = &self.of_types[place];
-        if known.name == name {
-            Some(&known.objects)
+        let place = self.known.types.position(name);
+        if place < self.known.ranges.len() {
+            Some(&self.known.ranges[place])
         } else {
             None
         }
-    }
-
-    /// The numbers of the objects that have a listed type.
-    fn range_of_types(&self, alloc: Global, listed: &'a [Named]) -> Result<ObjectRange, AllocError>
-        ensures { IfOk result (λ range. range ≡ range_of_types self.now.domain self.now.problem listed.now) }
-    {
-        let below = self.hierarchy.below(alloc, listed)?;
-        let is_any = is_any(listed);
-        let mut numbers = Vec::new(alloc);
-        self.push_numbers(
-            &mut numbers,
-            is_any,
-            &below,
-            self.domain().constants.as_slice(),
-        )?;
-        self.push_numbers(
-            &mut numbers,
-            is_any,
-            &below,
-            self.problem().objects.as_slice(),
-        )?;
-        ObjectRange::from_vec(alloc, numbers)
-    }
-
-    /// Adds the numbers of those of the objects that have one of the types, or of all of them.
-    fn push_numbers(
-        &self,
-        numbers: &mut Vec<u64>,
-        is_any: bool,
-        below: &Names<'_>,
-        objects: &[Typed],
-    ) -> Result<(), AllocError>
-        ensures { OnOk result (numbers.new.items ≡ numbers.old.items ++ map (spec.object_number self.now.domain self.now.problem) (map (λ object. object.name.name) (filter (has_type_among is_any below.now) objects.now))) }
-    {
-        for object in objects {
-            if is_any || has_some(below, object.types.as_slice()) {
-                numbers.push(self.object(object.name.name.as_slice()))?;
-            }
-        }
-        Ok(())
-    }
-
-    /// Looks up once which objects have the type, if one type alone is listed.
-    fn know_type(&mut self, alloc: Global, listed: &'a [Named]) -> Result<(), AllocError>
-        ensures { OnOk result (self.new ≡ self.old) }
-    {
-        let Some(name) = one_type(listed) else {
-            return Ok(());
-        };
-        if self.types.add(name)? {
-            let objects = self.range_of_types(alloc, listed)?;
-            self.of_types.push(OfType { name, objects })?;
-        }
-        Ok(())
-    }
-
-    /// Looks up once which objects have each of the types.
-    fn know_types(&mut self, alloc: Global, asked: &[&'a [Named]]) -> Result<(), AllocError>
-        ensures { OnOk result (self.new ≡ self.old) }
-    {
-        for listed in asked {
-            self.know_type(alloc, *listed)?;
-        }
-        Ok(())
     }
 
     /// What each of the variables ranges over.

@@ -2,7 +2,7 @@ use Rattle.std.proofs.Common.{◌≡◌, ◌++◌, map, take}
 use Rattle.std.specs.List.{filter}
 use Rattle.declarations.specs.Below.{has_type_among}
 use Rattle.normal_task.specs.Numbers as spec
-use Rattle.numbering.proofs.numbering.Numbering.push_numbers.Given as goal
+use Rattle.numbering.proofs.numbering.ObjectTables.push_numbers.Given as goal
 
 abbrev pub invariant-loop-object : goal.invariant-loop-object
 invariant-loop-object l =

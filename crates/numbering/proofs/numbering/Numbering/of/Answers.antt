@@ -1,7 +1,7 @@
 use Rattle.std.proofs.Common.{ap, ◌∙◌}
 use Rattle.pddl_parser.specs.declared.types.Domain.{Domain}
 use Rattle.declarations.proofs.NewNames.{predicates_new, functions_new}
-use Rattle.numbering.proofs.numbering.Numbering.of_names.Goals as goal
+use Rattle.numbering.proofs.numbering.Numbering.of.Goals as goal
 
 pub names_of-requires : goal.names_of-requires
 names_of-requires c =
