@@ -1,4 +1,5 @@
-//! The sections of the version, the metric, the variables, the mutex groups, the state and the goal.
+//! The sections of the version, the metric, the variables, the mutex groups, the state and the goal, which stand in the text
+//! in this order. `docs/OUTPUT.md` has the lines of each, as the planner's output format, version 3, asks for them.
 
 ghost use Rattle.std.specs.Prelude.{◌≡◌, ◌++◌, [], ◌∷◌, codes, length, OnOk};
 ghost use Rattle.std.specs.List.{enumerate_from};
@@ -8,6 +9,7 @@ use crate::lines::{push_line, push_number_line, push_number_or_none_line, push_p
 use sas_task::{Group, Pair, SasTask, Text, Variable};
 use std::alloc::AllocError;
 
+/// The number of the format, which is always 3, between its two fixed words.
 pub fn push_version(out: &mut Vec<u8>) -> Result<(), AllocError>
     ensures { OnOk result (out.new.items ≡ out.old.items ++ bytes_of version_lines) }
 {
@@ -16,6 +18,7 @@ pub fn push_version(out: &mut Vec<u8>) -> Result<(), AllocError>
     push_line(out, b"end_version")
 }
 
+/// Between two fixed words one line: 1 where action costs are used, and else 0, where each action costs 1.
 pub fn push_metric(out: &mut Vec<u8>, metric: bool) -> Result<(), AllocError>
     ensures { OnOk result (out.new.items ≡ out.old.items ++ bytes_of (metric_lines metric)) }
 {
@@ -66,6 +69,7 @@ pub fn push_variables(out: &mut Vec<u8>, task: &SasTask) -> Result<(), AllocErro
     Ok(())
 }
 
+/// The lines of a mutex group: its facts, as pairs, between two fixed words.
 fn push_group(out: &mut Vec<u8>, group: &Group) -> Result<(), AllocError>
     ensures { OnOk result (out.new.items ≡ out.old.items ++ bytes_of (group_lines group.now)) }
 {
@@ -86,6 +90,8 @@ pub fn push_groups(out: &mut Vec<u8>, task: &SasTask) -> Result<(), AllocError>
     Ok(())
 }
 
+/// The initial state: between two fixed words a line for each variable, in their order, with its value alone. A derived variable
+/// shows its default value, from which rules take it.
 pub fn push_state(out: &mut Vec<u8>, task: &SasTask) -> Result<(), AllocError>
     requires { length task.now.state ≡ length task.now.variables }
     ensures { OnOk result (out.new.items ≡ out.old.items ++ bytes_of (state_lines task.now.state)) }
@@ -97,6 +103,8 @@ pub fn push_state(out: &mut Vec<u8>, task: &SasTask) -> Result<(), AllocError>
     push_line(out, b"end_state")
 }
 
+/// The goal: between two fixed words the number of its pairs, which may be 0, and then a line for each, the variable and the value
+/// that it is to have.
 pub fn push_goal(out: &mut Vec<u8>, goal: &[Pair]) -> Result<(), AllocError>
     ensures { OnOk result (out.new.items ≡ out.old.items ++ bytes_of (goal_lines goal.now)) }
 {
