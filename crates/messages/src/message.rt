@@ -202,7 +202,8 @@ fn say_refusal<C: Console>(console: &mut C, name: &str, message: &Message) -> Re
     }
 }
 
-/// Says how the work ended.
+/// Says how the work ended: the lines on the written task, or the one line that says why there is none, as the README has them
+/// (`ok`). Where the console fails, a front of them is printed (`err`) and its count of faults rose (`cause`).
 pub fn say_outcome<C: Console>(
     console: &mut C,
     outcome: &Result<Report, End<'_>>,

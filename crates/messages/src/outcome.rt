@@ -27,7 +27,7 @@ pub enum Status {
 }
 
 impl Status {
-    /// The exit status of the process.
+    /// The exit status of the process, by the README's table.
     pub fn code(self) -> u8
         ensures { result ≡ code_of self }
     {

@@ -65,8 +65,8 @@ pub fn passes_keep_read_tasks()
     passes_keep();
 }
 
-/// A pair of files has one task for each number of candidates that may be tried, over whole groups or not, and each list of
-/// passes.
+/// A normal task has one task of a run without passes, with what was found for it (`task`). So a pair of files has one for each
+/// number of candidates that may be tried, over whole groups or not, and each list of passes (`pair`).
 pub fn one_task_of_a_run()
     ensures task { OneRunTask }
     ensures pair { OneTaskOfPair }

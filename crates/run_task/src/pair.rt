@@ -42,8 +42,8 @@ pub struct Made {
     pub task: SasTask,
 }
 
-/// The task that a pair means, stage by stage, with as many candidates for invariants as the settings say. Where memory is
-/// wanting, there is none.
+/// The task that a pair means, stage by stage, before any pass, with as many candidates for invariants as the settings say, and
+/// over whole groups where they say so. Where memory is wanting, there is none.
 pub fn task_of_pair(alloc: Global, checked: Checked, settings: Settings) -> Result<Made, AllocError>
     requires { IsChecked checked }
     ensures { IfOk result (λ made. IsTaskOf checked settings [] made.found made.task) }

@@ -7,7 +7,7 @@ use invariant_guess::Found;
 use messages::Summary;
 use sas_task::{SasTask, Variable};
 
-/// The sizes of the search for invariants and of the task.
+/// The sizes of the search for invariants and of the task, which are the seven numbers that are printed.
 pub fn summary(found: &Found, task: &SasTask) -> Summary
     ensures { result ≡ summary_of found.now task.now }
 {

@@ -27,6 +27,10 @@ use tl_device::{Console, Files};
 ///
 /// `words` are the words of the command line, the program's name first. The passes that they name are those of `book`. The
 /// words and what is printed stand in the README, the texts of faults in `docs/LANGUAGE.md`, and the format of the output in `docs/OUTPUT.md`.
+///
+/// Done means that the output file holds the text of such a task, and that its sizes and the lines on the plan are printed
+/// (`done`). An absent file gives Device or NoMemory (`absent`). Every answer but Done and Device leaves the files as they
+/// were (`untouched`), and each leaves all but the output file so (`others`).
 pub fn translate<F: Files, C: Console>(
     alloc: Global,
     words: Vec<String>,
@@ -124,7 +128,8 @@ fn told<C: Console>(console: &mut C, outcome: &Result<Report, End<'_>>) -> Statu
     }
 }
 
-/// Says that there was no memory for the words of the command line, or refuses words that aren't UTF-8.
+/// Says that there was no memory for the words of the command line (`memory`), or refuses words that aren't UTF-8 (`usage`),
+/// each by its line and its status, as `translate` does.
 pub fn without_words<C: Console>(console: &mut C, kind: ErrorKind) -> Status
     ensures memory { kind ≡ ErrorKind.OutOfMemory → Printed memory_line Status.NoMemory (screen C.Console console.old) (screen C.Console console.new) result }
     ensures usage { kind ≢ ErrorKind.OutOfMemory → Printed usage_line Status.Usage (screen C.Console console.old) (screen C.Console console.new) result }

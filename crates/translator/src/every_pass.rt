@@ -18,7 +18,8 @@ use std::io::ErrorKind;
 use tl_device::{Console, Files};
 
 /// Translates by the words of a command line, as `translate` does, with a book that has a pass of each kind: that of the
-/// order, that of relevance and that of h2. Where there is no memory for the book, it ends as where memory runs out later.
+/// order, that of relevance and that of h2. Where there is no memory for the book, it ends as where memory runs out later. What
+/// it answers, prints and leaves is what `translate` does (`called`), and so is which name is asked for last (`asks`).
 pub fn translate_by_every_pass<F: Files, C: Console>(
     alloc: Global,
     words: Vec<String>,

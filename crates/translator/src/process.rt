@@ -19,6 +19,7 @@ pub struct Ended {
 }
 
 impl Termination for Ended {
+    /// The number of the run's status.
     fn report<R: Eprint>(self, _rt: &R) -> ExitCode
         ensures { exit_status result ≡ code_of self.status }
     {
@@ -26,7 +27,8 @@ impl Termination for Ended {
     }
 }
 
-/// Translates with the runtime's files and its standard output, by the words of its command line.
+/// Translates with the runtime's files and its standard output, by the words of its command line. The runtime tells no
+/// contents, so no clause says more than the calls in it do.
 pub fn run<R: rt::Files + Print + Env + AllocGlobal>(rt: &R) -> Ended {
     let mut files = RealFiles::new(rt);
     let mut console = RealConsole::new(rt);
