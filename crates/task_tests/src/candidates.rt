@@ -9,12 +9,12 @@ use std::alloc::Global;
 pub(crate) type PartRow = (&'static str, &'static [u64], Option<u64>);
 
 fn predicate_of(normal: &Normal, name: &str) -> Option<u64> {
-    let place = normal
-        .predicates
-        .as_slice()
-        .iter()
-        .position(|row| row.name.as_slice() == name.as_bytes())?;
-    Some(place as u64)
+    for (place, row) in normal.predicates.as_slice().iter().enumerate() {
+        if row.name.as_slice() == name.as_bytes() {
+            return Some(place as u64);
+        }
+    }
+    None
 }
 
 fn part_of(alloc: Global, normal: &Normal, row: PartRow) -> Option<Part> {
@@ -40,29 +40,29 @@ pub(crate) fn candidate_of(alloc: Global, normal: &Normal, rows: &[PartRow]) -> 
     })
 }
 
-fn is_part(normal: &Normal, part: &Part, row: PartRow) -> bool {
-    let (name, places, counted) = row;
-    predicate_of(normal, name) == Some(part.predicate)
-        && part.places.as_slice() == places
-        && part.counted == counted
-}
-
-fn is_candidate(normal: &Normal, candidate: &Candidate, rows: &[PartRow]) -> bool {
-    let parts = candidate.parts.as_slice();
-    parts.len() == rows.len()
-        && parts.iter().zip(rows).all(|(part, row)| is_part(normal, part, *row)
-            && candidate.parameters == row.1.len() as u64)
+fn is_candidate(alloc: Global, normal: &Normal, candidate: &Candidate, rows: &[PartRow]) -> bool {
+    match candidate_of(alloc, normal, rows) {
+        Some(wanted) => {
+            let is_wanted = *candidate == wanted;
+            drop(wanted);
+            is_wanted
+        }
+        None => false,
+    }
 }
 
 /// Whether the candidates are these, in this order.
 pub(crate) fn are_candidates(
+    alloc: Global,
     normal: &Normal,
     candidates: &[Candidate],
     rows: &[&[PartRow]],
 ) -> bool {
+    for (place, candidate) in candidates.iter().enumerate() {
+        match rows.get(place) {
+            Some(row) if is_candidate(alloc, normal, candidate, row) => {}
+            _ => return false,
+        }
+    }
     candidates.len() == rows.len()
-        && candidates
-            .iter()
-            .zip(rows)
-            .all(|(candidate, row)| is_candidate(normal, candidate, row))
 }

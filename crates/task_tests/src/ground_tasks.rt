@@ -1,15 +1,20 @@
 //! Ground tasks, reached tasks and layers, worked by hand.
 
+ghost use Rattle.std.specs.Prelude.{IfOk};
 ghost use Rattle.static_matcher.specs.Lawful.{IsLawful as IsLawfulGround};
 ghost use Rattle.relaxed_reach.specs.Lawful.{IsLawful};
 
-use crate::grounds::{Grounds, grounds_of, reached_of};
-use crate::lines::{Names, are_named, are_shown, is_goal};
+use crate::grounds::reached_of;
+use crate::lines::{Names, are_in_order, are_shown, is_shown};
+use crate::tasks::{Asked, Row, assert_answers};
 use crate::texts::{CHAIN, CIRCLE, ENDS, HALF, LAYERS, LOW, ROADS, START};
 use axiom_layers::layers;
+use normal_task::Normal;
+use reachable_instances::reachable;
 use relaxed_reach::{Fact, Reached};
+use schema_instances::instances;
 use static_matcher::Ground;
-use std::alloc::Global;
+use std::alloc::{AllocError, Global};
 use std::test::*;
 
 /// A task as lines. Those of actions and axioms stand with the number of times that they are repeated, since no order of
@@ -21,11 +26,9 @@ struct Task {
     goal: &'static str,
 }
 
-/// A pair of texts, its ground task, the actions that are made where those that can't be reached aren't, the reached task, and
-/// the reachable facts, each derived one with its layer.
-struct Row {
-    domain: &'static str,
-    problem: &'static str,
+/// The ground task of a pair of texts, the actions that are made where those that can't be reached aren't, the reached task,
+/// and the reachable facts, each derived one with its layer.
+struct Grounded {
     ground: Task,
     made: &'static [(&'static str, usize)],
     reached: Task,
@@ -34,10 +37,10 @@ struct Row {
 
 fn is_ground(ground: &Ground, task: &Task, actions: &[(&str, usize)]) -> bool {
     let names = Names { ground, facts: &[] };
-    are_named(&names, ground.init.as_slice(), task.init)
+    are_in_order(&names, ground.init.as_slice(), task.init)
         && are_shown(&names, ground.actions.as_slice(), actions)
         && are_shown(&names, ground.axioms.as_slice(), task.axioms)
-        && is_goal(&names, &ground.goal, task.goal)
+        && is_shown(&names, &ground.goal, task.goal)
 }
 
 fn is_reached(ground: &Ground, reached: &Reached, task: &Task) -> bool {
@@ -45,10 +48,10 @@ fn is_reached(ground: &Ground, reached: &Reached, task: &Task) -> bool {
         ground,
         facts: reached.facts.as_slice(),
     };
-    are_named(&names, reached.init.as_slice(), task.init)
+    are_in_order(&names, reached.init.as_slice(), task.init)
         && are_shown(&names, reached.actions.as_slice(), task.actions)
         && are_shown(&names, reached.axioms.as_slice(), task.axioms)
-        && is_goal(&names, &reached.goal, task.goal)
+        && is_shown(&names, &reached.goal, task.goal)
 }
 
 fn is_fact(fact: &Fact, layer: u64, row: &(&str, Option<u64>)) -> bool {
@@ -60,13 +63,13 @@ fn is_fact(fact: &Fact, layer: u64, row: &(&str, Option<u64>)) -> bool {
 }
 
 fn are_facts(facts: &[Fact], layers: &[u64], rows: &[(&str, Option<u64>)]) -> bool {
-    facts.len() == rows.len()
-        && layers.len() == rows.len()
-        && facts
-            .iter()
-            .zip(layers)
-            .zip(rows)
-            .all(|((fact, layer), row)| is_fact(fact, *layer, row))
+    for (place, fact) in facts.iter().enumerate() {
+        match (layers.get(place), rows.get(place)) {
+            (Some(layer), Some(row)) if is_fact(fact, *layer, row) => {}
+            _ => return false,
+        }
+    }
+    facts.len() == rows.len() && layers.len() == rows.len()
 }
 
 fn has_facts(alloc: Global, reached: &Reached, rows: &[(&str, Option<u64>)]) -> bool
@@ -78,7 +81,7 @@ fn has_facts(alloc: Global, reached: &Reached, rows: &[(&str, Option<u64>)]) -> 
     }
 }
 
-fn is_reached_so(alloc: Global, ground: &Ground, row: &Row) -> bool
+fn is_reached_so(alloc: Global, ground: &Ground, row: &Grounded) -> bool
     requires { IsLawfulGround ground.now }
 {
     match reached_of(alloc, ground) {
@@ -92,157 +95,169 @@ fn is_reached_so(alloc: Global, ground: &Ground, row: &Row) -> bool
     }
 }
 
-fn are_worked(alloc: Global, grounds: &Grounds, row: &Row) -> bool
-    requires whole { IsLawfulGround grounds.now.whole }
-    requires part { IsLawfulGround grounds.now.part }
+/// Whether the ground task is that of the row, with these actions, and what can be reached of it as well.
+fn is_grounded(
+    alloc: Global,
+    ground: Result<Ground, AllocError>,
+    row: &Grounded,
+    actions: &[(&str, usize)],
+) -> bool
+    requires { IfOk ground IsLawfulGround }
 {
-    is_ground(&grounds.whole, &row.ground, row.ground.actions)
-        && is_ground(&grounds.part, &row.ground, row.made)
-        && is_reached_so(alloc, &grounds.whole, row)
-        && is_reached_so(alloc, &grounds.part, row)
-}
-
-fn is_worked(alloc: Global, row: &Row) -> bool {
-    match grounds_of(alloc, row.domain, row.problem) {
-        Some(grounds) => {
-            let are_worked = are_worked(alloc, &grounds, row);
-            drop(grounds);
-            are_worked
+    match ground {
+        Ok(ground) => {
+            let is_so = is_ground(&ground, &row.ground, actions)
+                && is_reached_so(alloc, &ground, row);
+            drop(ground);
+            is_so
         }
-        None => false,
+        Err(_) => false,
     }
 }
 
-static ROWS: [Row; 4] = [
+impl Asked for Grounded {
+    fn is_answered(&self, alloc: Global, normal: &Normal) -> bool {
+        is_grounded(alloc, instances(alloc, normal), self, self.ground.actions)
+            && is_grounded(alloc, reachable(alloc, normal), self, self.made)
+    }
+}
+
+static ROWS: [Row<Grounded>; 4] = [
     // Neither q nor r can be reached: r is added only where q is true, and q only where r is. So the axiom for d goes, with d,
     // and so do the effects on r, under q, and on q, which deletes a fact that is never true. `not (q)` and `not (d)` are true
     // then, and the action that needs r goes. It is made, since the condition under which r is added isn't looked at.
-    Row {
-        domain: CIRCLE,
-        problem: HALF,
-        ground: Task {
-            init: &["p()"],
-            actions: &[
+    (
+        CIRCLE,
+        HALF,
+        Grounded {
+            ground: Task {
+                init: &["p()"],
+                actions: &[
+                    (
+                        "act | p() !d() | +r() q() | +s() !q() | -q() | -s() p() | -p()",
+                        1,
+                    ),
+                    ("never | r() | +q()", 1),
+                ],
+                axioms: &[("d() | q()", 1), ("e() | p() !q()", 1)],
+                goal: " s() !r()",
+            },
+            made: &[
                 (
                     "act | p() !d() | +r() q() | +s() !q() | -q() | -s() p() | -p()",
                     1,
                 ),
                 ("never | r() | +q()", 1),
             ],
-            axioms: &[("d() | q()", 1), ("e() | p() !q()", 1)],
-            goal: " s() !r()",
+            reached: Task {
+                init: &["p()"],
+                actions: &[("act | p() | +s() | -s() p() | -p()", 1)],
+                axioms: &[("e() | p()", 1)],
+                goal: " s()",
+            },
+            facts: &[("p()", None), ("s()", None), ("e()", Some(0))],
         },
-        made: &[
-            (
-                "act | p() !d() | +r() q() | +s() !q() | -q() | -s() p() | -p()",
-                1,
-            ),
-            ("never | r() | +q()", 1),
-        ],
-        reached: Task {
-            init: &["p()"],
-            actions: &[("act | p() | +s() | -s() p() | -p()", 1)],
-            axioms: &[("e() | p()", 1)],
-            goal: " s()",
-        },
-        facts: &[("p()", None), ("s()", None), ("e()", Some(0))],
-    },
+    ),
     // Roads are static. From a two roads lead, so its action stands twice, and none leads from b and c. An effect adds b
     // alone: a is the place itself, and no road leads to c. The axiom has an instance for each of the two roads. The goal asks
     // for a road that isn't there.
-    Row {
-        domain: ROADS,
-        problem: ENDS,
-        ground: Task {
-            init: &["at(a)"],
-            actions: &[("go a | at(a) | +at(b) | -at(a)", 2)],
-            axioms: &[("near(a) | at(a)", 1), ("near(a) | at(b)", 1)],
-            goal: "never",
+    (
+        ROADS,
+        ENDS,
+        Grounded {
+            ground: Task {
+                init: &["at(a)"],
+                actions: &[("go a | at(a) | +at(b) | -at(a)", 2)],
+                axioms: &[("near(a) | at(a)", 1), ("near(a) | at(b)", 1)],
+                goal: "never",
+            },
+            made: &[("go a | at(a) | +at(b) | -at(a)", 2)],
+            reached: Task {
+                init: &["at(a)"],
+                actions: &[("go a | at(a) | +at(b) | -at(a)", 2)],
+                axioms: &[("near(a) | at(a)", 1), ("near(a) | at(b)", 1)],
+                goal: "never",
+            },
+            facts: &[("at(a)", None), ("at(b)", None), ("near(a)", Some(0))],
         },
-        made: &[("go a | at(a) | +at(b) | -at(a)", 2)],
-        reached: Task {
-            init: &["at(a)"],
-            actions: &[("go a | at(a) | +at(b) | -at(a)", 2)],
-            axioms: &[("near(a) | at(a)", 1), ("near(a) | at(b)", 1)],
-            goal: "never",
-        },
-        facts: &[("at(a)", None), ("at(b)", None), ("near(a)", Some(0))],
-    },
+    ),
     // f rests on d and e, whose layers are 0 and 1. Its last axiom can't be reached, since q can't, and so it doesn't count.
-    Row {
-        domain: LAYERS,
-        problem: LOW,
-        ground: Task {
-            init: &["p()"],
-            actions: &[("act | p() | -p()", 1), ("never | q() | +q()", 1)],
-            axioms: &[
-                ("d() | p()", 1),
-                ("e() | !d()", 1),
-                ("f() | d()", 1),
-                ("f() | !e()", 1),
-                ("f() | q() g()", 1),
-                ("g() | e()", 1),
+    (
+        LAYERS,
+        LOW,
+        Grounded {
+            ground: Task {
+                init: &["p()"],
+                actions: &[("act | p() | -p()", 1), ("never | q() | +q()", 1)],
+                axioms: &[
+                    ("d() | p()", 1),
+                    ("e() | !d()", 1),
+                    ("f() | d()", 1),
+                    ("f() | !e()", 1),
+                    ("f() | q() g()", 1),
+                    ("g() | e()", 1),
+                ],
+                goal: " f() q()",
+            },
+            made: &[("act | p() | -p()", 1)],
+            reached: Task {
+                init: &["p()"],
+                actions: &[("act | p() | -p()", 1)],
+                axioms: &[
+                    ("d() | p()", 1),
+                    ("e() | !d()", 1),
+                    ("f() | d()", 1),
+                    ("f() | !e()", 1),
+                    ("g() | e()", 1),
+                ],
+                goal: "never",
+            },
+            facts: &[
+                ("p()", None),
+                ("d()", Some(0)),
+                ("e()", Some(1)),
+                ("f()", Some(2)),
+                ("g()", Some(2)),
             ],
-            goal: " f() q()",
         },
-        made: &[("act | p() | -p()", 1)],
-        reached: Task {
-            init: &["p()"],
-            actions: &[("act | p() | -p()", 1)],
-            axioms: &[
-                ("d() | p()", 1),
-                ("e() | !d()", 1),
-                ("f() | d()", 1),
-                ("f() | !e()", 1),
-                ("g() | e()", 1),
-            ],
-            goal: "never",
-        },
-        facts: &[
-            ("p()", None),
-            ("d()", Some(0)),
-            ("e()", Some(1)),
-            ("f()", Some(2)),
-            ("g()", Some(2)),
-        ],
-    },
+    ),
     // The last action waits for b, and then for c; the lost one waits for z, which nothing adds.
-    Row {
-        domain: CHAIN,
-        problem: START,
-        ground: Task {
-            init: &["a()"],
-            actions: &[
-                ("last | b() c() | +e()", 1),
-                ("second | b() | +c()", 1),
-                ("first | a() | +b() | -a()", 1),
-                ("lost | a() z() | +y() | -z()", 1),
-            ],
-            axioms: &[],
-            goal: " e()",
-        },
-        made: &[
-            ("last | b() c() | +e()", 1),
-            ("second | b() | +c()", 1),
-            ("first | a() | +b() | -a()", 1),
-        ],
-        reached: Task {
-            init: &["a()"],
-            actions: &[
+    (
+        CHAIN,
+        START,
+        Grounded {
+            ground: Task {
+                init: &["a()"],
+                actions: &[
+                    ("last | b() c() | +e()", 1),
+                    ("second | b() | +c()", 1),
+                    ("first | a() | +b() | -a()", 1),
+                    ("lost | a() z() | +y() | -z()", 1),
+                ],
+                axioms: &[],
+                goal: " e()",
+            },
+            made: &[
                 ("last | b() c() | +e()", 1),
                 ("second | b() | +c()", 1),
                 ("first | a() | +b() | -a()", 1),
             ],
-            axioms: &[],
-            goal: " e()",
+            reached: Task {
+                init: &["a()"],
+                actions: &[
+                    ("last | b() c() | +e()", 1),
+                    ("second | b() | +c()", 1),
+                    ("first | a() | +b() | -a()", 1),
+                ],
+                axioms: &[],
+                goal: " e()",
+            },
+            facts: &[("a()", None), ("b()", None), ("c()", None), ("e()", None)],
         },
-        facts: &[("a()", None), ("b()", None), ("c()", None), ("e()", None)],
-    },
+    ),
 ];
 
 #[test]
 fn what_can_be_reached_is_kept(rt: HostRuntime) {
-    for (number, row) in ROWS.iter().enumerate() {
-        assert!(rt; is_worked(rt.alloc(), row), "row {number}");
-    }
+    assert_answers(&rt, rt.alloc(), &ROWS);
 }

@@ -1,4 +1,4 @@
-//! The groups of pairs of texts.
+//! The groups of normal tasks.
 
 ghost use Rattle.std.specs.Prelude.{◌≡◌, true, IfOk};
 ghost use Rattle.std.specs.List.{list_all};
@@ -6,7 +6,6 @@ ghost use Rattle.normal_task.specs.Lawful.{IsLawful};
 ghost use Rattle.invariant_check.specs.WellFormed.{is_well_formed};
 
 use crate::grounds::reached_of;
-use crate::tasks::normal_task;
 use group_cover::Groups;
 use invariant_guess::laws::finds;
 use invariant_guess::{Found, find};
@@ -41,19 +40,12 @@ fn reached_task(alloc: Global, normal: &Normal) -> Result<Reached, AllocError>
     reached
 }
 
-fn grouped_by(alloc: Global, normal: &Normal) -> Result<Grouped, AllocError>
+/// The reached task of a normal task, and the groups of the candidates that are accepted.
+pub(crate) fn grouped_of(alloc: Global, normal: &Normal) -> Result<Grouped, AllocError>
     requires { IsLawful normal.now }
 {
     let found = found_of(alloc, normal)?;
     let reached = reached_task(alloc, normal)?;
     let groups = groups(alloc, normal, found.accepted.as_slice(), &reached)?;
     Ok(Grouped { reached, groups })
-}
-
-/// The reached task of two texts without a fault, and the groups of the candidates that are accepted.
-pub(crate) fn grouped_of(alloc: Global, domain: &str, problem: &str) -> Option<Grouped> {
-    let normal = normal_task(alloc, domain, problem)?;
-    let grouped = grouped_by(alloc, &normal);
-    drop(normal);
-    grouped.ok()
 }

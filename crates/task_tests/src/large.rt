@@ -45,11 +45,13 @@ fn is_half_reached(alloc: Global) -> Result<bool, AllocError> {
 }
 
 #[test]
-fn two_lines(rt: HostRuntime) {
-    assert!(rt; matches!(are_lines_reached(rt.alloc()), Ok(true)));
-}
-
-#[test]
-fn half_a_ring(rt: HostRuntime) {
-    assert!(rt; matches!(is_half_reached(rt.alloc()), Ok(true)));
+fn two_lines_and_half_a_ring_are_reached(rt: HostRuntime) {
+    assert!(rt;
+        matches!(are_lines_reached(rt.alloc()), Ok(true)),
+        "two lines"
+    );
+    assert!(rt;
+        matches!(is_half_reached(rt.alloc()), Ok(true)),
+        "half a ring"
+    );
 }

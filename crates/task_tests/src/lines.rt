@@ -1,6 +1,7 @@
 //! Tasks as lines. `go a | at(a) !open(a) | +at(b) road(a, b) | -at(a)` is the action `go a`, which asks that at(a) is true
 //! and open(a) false; one effect adds at(b) where road(a, b) is true, and one deletes at(a).
 
+use itoa::Buffer;
 use normal_task::GroundAtom;
 use relaxed_reach::{Fact, ReachedAction, ReachedAxiom};
 use static_matcher::{Cond, GoalRow, Ground, GroundAction, GroundAxiom};
@@ -27,11 +28,17 @@ impl<'a> Line<'a> {
         }
     }
 
-    fn word(&mut self, word: &[u8]) {
+    pub(crate) fn word(&mut self, word: &[u8]) {
         match self.rest.strip_prefix(word) {
             Some(rest) => self.rest = rest,
             None => self.fits = false,
         }
+    }
+
+    /// A mark, and the number in decimal.
+    pub(crate) fn marked(&mut self, mark: &[u8], number: u64) {
+        self.word(mark);
+        self.word(Buffer::new().format(number).as_bytes());
     }
 
     pub(crate) fn ends(&self) -> bool {
@@ -39,9 +46,9 @@ impl<'a> Line<'a> {
     }
 }
 
-/// An atom, or the number of a fact.
-pub(crate) trait Atom {
-    fn name(&self, names: &Names<'_>, line: &mut Line<'_>);
+/// What a line may stand for.
+pub(crate) trait Shown {
+    fn show(&self, names: &Names<'_>, line: &mut Line<'_>);
 }
 
 fn predicate(names: &Names<'_>, predicate: u64, line: &mut Line<'_>) {
@@ -61,136 +68,139 @@ fn object(names: &Names<'_>, object: u64, line: &mut Line<'_>) {
     }
 }
 
-impl Atom for GroundAtom {
-    fn name(&self, names: &Names<'_>, line: &mut Line<'_>) {
+impl Shown for GroundAtom {
+    fn show(&self, names: &Names<'_>, line: &mut Line<'_>) {
         predicate(names, self.predicate, line);
         line.word(b"(");
         for (place, number) in self.objects.as_slice().iter().enumerate() {
-            if place > 0 {
-                line.word(b", ");
-            }
+            line.word(if place > 0 { b", " } else { b"" });
             object(names, *number, line);
         }
         line.word(b")");
     }
 }
 
-impl Atom for u64 {
-    fn name(&self, names: &Names<'_>, line: &mut Line<'_>) {
+/// The number of a fact.
+impl Shown for u64 {
+    fn show(&self, names: &Names<'_>, line: &mut Line<'_>) {
         if let Some(fact) = names.facts.get(*self as usize) {
             line.word(fact.shown.as_slice());
         }
     }
 }
 
-fn literals<A: Atom>(names: &Names<'_>, condition: &Cond<A>, line: &mut Line<'_>) {
-    for atom in condition.positive.as_slice() {
-        line.word(b" ");
-        atom.name(names, line);
-    }
-    for atom in condition.negative.as_slice() {
-        line.word(b" !");
-        atom.name(names, line);
+fn atoms<A: Shown>(names: &Names<'_>, mark: &[u8], atoms: &[A], line: &mut Line<'_>) {
+    for atom in atoms {
+        line.word(mark);
+        atom.show(names, line);
     }
 }
 
-fn effect<A: Atom>(
+impl<A: Shown> Shown for Cond<A> {
+    fn show(&self, names: &Names<'_>, line: &mut Line<'_>) {
+        atoms(names, b" ", self.positive.as_slice(), line);
+        atoms(names, b" !", self.negative.as_slice(), line);
+    }
+}
+
+/// A goal is `never`, or its literals, each after a space.
+impl<A: Shown> Shown for GoalRow<A> {
+    fn show(&self, names: &Names<'_>, line: &mut Line<'_>) {
+        match self {
+            GoalRow::Never => line.word(b"never"),
+            GoalRow::All(condition) => condition.show(names, line),
+        }
+    }
+}
+
+/// An effect, by its parts.
+fn effect<A: Shown>(
     names: &Names<'_>,
     adds: bool,
     atom: &A,
     condition: &Cond<A>,
     line: &mut Line<'_>,
 ) {
-    line.word(b" |");
-    line.word(if adds { b" +" } else { b" -" });
-    atom.name(names, line);
-    literals(names, condition, line);
-}
-
-/// Whether the atoms are those of these names, in their order.
-pub(crate) fn are_named<A: Atom>(names: &Names<'_>, atoms: &[A], texts: &[&str]) -> bool {
-    atoms.len() == texts.len()
-        && atoms
-            .iter()
-            .zip(texts)
-            .all(|(atom, text)| is_named(names, atom, text))
-}
-
-fn is_named<A: Atom>(names: &Names<'_>, atom: &A, text: &str) -> bool {
-    let mut line = Line::new(text);
-    atom.name(names, &mut line);
-    line.ends()
-}
-
-fn is_rule<A: Atom>(names: &Names<'_>, atom: &A, condition: &Cond<A>, text: &str) -> bool {
-    let mut line = Line::new(text);
-    atom.name(names, &mut line);
-    line.word(b" |");
-    literals(names, condition, &mut line);
-    line.ends()
-}
-
-/// Whether the goal is that of the line: `never`, or its literals, each after a space.
-pub(crate) fn is_goal<A: Atom>(names: &Names<'_>, goal: &GoalRow<A>, text: &str) -> bool {
-    let mut line = Line::new(text);
-    match goal {
-        GoalRow::Never => line.word(b"never"),
-        GoalRow::All(condition) => literals(names, condition, &mut line),
-    }
-    line.ends()
-}
-
-/// What a line may stand for.
-pub(crate) trait Shown {
-    fn is_shown(&self, names: &Names<'_>, text: &str) -> bool;
+    line.word(if adds { b" | +" } else { b" | -" });
+    atom.show(names, line);
+    condition.show(names, line);
 }
 
 impl Shown for GroundAction {
-    fn is_shown(&self, names: &Names<'_>, text: &str) -> bool {
-        let mut line = Line::new(text);
+    fn show(&self, names: &Names<'_>, line: &mut Line<'_>) {
         line.word(self.name.as_slice());
         line.word(b" |");
-        literals(names, &self.condition, &mut line);
+        self.condition.show(names, line);
         for row in self.effects.as_slice() {
-            effect(names, row.adds, &row.atom, &row.condition, &mut line);
+            effect(names, row.adds, &row.atom, &row.condition, line);
         }
-        line.ends()
     }
 }
 
 impl Shown for ReachedAction {
-    fn is_shown(&self, names: &Names<'_>, text: &str) -> bool {
-        let mut line = Line::new(text);
+    fn show(&self, names: &Names<'_>, line: &mut Line<'_>) {
         line.word(self.name.as_slice());
         line.word(b" |");
-        literals(names, &self.condition, &mut line);
+        self.condition.show(names, line);
         for row in self.effects.as_slice() {
-            effect(names, row.adds, &row.fact, &row.condition, &mut line);
+            effect(names, row.adds, &row.fact, &row.condition, line);
         }
-        line.ends()
     }
 }
 
 impl Shown for GroundAxiom {
-    fn is_shown(&self, names: &Names<'_>, text: &str) -> bool {
-        is_rule(names, &self.atom, &self.condition, text)
+    fn show(&self, names: &Names<'_>, line: &mut Line<'_>) {
+        self.atom.show(names, line);
+        line.word(b" |");
+        self.condition.show(names, line);
     }
 }
 
 impl Shown for ReachedAxiom {
-    fn is_shown(&self, names: &Names<'_>, text: &str) -> bool {
-        is_rule(names, &self.fact, &self.condition, text)
+    fn show(&self, names: &Names<'_>, line: &mut Line<'_>) {
+        self.fact.show(names, line);
+        line.word(b" |");
+        self.condition.show(names, line);
     }
 }
 
-fn stands<R: Shown>(names: &Names<'_>, rows: &[R], text: &str, times: usize) -> bool {
-    rows.iter().filter(|row| row.is_shown(names, text)).count() == times
+/// Whether this is the row's line.
+pub(crate) fn is_shown<R: Shown>(names: &Names<'_>, row: &R, text: &str) -> bool {
+    let mut line = Line::new(text);
+    row.show(names, &mut line);
+    line.ends()
 }
 
-/// Whether the rows are those of the lines, each as often as is said, in whatever order.
+/// Whether the rows are those of the lines, in their order.
+pub(crate) fn are_in_order<R: Shown>(names: &Names<'_>, rows: &[R], lines: &[&str]) -> bool {
+    for (place, row) in rows.iter().enumerate() {
+        match lines.get(place) {
+            Some(text) if is_shown(names, row, text) => {}
+            _ => return false,
+        }
+    }
+    rows.len() == lines.len()
+}
+
+/// How many of the rows have this line.
+fn count<R: Shown>(names: &Names<'_>, rows: &[R], text: &str) -> usize {
+    let mut count = 0usize;
+    for row in rows {
+        if is_shown(names, row, text) {
+            count = count.saturating_add(1);
+        }
+    }
+    count
+}
+
+/// Whether the rows are those of the lines, which differ from one another, each as often as is said, in whatever order.
 pub(crate) fn are_shown<R: Shown>(names: &Names<'_>, rows: &[R], lines: &[(&str, usize)]) -> bool {
-    lines.iter().all(|line| stands(names, rows, line.0, line.1))
-        && rows
-            .iter()
-            .all(|row| lines.iter().any(|line| row.is_shown(names, line.0)))
+    let mut said = 0usize;
+    for line in lines {
+        if count(names, rows, line.0) != line.1 {
+            return false;
+        }
+        said = said.saturating_add(line.1);
+    }
+    rows.len() == said
 }

@@ -1,4 +1,4 @@
-//! The checked pair and the normal task of two texts.
+//! The checked pair and the normal task of two texts, and what is asked of that task.
 
 ghost use Rattle.std.specs.Prelude.{IfOk, IfSome};
 ghost use Rattle.pddl_parser.specs.Spelled.{IsWellSpelled, IsWellSpelledProblem};
@@ -12,7 +12,19 @@ use pddl_lexer::read_tree;
 use pddl_parser::{Domain, Problem};
 use problem_parser::parse_problem;
 use std::alloc::Global;
+use std::process::Abort;
+use std::test::*;
 use type_checker::{CheckEnd, Checked, check};
+
+/// What is asked of a normal task, with the answer that was worked by hand.
+pub(crate) trait Asked {
+    /// Whether that is the answer.
+    fn is_answered(&self, alloc: Global, normal: &Normal) -> bool
+        requires { IsLawful normal.now };
+}
+
+/// A domain, a problem, and what is asked of their normal task.
+pub(crate) type Row<Q> = (&'static str, &'static str, Q);
 
 fn domain_of(alloc: Global, text: &str) -> Option<Domain>
     ensures { IfSome result IsWellSpelled }
@@ -37,7 +49,7 @@ fn check_pair(alloc: Global, domain: Domain, problem: Problem) -> Result<Checked
 }
 
 /// The pair of two texts, where they have no fault.
-pub fn checked_of(alloc: Global, domain: &str, problem: &str) -> Option<Checked>
+fn checked_of(alloc: Global, domain: &str, problem: &str) -> Option<Checked>
     ensures { IfSome result IsChecked }
 {
     let domain = domain_of(alloc, domain)?;
@@ -49,11 +61,29 @@ pub fn checked_of(alloc: Global, domain: &str, problem: &str) -> Option<Checked>
 }
 
 /// The normal task of two texts, where they have no fault.
-pub fn normal_task(alloc: Global, domain: &str, problem: &str) -> Option<Normal>
+fn normal_task(alloc: Global, domain: &str, problem: &str) -> Option<Normal>
     ensures { IfSome result IsLawful }
 {
     let checked = checked_of(alloc, domain, problem)?;
     let normal = normalise(alloc, &checked);
     drop(checked);
     normal.ok()
+}
+
+fn is_row_answered<Q: Asked>(alloc: Global, row: &Row<Q>) -> bool {
+    match normal_task(alloc, row.0, row.1) {
+        Some(normal) => {
+            let is_answered = row.2.is_answered(alloc, &normal);
+            drop(normal);
+            is_answered
+        }
+        None => false,
+    }
+}
+
+/// Asserts that what each row asks has the row's answer.
+pub(crate) fn assert_answers<Q: Asked>(rt: &impl Abort, alloc: Global, rows: &[Row<Q>]) {
+    for row in rows {
+        assert!(rt; is_row_answered(alloc, row), "{} {}", row.0, row.1);
+    }
 }
