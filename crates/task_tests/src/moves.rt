@@ -171,9 +171,7 @@ pub(crate) fn line_task(alloc: Global, count: u64) -> Result<Ground, AllocError>
     requires { 1 ≤ count }
     ensures { IfOk result IsLawful }
 {
-    let mut init = Vec::new(alloc);
-    init.push(atom(alloc, 0, 0)?)?;
-    init.push(atom(alloc, 1, count - 1)?)?;
+    let init = vec![in alloc; atom(alloc, 0, 0)?, atom(alloc, 1, count - 1)?]?;
     let moves = lines(alloc, count)?;
     task(alloc, count, init, moves)
 }
@@ -183,8 +181,7 @@ pub(crate) fn ring_task(alloc: Global, count: u64) -> Result<Ground, AllocError>
     requires { 2 ≤ count }
     ensures { IfOk result IsLawful }
 {
-    let mut init = Vec::new(alloc);
-    init.push(atom(alloc, 0, 0)?)?;
+    let init = vec![in alloc; atom(alloc, 0, 0)?]?;
     let moves = ring(alloc, count)?;
     task(alloc, count, init, moves)
 }
