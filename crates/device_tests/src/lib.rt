@@ -6,4 +6,6 @@
 #[cfg(test)]
 mod memory;
 #[cfg(test)]
+mod reading;
+#[cfg(test)]
 mod real;

@@ -1,32 +1,9 @@
-ghost use Rattle.std.specs.Prelude.{◌<◌, ◌^◌, IsSome};
+ghost use Rattle.std.specs.Prelude.{◌≤◌, IsSome};
 ghost use Rattle.std.specs.Bool.{OnTrue};
 
+use crate::reading::{Reading, are_found};
 use std::alloc::{AllocError, Global};
-use tl_device::{
-    Console, FileCall, Files, MemConsole, MemFiles, ReadEnd, put_all, read_all, say_all,
-};
-
-// The calls that say much have functions of their own that say little, so that no proof of a test carries it.
-
-fn found(alloc: Global, files: &mut MemFiles, name: &str, limit: u64) -> Result<Vec<u8>, ReadEnd>
-    requires { limit < 2 ^ 32 }
-{
-    read_all(alloc, files, name, limit)
-}
-
-/// Whether this is read of the file, where it may have so many bytes.
-fn is_read(alloc: Global, files: &mut MemFiles, name: &str, limit: u64, bytes: &[u8]) -> bool
-    requires { limit < 2 ^ 32 }
-{
-    matches!(found(alloc, files, name, limit), Ok(read) if read.as_slice() == bytes)
-}
-
-/// Whether reading the file ends so, where it may have so many bytes.
-fn is_unread(alloc: Global, files: &mut MemFiles, name: &str, limit: u64, end: ReadEnd) -> bool
-    requires { limit < 2 ^ 32 }
-{
-    matches!(found(alloc, files, name, limit), Err(found) if found == end)
-}
+use tl_device::{Console, FileCall, Files, MemConsole, MemFiles, ReadEnd, put_all, say_all};
 
 fn holds(files: &MemFiles, name: &str, bytes: &[u8]) -> bool {
     matches!(files.content(name), Some(content) if content == bytes)
@@ -36,11 +13,18 @@ fn is_absent(files: &MemFiles, name: &str) -> bool {
     files.content(name).is_none()
 }
 
+// The second that is added under a name replaces the first.
+static ADDED: [(&str, &[u8]); 4] = [
+    ("first", b"abcde"),
+    ("second", b""),
+    ("first", b"vwxyz"),
+    ("out", b"older"),
+];
+
 fn add_three(files: &mut MemFiles) -> Result<(), AllocError> {
-    files.add("first", b"abcde")?;
-    files.add("second", b"")?;
-    files.add("first", b"vwxyz")?;
-    files.add("out", b"older")?;
+    for (name, bytes) in &ADDED {
+        files.add(name, bytes)?;
+    }
     Ok(())
 }
 
@@ -50,13 +34,15 @@ fn three_files(alloc: Global) -> Result<MemFiles, AllocError> {
     Ok(files)
 }
 
+static READINGS: [Reading<'static>; 4] = [
+    ("first", 5, Ok(b"vwxyz")),
+    ("second", 0, Ok(b"")),
+    ("first", 4, Err(ReadEnd::TooLong)),
+    ("third", 5, Err(ReadEnd::Failed)),
+];
+
 fn are_read(alloc: Global, files: &mut MemFiles) -> bool {
-    is_read(alloc, files, "first", 5, b"vwxyz")
-        && is_read(alloc, files, "second", 0, b"")
-        && is_unread(alloc, files, "first", 4, ReadEnd::TooLong)
-        && is_unread(alloc, files, "third", 5, ReadEnd::Failed)
-        && holds(files, "second", b"")
-        && is_absent(files, "third")
+    are_found(alloc, files, &READINGS) && holds(files, "second", b"") && is_absent(files, "third")
 }
 
 fn is_created(files: &mut MemFiles, name: &str) -> bool
@@ -103,25 +89,23 @@ fn are_written(files: &mut MemFiles) -> bool {
         && is_begun_empty(files)
 }
 
-#[test]
-fn files_in_memory_are_read_whole_and_written_within_their_room(
-    rt: HostRuntime,
-) -> Result<(), AllocError> {
-    for most in [1, 3, 100] {
-        let mut files = three_files(rt.alloc())?;
-        files.most(most);
-        assert!(rt;
-            are_read(rt.alloc(), &mut files) && are_written(&mut files),
-            "{most} bytes a call"
-        );
-    }
-    Ok(())
+/// Whether files in memory are read whole and written within their room, where a call takes so many bytes.
+fn are_read_and_written(alloc: Global, most: u64) -> bool
+    requires { 1 ≤ most }
+{
+    let Ok(mut files) = three_files(alloc) else {
+        return false;
+    };
+    files.most(most);
+    are_read(alloc, &mut files) && are_written(&mut files)
 }
 
 // One call that is to fail, whether each of two reads of five bytes succeeds then, of three bytes a call, and what is
 // held of five bytes that are written after them. Without a failure a whole read makes one `open_file` and three
 // `read`, and the writing one `create_file` and two `write`.
-static FAILING_CALLS: [(FileCall, u64, [bool; 2], &[u8]); 14] = [
+type FailingCall = (FileCall, u64, [bool; 2], &'static [u8]);
+
+static FAILING_CALLS: [FailingCall; 14] = [
     (FileCall::OpenFile, 0, [true, true], b"abcde"),
     (FileCall::OpenFile, 1, [false, true], b"abcde"),
     (FileCall::OpenFile, 2, [true, false], b"abcde"),
@@ -138,16 +122,12 @@ static FAILING_CALLS: [(FileCall, u64, [bool; 2], &[u8]); 14] = [
     (FileCall::Write, 3, [true, true], b"abcde"),
 ];
 
-fn is_listed(files: &mut MemFiles, what: FileCall, nth: u64) -> bool {
-    files.fail(what, nth).is_ok()
-}
-
-/// Whether the file is read whole, or a call on it failed.
-fn is_read_or_fails(alloc: Global, files: &mut MemFiles, succeeds: bool) -> bool {
+/// That the file is read whole, or a call on it fails.
+fn read_or_failed(succeeds: bool) -> Reading<'static> {
     if succeeds {
-        is_read(alloc, files, "first", 5, b"vwxyz")
+        ("first", 5, Ok(b"vwxyz"))
     } else {
-        is_unread(alloc, files, "first", 5, ReadEnd::Failed)
+        ("first", 5, Err(ReadEnd::Failed))
     }
 }
 
@@ -157,78 +137,108 @@ fn is_written_so_far(files: &mut MemFiles, held: &[u8]) -> bool {
     holds(files, "out", held) && is_written == (held == b"abcde".as_slice())
 }
 
-/// Whether the listed call fails and no other does.
-fn fails_just_there(
-    alloc: Global,
-    what: FileCall,
-    nth: u64,
-    reads: [bool; 2],
-    held: &[u8],
-) -> Result<bool, AllocError> {
-    let mut files = three_files(alloc)?;
+/// Whether the call is listed, and then fails and no other does.
+fn fails(alloc: Global, files: &mut MemFiles, call: &FailingCall) -> bool {
+    let (what, nth, reads, held) = call;
+    files.fail(*what, *nth).is_ok()
+        && files.room("out", 5).is_ok()
+        && are_found(
+            alloc,
+            files,
+            &[read_or_failed(reads[0]), read_or_failed(reads[1])],
+        )
+        && is_written_so_far(files, held)
+}
+
+/// Whether the listed call fails of those on three files, of which each takes three bytes at most.
+fn fails_just_there(alloc: Global, call: &FailingCall) -> bool {
+    let Ok(mut files) = three_files(alloc) else {
+        return false;
+    };
     files.most(3);
-    Ok(
-        is_listed(&mut files, what, nth)
-            && files.room("out", 5).is_ok()
-            && is_read_or_fails(alloc, &mut files, reads[0])
-            && is_read_or_fails(alloc, &mut files, reads[1])
-            && is_written_so_far(&mut files, held),
-    )
+    fails(alloc, &mut files, call)
+}
+
+/// Bytes that are printed whole or by one call, whether that succeeds, and all that is printed then.
+type Printing = (bool, &'static [u8], bool, &'static [u8]);
+
+fn is_printed(console: &mut MemConsole, printing: &Printing) -> bool {
+    let (is_whole, bytes, succeeds, printed) = *printing;
+    let is_ok = if is_whole {
+        say_all(console, bytes).is_ok()
+    } else {
+        console.write(bytes).is_ok()
+    };
+    is_ok == succeeds && console.printed() == printed
+}
+
+fn are_printed(console: &mut MemConsole, printings: &[Printing]) -> bool {
+    for printing in printings {
+        if !is_printed(console, printing) {
+            return false;
+        }
+    }
+    true
+}
+
+// There is room for five bytes.
+static FILLING: [Printing; 3] = [
+    (true, b"abc", true, b"abc"),
+    (true, b"def", false, b"abcde"),
+    (true, b"", true, b"abcde"),
+];
+
+/// Whether a console takes nothing, then the bytes that there is room for, and then nothing.
+fn is_filled_console(console: &mut MemConsole) -> bool {
+    is_printed(console, &(false, b"x", false, b""))
+        && console.room(5).is_ok()
+        && are_printed(console, &FILLING)
+}
+
+/// Whether a console keeps what is printed, where a call takes so many bytes.
+fn is_kept_on_console(alloc: Global, most: u64) -> bool
+    requires { 1 ≤ most }
+{
+    let mut console = MemConsole::new(alloc);
+    console.most(most);
+    is_filled_console(&mut console)
 }
 
 #[test]
-fn a_listed_call_on_files_fails_and_no_other(rt: HostRuntime) -> Result<(), AllocError> {
-    for (row, (what, nth, reads, held)) in FAILING_CALLS.iter().enumerate() {
+fn files_and_a_console_in_memory_keep_what_they_have_room_for(rt: HostRuntime) {
+    for most in [1, 3, 100] {
         assert!(rt;
-            fails_just_there(rt.alloc(), *what, *nth, *reads, held)?,
-            "row {row}"
+            are_read_and_written(rt.alloc(), most) && is_kept_on_console(rt.alloc(), most),
+            "{most} bytes a call"
         );
     }
-    Ok(())
 }
 
-fn is_said(console: &mut MemConsole, bytes: &[u8]) -> bool {
-    say_all(console, bytes).is_ok()
-}
+// The second and the fourth call fail, and each takes three bytes at most.
+static FAILING_TWICE: [Printing; 4] = [
+    (true, b"abcdef", false, b"abc"),
+    (false, b"gh", true, b"abcgh"),
+    (false, b"", false, b"abcgh"),
+    (true, b"ijklm", true, b"abcghijklm"),
+];
 
-fn is_taken(console: &mut MemConsole, bytes: &[u8]) -> bool {
-    console.write(bytes).is_ok()
-}
-
-/// Whether a console takes nothing, then the five bytes that there is room for, and then nothing.
-fn is_filled_console(console: &mut MemConsole) -> bool {
-    !is_taken(console, b"x")
-        && console.room(5).is_ok()
-        && is_said(console, b"abc")
-        && !is_said(console, b"def")
-        && console.printed() == b"abcde".as_slice()
-        && is_said(console, b"")
-}
-
-#[test]
-fn a_console_keeps_what_is_printed(rt: HostRuntime) {
-    for most in [1, 3, 100] {
-        let mut console = MemConsole::new(rt.alloc());
-        console.most(most);
-        assert!(rt; is_filled_console(&mut console), "{most} bytes a call");
-    }
-}
-
-/// Whether the second and the fourth print fail and the others don't, of which each takes three bytes at most.
 fn fails_twice(console: &mut MemConsole) -> bool {
     console.room(100).is_ok()
         && console.fail(4).is_ok()
         && console.fail(2).is_ok()
-        && !is_said(console, b"abcdef")
-        && is_taken(console, b"gh")
-        && !is_taken(console, b"")
-        && is_said(console, b"ijklm")
-        && console.printed() == b"abcghijklm".as_slice()
+        && are_printed(console, &FAILING_TWICE)
+}
+
+fn are_listed_prints_failing(alloc: Global) -> bool {
+    let mut console = MemConsole::new(alloc);
+    console.most(3);
+    fails_twice(&mut console)
 }
 
 #[test]
-fn a_listed_print_fails_and_no_other(rt: HostRuntime) {
-    let mut console = MemConsole::new(rt.alloc());
-    console.most(3);
-    assert!(rt; fails_twice(&mut console));
+fn a_listed_call_fails_and_no_other(rt: HostRuntime) {
+    for (row, call) in FAILING_CALLS.iter().enumerate() {
+        assert!(rt; fails_just_there(rt.alloc(), call), "row {row}");
+    }
+    assert!(rt; are_listed_prints_failing(rt.alloc()), "prints");
 }

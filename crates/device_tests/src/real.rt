@@ -1,10 +1,11 @@
-ghost use Rattle.std.specs.Prelude.{◌<◌, ◌^◌, IsErr};
+ghost use Rattle.std.specs.Prelude.{IsErr};
 
+use crate::reading::{Reading, are_found};
 use std::alloc::{AllocError, Global};
 use std::cell::Cell;
 use std::fmt::Display;
 use std::{fs, io};
-use tl_device::{Files, ReadEnd, RealConsole, RealFiles, put_all, read_all, say_all};
+use tl_device::{Files, ReadEnd, RealConsole, RealFiles, put_all, say_all};
 
 // The files of a test lie where it runs, and it removes them.
 static WRITTEN: &str = "tl_device_written";
@@ -33,41 +34,6 @@ fn is_begun(rt: &HostRuntime, name: &str) -> bool {
     RealFiles::new(rt).open_file(name).is_ok()
 }
 
-fn found(
-    alloc: Global,
-    files: &mut RealFiles<'_, HostRuntime>,
-    name: &str,
-    limit: u64,
-) -> Result<Vec<u8>, ReadEnd>
-    requires { limit < 2 ^ 32 }
-{
-    read_all(alloc, files, name, limit)
-}
-
-fn is_read(
-    alloc: Global,
-    files: &mut RealFiles<'_, HostRuntime>,
-    name: &str,
-    limit: u64,
-    bytes: &[u8],
-) -> bool
-    requires { limit < 2 ^ 32 }
-{
-    matches!(found(alloc, files, name, limit), Ok(read) if read.as_slice() == bytes)
-}
-
-fn is_unread(
-    alloc: Global,
-    files: &mut RealFiles<'_, HostRuntime>,
-    name: &str,
-    limit: u64,
-    end: ReadEnd,
-) -> bool
-    requires { limit < 2 ^ 32 }
-{
-    matches!(found(alloc, files, name, limit), Err(found) if found == end)
-}
-
 /// Whether the system itself finds these bytes in the file.
 fn holds(rt: &HostRuntime, name: &str, bytes: &[u8]) -> bool {
     matches!(fs::read(rt, name), Ok(held) if held.as_slice() == bytes)
@@ -76,10 +42,13 @@ fn holds(rt: &HostRuntime, name: &str, bytes: &[u8]) -> bool {
 /// Whether both files are read, one of them in part, and then nothing of a name that no file has.
 fn are_read(rt: &HostRuntime, bytes: &[u8]) -> bool {
     let mut files = RealFiles::new(rt);
-    is_read(rt.alloc(), &mut files, WRITTEN, 300_000, bytes)
-        && is_read(rt.alloc(), &mut files, BESIDE, 6, b"beside")
-        && is_unread(rt.alloc(), &mut files, BESIDE, 5, ReadEnd::TooLong)
-        && is_unread(rt.alloc(), &mut files, ABSENT, 10, ReadEnd::Failed)
+    let readings: [Reading<'_>; 4] = [
+        (WRITTEN, 300_000, Ok(bytes)),
+        (BESIDE, 6, Ok(b"beside")),
+        (BESIDE, 5, Err(ReadEnd::TooLong)),
+        (ABSENT, 10, Err(ReadEnd::Failed)),
+    ];
+    are_found(rt.alloc(), &mut files, &readings)
 }
 
 fn is_replaced(rt: &HostRuntime, bytes: &[u8]) -> bool {
@@ -102,30 +71,23 @@ fn is_removed(rt: &HostRuntime, name: &str) -> bool {
 }
 
 #[test]
-fn a_real_file_is_replaced_and_read_whole(rt: HostRuntime) {
-    assert!(rt; is_set(&rt));
+fn a_real_file_is_replaced_and_read_whole_and_a_folder_fails(rt: HostRuntime) {
+    let is_set = is_set(&rt);
     for (first, length) in [(0, 200_000), (100, 70_000), (3, 0)] {
-        assert!(rt; is_replaced_by(&rt, first, length), "{length} bytes");
+        assert!(rt;
+            is_set && is_replaced_by(&rt, first, length),
+            "{length} bytes"
+        );
     }
-    assert!(rt; is_removed(&rt, WRITTEN) && is_removed(&rt, BESIDE));
+    assert!(rt; is_removed(&rt, WRITTEN) && is_removed(&rt, BESIDE) && is_refused(&rt));
 }
 
 /// Whether a folder can be begun, and nothing is read there and nothing written.
 fn is_refused(rt: &HostRuntime) -> bool {
+    let mut files = RealFiles::new(rt);
     is_begun(rt, ".")
-        && is_unread(
-            rt.alloc(),
-            &mut RealFiles::new(rt),
-            ".",
-            10,
-            ReadEnd::Failed,
-        )
+        && are_found(rt.alloc(), &mut files, &[(".", 10, Err(ReadEnd::Failed))])
         && !is_put(rt, ".", b"x")
-}
-
-#[test]
-fn a_folder_fails(rt: HostRuntime) {
-    assert!(rt; is_refused(&rt));
 }
 
 /// A printer that is to print a text. A call takes so many bytes at most, and fails where they aren't the next ones,
