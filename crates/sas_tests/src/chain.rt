@@ -1,112 +1,96 @@
 //! A long chain: each value of a variable leads to the next one, and the operators stand in reverse order, so that a
 //! round over all of them would find one value.
 
-ghost use Rattle.std.specs.Prelude.{◌≡◌, ℕ, ◌+◌, ◌^◌, ◌<◌, All, replicate, IfOk};
-ghost use Rattle.sas_tests.specs.Chain.{name, place, IsStep};
-ghost use Rattle.sas_tests.specs.Chain as chain;
-
-use crate::tasks::last_text;
-use lists::{List, Text};
-use sas_task::{Effect, Operator, Pair, SasTask, Variable};
+use crate::projection::is_projected_to;
 use std::alloc::{AllocError, Global};
+use std::fmt::Write;
 use std::test::*;
-use task_simplifier::simplify;
-
-fn name(alloc: Global) -> Result<Text, AllocError>
-    ensures { IfOk result (λ text. text ≡ name) }
-{
-    Ok(Text::from_vec(b"x".to_vec(alloc)?))
-}
-
-fn place(alloc: Global, count: u64) -> Result<Variable, AllocError>
-    ensures { IfOk result (λ variable. variable ≡ place count) }
-{
-    let mut facts = Vec::new(alloc);
-    for _ in 0..count {
-        facts.push(name(alloc)?)?;
-    }
-    Ok(Variable {
-        layer: None,
-        facts: List::from_vec(facts),
-    })
-}
-
-/// The operator that leads from a value to the next one.
-fn step(alloc: Global, val: u64) -> Result<Operator, AllocError>
-    requires { val + 1 < 2 ^ 64 }
-    ensures { IfOk result (λ operator. operator ≡ chain.step val) }
-{
-    let effect = Effect {
-        conditions: List::from_vec(Vec::new(alloc)),
-        var: 0,
-        after: val + 1,
-    };
-    Ok(Operator {
-        name: name(alloc)?,
-        conditions: List::from_vec(vec![in alloc; Pair { var: 0, val }]?),
-        effects: List::from_vec(vec![in alloc; effect]?),
-        cost: 1,
-    })
-}
-
-/// Where the step at this place starts.
-fn start(count: u64, i: u64, reversed: bool) -> u64
-    requires { i + 1 < count }
-    ensures { result + 1 < count }
-{
-    if reversed { count - 2 - i } else { i }
-}
-
-/// The steps from the first value to the last one, or the same in reverse order.
-fn steps(alloc: Global, count: u64, reversed: bool) -> Result<Vec<Operator>, AllocError>
-    requires { 1 < count }
-    ensures { IfOk result (λ operators. All (IsStep count) operators.items) }
-{
-    let mut operators = Vec::new(alloc);
-    for i in 0..count - 1 {
-        operators.push(step(alloc, start(count, i, reversed))?)?;
-    }
-    Ok(operators)
-}
-
-fn chain(alloc: Global, count: u64, reversed: bool) -> Result<SasTask, AllocError>
-    requires { 1 < count }
-{
-    let operators = steps(alloc, count, reversed)?;
-    let place = place(alloc, count)?;
-    let last = Pair {
-        var: 0,
-        val: count - 1,
-    };
-    Ok(SasTask::from_parts(
-        true,
-        List::from_vec(vec![in alloc; place]?),
-        List::from_vec(Vec::new(alloc)),
-        List::from_vec(vec![in alloc; 0u64]?),
-        List::from_vec(vec![in alloc; last]?),
-        List::from_vec(operators),
-        List::from_vec(Vec::new(alloc)),
-    ))
-}
 
 /// How many values the variable has.
 const LENGTH: u64 = 20000;
 
-/// The text of the projection of the reversed chain.
-fn projected(alloc: Global) -> Result<Vec<u8>, AllocError> {
-    let new = simplify(alloc, chain(alloc, LENGTH, true)?)?;
-    last_text(alloc, new)
+/// The lines before the names of the values.
+const BEFORE_VALUES: &str = "begin_version
+3
+end_version
+begin_metric
+1
+end_metric
+1
+begin_variable
+var0
+-1
+20000
+";
+
+/// The lines between them and the operators.
+const BEFORE_STEPS: &str = "end_variable
+0
+begin_state
+0
+end_state
+begin_goal
+1
+0 19999
+end_goal
+19999
+";
+
+/// Adds a line for each value. All have one name.
+fn add_values(text: &mut String) -> Result<(), AllocError> {
+    for _ in 0..LENGTH {
+        text.push_str("x\n")?;
+    }
+    Ok(())
 }
 
-/// Whether that is the text of the chain.
-fn are_equal(alloc: Global) -> Result<bool, AllocError> {
-    let found = projected(alloc)?;
-    let expected = last_text(alloc, chain(alloc, LENGTH, false)?)?;
-    Ok(found.as_slice() == expected.as_slice())
+/// The value where the step at this place starts.
+fn start(place: u64, reversed: bool) -> u64 {
+    if reversed {
+        (LENGTH - 2).saturating_sub(place)
+    } else {
+        place
+    }
+}
+
+/// Adds the operators that lead from the first value to the last one, or the same in reverse order.
+fn add_steps(text: &mut String, reversed: bool) -> Result<(), AllocError> {
+    for place in 0..LENGTH - 1 {
+        let from = start(place, reversed);
+        let to = from.saturating_add(1);
+        write!(
+            text,
+            "begin_operator\nx\n0\n1\n0 0 {from} {to}\n1\nend_operator\n"
+        )?;
+    }
+    Ok(())
+}
+
+/// Adds the lines of the chain.
+fn add_chain(text: &mut String, reversed: bool) -> Result<(), AllocError> {
+    text.push_str(BEFORE_VALUES)?;
+    add_values(text)?;
+    text.push_str(BEFORE_STEPS)?;
+    add_steps(text, reversed)?;
+    text.push_str("0\n")
+}
+
+/// The text of the chain.
+fn chain(alloc: Global, reversed: bool) -> Result<String, AllocError> {
+    let mut text = String::new(alloc);
+    add_chain(&mut text, reversed)?;
+    Ok(text)
+}
+
+/// Whether the projection of the reversed chain is the chain.
+fn is_put_in_order(alloc: Global) -> Result<bool, AllocError> {
+    let reversed = chain(alloc, true)?;
+    let ordered = chain(alloc, false)?;
+    is_projected_to(alloc, &reversed, &ordered)
 }
 
 /// Each value is kept, and only the order of the operators changes.
 #[test]
 fn a_long_chain_is_put_in_order(rt: HostRuntime) {
-    assert!(rt; matches!(are_equal(rt.alloc()), Ok(true)));
+    assert!(rt; matches!(is_put_in_order(rt.alloc()), Ok(true)));
 }

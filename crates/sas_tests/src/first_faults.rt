@@ -85,16 +85,20 @@ fn is_spaced_switch_read(alloc: Global) -> Result<bool, AllocError> {
 
 #[test]
 fn the_switch_is_read(rt: HostRuntime) {
-    assert!(rt; matches!(is_read_as(rt.alloc(), SWITCH, SWITCH), Ok(true)));
-    assert!(rt; matches!(is_spaced_switch_read(rt.alloc()), Ok(true)));
+    assert!(rt;
+        matches!(is_read_as(rt.alloc(), SWITCH, SWITCH), Ok(true))
+            && matches!(is_spaced_switch_read(rt.alloc()), Ok(true))
+    );
 }
 
 #[test]
 fn the_first_line_at_fault_is_told(rt: HostRuntime) {
     assert_refused(&rt, rt.alloc(), SWITCH, &REFUSED);
-    assert!(rt; is_refused(rt.alloc(), b"", 1, SasPlace::Version));
-    assert!(rt; is_refused(rt.alloc(), FEW_LINES, 11, SasPlace::Variables));
-    assert!(rt; matches!(is_cut(rt.alloc(), SWITCH, 22, SasPlace::State), Ok(true)));
+    assert!(rt;
+        is_refused(rt.alloc(), b"", 1, SasPlace::Version)
+            && is_refused(rt.alloc(), FEW_LINES, 11, SasPlace::Variables)
+            && matches!(is_cut(rt.alloc(), SWITCH, 22, SasPlace::State), Ok(true))
+    );
 }
 
 #[test]

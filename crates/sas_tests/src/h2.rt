@@ -1,10 +1,7 @@
 //! The h2 pass over tasks that are written out by hand.
 
-use crate::examples;
-use crate::tasks::{BACK, GATE, RESTING, SAFE, has_text, task, task_of, written};
-use pass_h2::prune;
-use sas_task::SasTask;
-use std::alloc::{AllocError, Global};
+use crate::tasks::{BACK, GATE, Making, RESTING, SAFE, assert_made, task};
+use crate::text::ROOM;
 use std::test::*;
 
 /// A house with a cellar in which a lamp can be lit, which goes out on the way up. Nobody can fly to the attic or read,
@@ -66,26 +63,7 @@ const HOUSE: &str = house!(operators 6);
 
 const PRUNED_HOUSE: &str = pruned_house!(operators 3);
 
-/// What the pass makes of the task.
-fn pruned(alloc: Global, task: SasTask) -> Result<SasTask, AllocError> {
-    prune(alloc, &task)
-}
-
-/// Whether the pass makes the wanted text of the text of a task.
-fn makes(alloc: Global, text: &str, wanted: &str) -> Result<bool, AllocError> {
-    let new = pruned(alloc, task_of(alloc, text)?)?;
-    has_text(alloc, new, wanted.as_bytes())
-}
-
-/// Whether the pass makes the text of the room itself.
-fn does_room_stay(alloc: Global) -> Result<bool, AllocError> {
-    let room = examples::room(alloc)?;
-    let text = written(alloc, &room)?;
-    let new = pruned(alloc, room)?;
-    has_text(alloc, new, text.as_slice())
-}
-
-static MADE: [(&str, &str); 7] = [
+static MADE: [(&str, &str); 8] = [
     // What no pair of facts allows is left out.
     (HOUSE, PRUNED_HOUSE),
     (PRUNED_HOUSE, PRUNED_HOUSE),
@@ -99,14 +77,11 @@ static MADE: [(&str, &str); 7] = [
     (SAFE, SAFE),
     (GATE, GATE),
     (BACK, BACK),
+    // The room has rules, derived variables and effects with conditions.
+    (ROOM, ROOM),
 ];
 
-/// The room stays too, which has rules, derived variables and effects with conditions.
 #[test]
 fn what_no_pair_of_facts_allows_is_left_out(rt: HostRuntime) {
-    for row in &MADE {
-        let answer = makes(rt.alloc(), row.0, row.1);
-        assert!(rt; matches!(answer, Ok(true)), "{}", row.0);
-    }
-    assert!(rt; matches!(does_room_stay(rt.alloc()), Ok(true)), "the room");
+    assert_made(&rt, rt.alloc(), Making::H2, &MADE);
 }

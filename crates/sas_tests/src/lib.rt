@@ -35,5 +35,3 @@ mod relevance;
 mod tasks;
 #[cfg(test)]
 mod text;
-#[cfg(test)]
-mod turns;

@@ -1,138 +1,121 @@
 //! Steps of a task that are worked by hand.
 
-ghost use Rattle.std.specs.Prelude.{◌≡◌, length};
-ghost use Rattle.sas_task.specs.Examples.{room};
-
-use crate::examples;
+use crate::tasks::{task, task_of};
 use sas_task::SasTask;
 use std::alloc::{AllocError, Global};
 use std::test::*;
 
-/// The room, without what is known of it, so that the proof of a test doesn't carry it.
-fn room(alloc: Global) -> Result<SasTask, AllocError> {
-    examples::room(alloc)
+/// The room with a lamp, and one more operator: who is in the room turns the lamp on and off at once, which is a
+/// disagreement.
+const ROOM: &str = task! {
+    metric 1
+    variables 4
+        ["var0", -1, 2, "Atom at(hall)", "Atom at(room)"]
+        ["var1", -1, 2, "Atom lit()", "NegatedAtom lit()"]
+        ["var2", 0, 2, "Atom seeing()", "NegatedAtom seeing()"]
+        ["var3", 1, 2, "Atom safe()", "NegatedAtom safe()"]
+    groups 1
+        [2, "0 0", "0 1"]
+    state 0 1 1 1
+    goal 1 "3 0"
+    operators 4
+        ["enter room", 0, 1, "0 0 0 1", 3]
+        ["press", 1, "0 1", 1, "0 1 1 0", 0]
+        ["toggle", 0, 2, "2 0 1 2 0 1 -1 1", "1 1 1 1 -1 0", 10]
+        ["flicker", 0, 2, "1 0 1 1 -1 0", "0 1 -1 1", 1]
+    rules 2
+        [2, "0 1", "1 0", "2 1 0"]
+        [1, "2 0", "3 1 0"]
+};
+
+/// What is asked of the room in a state, with the answer.
+#[derive(Clone, Copy)]
+enum Asked {
+    /// The values of the variables, with those that rules give.
+    Values([u64; 4]),
+    /// Whether the lamp can be pressed.
+    IsPressed(bool),
+    /// The state to which the operator at a place leads, or none where its effects disagree.
+    Leads(u64, Option<[u64; 4]>),
 }
 
-/// Whether these are the values in the state of the room.
-fn are_values(alloc: Global, state: &[u64], expected: &[u64]) -> Result<bool, AllocError> {
-    let task = room(alloc)?;
-    let values = sas_plain::values(alloc, &task, state);
-    drop(task);
-    Ok(values?.as_slice() == expected)
-}
-
-static VALUES: [([u64; 4], [u64; 4]); 3] = [
-    ([1, 0, 1, 1], [1, 0, 0, 0]),
-    ([1, 1, 1, 1], [1, 1, 1, 1]),
-    ([0, 0, 0, 0], [0, 0, 1, 1]),
+/// Effects are read in the old state.
+static ASKED: [([u64; 4], Asked); 11] = [
+    ([1, 0, 1, 1], Asked::Values([1, 0, 0, 0])),
+    ([1, 1, 1, 1], Asked::Values([1, 1, 1, 1])),
+    ([0, 0, 0, 0], Asked::Values([0, 0, 1, 1])),
+    ([1, 1, 1, 1], Asked::IsPressed(true)),
+    ([0, 1, 1, 1], Asked::IsPressed(false)),
+    ([1, 0, 1, 1], Asked::IsPressed(false)),
+    ([0, 1, 1, 1], Asked::Leads(0, Some([1, 1, 1, 1]))),
+    ([1, 1, 1, 1], Asked::Leads(2, Some([1, 0, 1, 1]))),
+    ([1, 0, 1, 1], Asked::Leads(2, Some([1, 1, 1, 1]))),
+    ([0, 0, 1, 1], Asked::Leads(3, Some([0, 1, 1, 1]))),
+    ([1, 0, 1, 1], Asked::Leads(3, None)),
 ];
 
-#[test]
-fn derived_variables_get_their_values(rt: HostRuntime) {
-    for (state, expected) in &VALUES {
-        let answer = are_values(rt.alloc(), state, expected);
-        assert!(rt; matches!(answer, Ok(true)), "{state:?}");
-    }
+// A call of a plain program has a function of its own without clauses, so that no proof of a test carries its meaning.
+
+fn values(alloc: Global, task: &SasTask, state: &[u64]) -> Result<Vec<u64>, AllocError> {
+    sas_plain::values(alloc, task, state)
 }
 
-/// Whether the second of three operators is applicable.
+/// Whether the second operator is applicable.
 fn is_applicable(alloc: Global, task: &SasTask, state: &[u64]) -> Result<bool, AllocError> {
-    if task.operators() != 3 {
+    if task.operators() < 2 {
         return Err(AllocError);
     }
     sas_plain::is_applicable(alloc, task, state, task.operator(1))
 }
 
-/// Whether the lamp can be pressed in the state of the room.
-fn is_pressed(alloc: Global, state: &[u64]) -> Result<bool, AllocError> {
-    let task = room(alloc)?;
-    let answer = is_applicable(alloc, &task, state);
-    drop(task);
-    answer
-}
-
-static PRESSED: [([u64; 4], bool); 3] = [
-    ([1, 1, 1, 1], true),
-    ([0, 1, 1, 1], false),
-    ([1, 0, 1, 1], false),
-];
-
-#[test]
-fn the_lamp_is_pressed_in_the_dark_room(rt: HostRuntime) {
-    for (state, expected) in &PRESSED {
-        let answer = is_pressed(rt.alloc(), state);
-        assert!(rt;
-            matches!(answer, Ok(is_pressed) if is_pressed == *expected),
-            "{state:?}"
-        );
-    }
-}
-
-/// The successor under the operator at this place of three, where there are four variables.
+/// The successor under the operator at this place, where there is one and the task has four variables.
 fn successor(
     alloc: Global,
     task: &SasTask,
-    state: &[u64],
-    i: u64,
+    state: &[u64; 4],
+    place: u64,
 ) -> Result<Option<Vec<u64>>, AllocError> {
-    if i < 3 && task.operators() == 3 && task.variables() == 4 && state.len() == 4 {
-        sas_plain::successor(alloc, task, state, task.operator(i))
+    if place < task.operators() && task.variables() == 4 {
+        sas_plain::successor(alloc, task, state.as_slice(), task.operator(place))
     } else {
         Err(AllocError)
     }
 }
 
-fn is_state(found: &Option<Vec<u64>>, wanted: &[u64]) -> bool {
-    matches!(found, Some(state) if state.as_slice() == wanted)
-}
-
-/// Whether the operator at this place leads from the one state of the room to the other.
-fn leads(alloc: Global, from: &[u64], i: u64, to: &[u64]) -> Result<bool, AllocError> {
-    let task = room(alloc)?;
-    let next = successor(alloc, &task, from, i);
-    drop(task);
-    Ok(is_state(&next?, to))
-}
-
-static STEPS: [([u64; 4], u64, [u64; 4]); 3] = [
-    ([0, 1, 1, 1], 0, [1, 1, 1, 1]),
-    ([1, 1, 1, 1], 2, [1, 0, 1, 1]),
-    ([1, 0, 1, 1], 2, [1, 1, 1, 1]),
-];
-
-#[test]
-fn effects_are_read_in_the_old_state(rt: HostRuntime) {
-    for (from, i, to) in &STEPS {
-        let answer = leads(rt.alloc(), from, *i, to);
-        assert!(rt; matches!(answer, Ok(true)), "{from:?} {i}");
+fn is_state(found: &Option<Vec<u64>>, wanted: &Option<[u64; 4]>) -> bool {
+    match (found, wanted) {
+        (Some(found), Some(wanted)) => found.as_slice() == wanted.as_slice(),
+        (None, None) => true,
+        _ => false,
     }
 }
 
-/// What flickering leads to in the room.
-fn flickered(alloc: Global, task: &SasTask, state: &[u64]) -> Result<Option<Vec<u64>>, AllocError>
-    requires room { task.now ≡ room }
-    requires state { length state.now ≡ 4 }
-{
-    let flicker = examples::flicker(alloc)?;
-    sas_plain::successor(alloc, task, state, &flicker)
+fn is_answered(
+    alloc: Global,
+    task: &SasTask,
+    state: &[u64; 4],
+    asked: Asked,
+) -> Result<bool, AllocError> {
+    match asked {
+        Asked::Values(wanted) => Ok(values(alloc, task, state)?.as_slice() == wanted.as_slice()),
+        Asked::IsPressed(wanted) => Ok(is_applicable(alloc, task, state)? == wanted),
+        Asked::Leads(place, wanted) => {
+            Ok(is_state(&successor(alloc, task, state, place)?, &wanted))
+        }
+    }
 }
 
-fn does_flicker(alloc: Global, task: &SasTask) -> Result<bool, AllocError>
-    requires { task.now ≡ room }
-{
-    let outside = flickered(alloc, task, &[0, 0, 1, 1])?;
-    let inside = flickered(alloc, task, &[1, 0, 1, 1])?;
-    Ok(is_state(&outside, &[0, 1, 1, 1]) && inside.is_none())
-}
-
-fn does_room_flicker(alloc: Global) -> Result<bool, AllocError> {
-    let task = examples::room(alloc)?;
-    let answer = does_flicker(alloc, &task);
+fn is_so(alloc: Global, state: &[u64; 4], asked: Asked) -> Result<bool, AllocError> {
+    let task = task_of(alloc, ROOM.as_bytes())?;
+    let answer = is_answered(alloc, &task, state, asked);
     drop(task);
     answer
 }
 
 #[test]
-fn firing_effects_may_disagree(rt: HostRuntime) {
-    assert!(rt; matches!(does_room_flicker(rt.alloc()), Ok(true)));
+fn values_and_steps_of_the_room_as_worked_by_hand(rt: HostRuntime) {
+    for (row, (state, asked)) in ASKED.iter().enumerate() {
+        let answer = is_so(rt.alloc(), state, *asked);
+        assert!(rt; matches!(answer, Ok(true)), "row {row}");
+    }
 }

@@ -1,9 +1,12 @@
-//! Copies, the order of variables, and a book with that pass, applied to the room with a lamp.
+//! Copies, the order of variables, and books of passes, whose passes are applied in turn.
 
-use crate::examples::{room, switch};
-use crate::tasks::{gives, has_text, task, task_of, written};
+use crate::tasks::{GATE, HALL, Making, SWITCH, assert_made, last_text, task, task_of};
+use crate::text::ROOM;
 use order_variables::order_variables;
-use pass_book::{AddEnd, ApplyEnd, Book, Pass, PassKind};
+use pass_book::PassKind::{self, H2, Order, Relevance};
+use pass_book::{AddEnd, ApplyEnd, Book, Pass};
+use pass_h2::prune;
+use pass_relevance::relevant;
 use sas_task::SasTask;
 use std::alloc::{AllocError, Global};
 use std::test::*;
@@ -43,139 +46,233 @@ const REORDERED: &str = task! {
         [1, "0 0", "1 1 0"]
 };
 
-/// Whether a copy of the task has its text.
-fn copies_have_one_text(alloc: Global, task: SasTask) -> Result<bool, AllocError> {
-    let text = written(alloc, &task)?;
-    let copy = copy_of(alloc, task)?;
-    has_text(alloc, copy, text.as_slice())
-}
+/// The gate without dust, in order then: fewer operators go through it than open and close it.
+const ORDERED_BEHIND: &str = task! {
+    metric 0
+    variables 5
+        ["var0", -1, 2, "Atom key()", "NegatedAtom key()"]
+        ["var1", 0, 2, "Atom safe()", "NegatedAtom safe()"]
+        ["var2", -1, 2, "Atom through()", "NegatedAtom through()"]
+        ["var3", -1, 2, "Atom ringing()", "NegatedAtom ringing()"]
+        ["var4", -1, 2, "Atom open()", "NegatedAtom open()"]
+    groups 0
+    state 0 1 1 1 1
+    goal 1 "1 0"
+    operators 3
+        ["close", 0, 1, "0 4 -1 1", 1]
+        ["go", 1, "4 0", 3, "1 0 0 2 -1 0", "0 3 -1 0", "1 0 0 3 -1 1", 1]
+        ["open", 0, 1, "0 4 -1 0", 1]
+    rules 1
+        [1, "2 0", "1 1 0"]
+};
 
-fn is_switch_copied(alloc: Global) -> Result<bool, AllocError> {
-    copies_have_one_text(alloc, switch(alloc)?)
-}
+/// The gate in order, while two operators go through it, and then without dust.
+const ORDERED_BEFORE: &str = task! {
+    metric 0
+    variables 5
+        ["var0", -1, 2, "Atom key()", "NegatedAtom key()"]
+        ["var1", 0, 2, "Atom safe()", "NegatedAtom safe()"]
+        ["var2", -1, 2, "Atom open()", "NegatedAtom open()"]
+        ["var3", -1, 2, "Atom through()", "NegatedAtom through()"]
+        ["var4", -1, 2, "Atom ringing()", "NegatedAtom ringing()"]
+    groups 0
+    state 0 1 1 1 1
+    goal 1 "1 0"
+    operators 3
+        ["close", 0, 1, "0 2 -1 1", 1]
+        ["go", 1, "2 0", 3, "1 0 0 3 -1 0", "0 4 -1 0", "1 0 0 4 -1 1", 1]
+        ["open", 0, 1, "0 2 -1 0", 1]
+    rules 1
+        [1, "3 0", "1 1 0"]
+};
 
-fn is_room_copied(alloc: Global) -> Result<bool, AllocError> {
-    copies_have_one_text(alloc, room(alloc)?)
-}
+/// The hall without the attic, to which nobody flies. Nobody has wings.
+const GROUND: &str = task! {
+    metric 0
+    variables 2
+        ["var0", -1, 2, "Atom at(hall)", "Atom at(garden)"]
+        ["var1", -1, 1, "NegatedAtom wings()"]
+    groups 1
+        [2, "0 0", "0 1"]
+    state 0 0
+    goal 1 "0 1"
+    operators 1
+        ["walk", 0, 1, "0 0 0 1", 1]
+    rules 0
+};
+
+/// The same in order: no operator changes that nobody has wings.
+const ORDERED_GROUND: &str = task! {
+    metric 0
+    variables 2
+        ["var0", -1, 1, "NegatedAtom wings()"]
+        ["var1", -1, 2, "Atom at(hall)", "Atom at(garden)"]
+    groups 1
+        [2, "1 0", "1 1"]
+    state 0 0
+    goal 1 "1 1"
+    operators 1
+        ["walk", 0, 1, "0 1 0 1", 1]
+    rules 0
+};
+
+/// The same without wings, of which no operator that is left asks.
+const WALK: &str = task! {
+    metric 0
+    variables 1
+        ["var0", -1, 2, "Atom at(hall)", "Atom at(garden)"]
+    groups 1
+        [2, "0 0", "0 1"]
+    state 0
+    goal 1 "0 1"
+    operators 1
+        ["walk", 0, 1, "0 0 0 1", 1]
+    rules 0
+};
+
+static COPIED: [(&str, &str); 3] = [(SWITCH, SWITCH), (ROOM, ROOM), (LAMP, LAMP)];
+
+static ORDERED: [(&str, &str); 1] = [(ROOM, REORDERED)];
 
 #[test]
-fn a_copy_has_the_same_text(rt: HostRuntime) {
-    assert!(rt; matches!(is_switch_copied(rt.alloc()), Ok(true)));
-    assert!(rt; matches!(is_room_copied(rt.alloc()), Ok(true)));
+fn copies_have_the_same_text_and_variables_are_ordered(rt: HostRuntime) {
+    assert_made(&rt, rt.alloc(), Making::Copying, &COPIED);
+    assert_made(&rt, rt.alloc(), Making::OrderingVariables, &ORDERED);
 }
 
-fn copy_of(alloc: Global, task: SasTask) -> Result<SasTask, AllocError> {
-    task.copy(alloc)
+/// Kinds of passes, the text of the task to which a book applies them, and that of what they make, or why they make none.
+type Row = (
+    &'static [PassKind],
+    &'static str,
+    Result<&'static str, ApplyEnd>,
+);
+
+static EMPTY_BOOK: [Row; 1] = [(&[Order], ROOM, Err(ApplyEnd::NotInBook(Order)))];
+
+static BOOK_OF_ORDER: [Row; 2] = [
+    (&[Order], ROOM, Ok(REORDERED)),
+    (&[Order, Order], ROOM, Ok(REORDERED)),
+];
+
+// The pass finds no memory.
+static STARVED_BOOK: [Row; 2] = [
+    (&[Order], ROOM, Err(ApplyEnd::NoMemory)),
+    (&[], ROOM, Ok(ROOM)),
+];
+
+// Wings are of no account only once nobody flies. A kind may be repeated.
+static BOOK_OF_EVERY_PASS: [Row; 8] = [
+    (&[Relevance, Order], GATE, Ok(ORDERED_BEHIND)),
+    (&[Order, Relevance], GATE, Ok(ORDERED_BEFORE)),
+    (
+        &[Order, Relevance, Relevance, Order, Relevance],
+        GATE,
+        Ok(ORDERED_BEHIND),
+    ),
+    (&[H2], HALL, Ok(GROUND)),
+    (&[Relevance, H2, H2], HALL, Ok(GROUND)),
+    (&[Order, Relevance, H2], HALL, Ok(ORDERED_GROUND)),
+    (&[H2, Order], HALL, Ok(ORDERED_GROUND)),
+    (&[H2, Relevance, Order], HALL, Ok(WALK)),
+];
+
+fn is_text(
+    alloc: Global,
+    new: SasTask,
+    wanted: Result<&str, ApplyEnd>,
+) -> Result<bool, AllocError> {
+    let text = last_text(alloc, new)?;
+    Ok(matches!(wanted, Ok(wanted) if text.as_slice() == wanted.as_bytes()))
 }
 
-fn is_lamp_copied(alloc: Global) -> Result<bool, AllocError> {
-    let copy = copy_of(alloc, task_of(alloc, LAMP)?)?;
-    has_text(alloc, copy, LAMP.as_bytes())
-}
-
-#[test]
-fn a_copy_of_the_lamp_has_its_text(rt: HostRuntime) {
-    assert!(rt; matches!(is_lamp_copied(rt.alloc()), Ok(true)));
-}
-
-fn ordered(alloc: Global, task: SasTask) -> Result<SasTask, AllocError> {
-    order_variables(alloc, &task)
-}
-
-fn is_room_ordered(alloc: Global) -> Result<bool, AllocError> {
-    let ordered = ordered(alloc, room(alloc)?)?;
-    has_text(alloc, ordered, REORDERED.as_bytes())
-}
-
-#[test]
-fn variables_are_ordered(rt: HostRuntime) {
-    assert!(rt; matches!(is_room_ordered(rt.alloc()), Ok(true)));
-}
-
-/// Whether the order of variables makes no task of the room, and why.
-fn ends(alloc: Global, book: &Book, wanted: ApplyEnd) -> Result<bool, AllocError> {
-    match book.apply(alloc, &[PassKind::Order], room(alloc)?) {
-        Ok(_) => Ok(false),
-        Err(end) => Ok(end == wanted),
+/// Whether the book applies passes as the row says.
+fn is_applied(alloc: Global, book: &Book, row: &Row) -> Result<bool, AllocError> {
+    match book.apply(alloc, row.0, task_of(alloc, row.1.as_bytes())?) {
+        Ok(new) => is_text(alloc, new, row.2),
+        Err(end) => Ok(matches!(row.2, Err(wanted) if end == wanted)),
     }
 }
 
-/// Whether the book has the order of variables, and applies it once or twice.
-fn orders(alloc: Global, book: &Book) -> Result<bool, AllocError> {
-    let kind = PassKind::Order;
-    let wanted = REORDERED.as_bytes();
-    let once = gives(alloc, book, &[kind], room(alloc)?, wanted)?;
-    let twice = gives(alloc, book, &[kind, kind], room(alloc)?, wanted)?;
-    Ok(book.has(kind) && once && twice)
+/// Whether the book has the order of variables or not, and applies passes as the rows say.
+fn are_applied(alloc: Global, book: &Book, has_order: bool, rows: &[Row]) -> bool {
+    for row in rows {
+        if !matches!(is_applied(alloc, book, row), Ok(true)) {
+            return false;
+        }
+    }
+    book.has(Order) == has_order
 }
 
-fn is_pass_applied(alloc: Global) -> Result<bool, AllocError> {
-    let mut book = Book::new(alloc);
-    let run = Box::new(
-        alloc,
-        |alloc: Global, task: &SasTask| order_variables(alloc, task),
-    )?;
-    let kind = PassKind::Order;
-    let is_added = book.add(Pass { kind, run }).is_ok();
-    Ok(is_added && orders(alloc, &book)?)
+/// Whether an empty book has no pass.
+fn is_empty(alloc: Global) -> bool {
+    let book = Book::new(alloc);
+    are_applied(alloc, &book, false, &EMPTY_BOOK)
 }
 
-#[test]
-fn a_pass_is_applied(rt: HostRuntime) {
-    assert!(rt; matches!(is_pass_applied(rt.alloc()), Ok(true)));
-}
+// Boxes are made before the book, since each end of a function that owns a book costs its proof some seconds.
 
-fn is_kind_taken_once(alloc: Global) -> Result<bool, AllocError> {
-    let mut book = Book::new(alloc);
+/// Whether a book takes the order of variables and applies it, also once it was given another pass of this kind.
+fn is_taken_once(alloc: Global) -> Result<bool, AllocError> {
     let run = Box::new(
         alloc,
         |alloc: Global, task: &SasTask| order_variables(alloc, task),
     )?;
     let other = Box::new(alloc, |_: Global, _: &SasTask| Err(AllocError))?;
-    let kind = PassKind::Order;
+    let kind = Order;
+    let mut book = Book::new(alloc);
     let is_added = book.add(Pass { kind, run }).is_ok();
+    let is_applied = are_applied(alloc, &book, true, &BOOK_OF_ORDER);
     let is_taken = matches!(
         book.add(Pass { kind, run: other }),
         Err((_, AddEnd::KindTaken))
     );
-    Ok(is_added && is_taken && orders(alloc, &book)?)
+    let is_kept = are_applied(alloc, &book, true, &BOOK_OF_ORDER);
+    Ok(is_added && is_applied && is_taken && is_kept)
 }
 
-#[test]
-fn a_kind_is_taken_once(rt: HostRuntime) {
-    assert!(rt; matches!(is_kind_taken_once(rt.alloc()), Ok(true)));
-}
-
-#[test]
-fn an_empty_book_has_no_pass(rt: HostRuntime) {
-    let book = Book::new(rt.alloc());
-    let kind = PassKind::Order;
-    let is_missing = ends(rt.alloc(), &book, ApplyEnd::NotInBook(kind));
-    assert!(rt; matches!(is_missing, Ok(true)) && !book.has(kind));
-}
-
-/// Whether no passes leave the room as it is.
-fn leaves_the_room(alloc: Global, book: &Book) -> Result<bool, AllocError> {
-    let room = room(alloc)?;
-    let text = written(alloc, &room)?;
-    gives(alloc, book, &[], room, text.as_slice())
-}
-
-/// Whether the book has a pass that finds no memory, and no passes leave the room as it is.
-fn wants_memory(alloc: Global, book: &Book) -> Result<bool, AllocError> {
-    let is_starved = ends(alloc, book, ApplyEnd::NoMemory)?;
-    Ok(is_starved && book.has(PassKind::Order) && leaves_the_room(alloc, book)?)
-}
-
-fn is_memory_wanted(alloc: Global) -> Result<bool, AllocError> {
-    let mut book = Book::new(alloc);
+/// Whether a book takes a pass that finds no memory, and no passes leave the room as it is.
+fn is_starved(alloc: Global) -> Result<bool, AllocError> {
     let run = Box::new(alloc, |_: Global, _: &SasTask| Err(AllocError))?;
-    let kind = PassKind::Order;
-    let is_added = book.add(Pass { kind, run }).is_ok();
-    Ok(is_added && wants_memory(alloc, &book)?)
+    let mut book = Book::new(alloc);
+    let is_added = book.add(Pass { kind: Order, run }).is_ok();
+    let is_applied = are_applied(alloc, &book, true, &STARVED_BOOK);
+    Ok(is_added && is_applied)
+}
+
+/// Whether a book takes every pass, and applies them in the order of their kinds.
+fn is_in_turn(alloc: Global) -> Result<bool, AllocError> {
+    let order = Box::new(
+        alloc,
+        |alloc: Global, task: &SasTask| order_variables(alloc, task),
+    )?;
+    let relevance = Box::new(alloc, |alloc: Global, task: &SasTask| relevant(alloc, task))?;
+    let h2 = Box::new(alloc, |alloc: Global, task: &SasTask| prune(alloc, task))?;
+    let mut book = Book::new(alloc);
+    let has_order = book
+        .add(Pass {
+            kind: Order,
+            run: order,
+        })
+        .is_ok();
+    let has_relevance = book
+        .add(Pass {
+            kind: Relevance,
+            run: relevance,
+        })
+        .is_ok();
+    let has_h2 = book.add(Pass { kind: H2, run: h2 }).is_ok();
+    let is_applied = are_applied(alloc, &book, true, &BOOK_OF_EVERY_PASS);
+    Ok(has_order && has_relevance && has_h2 && is_applied)
 }
 
 #[test]
-fn a_pass_may_want_memory(rt: HostRuntime) {
-    assert!(rt; matches!(is_memory_wanted(rt.alloc()), Ok(true)));
+fn a_book_takes_a_kind_once_and_applies_the_passes_that_it_has(rt: HostRuntime) {
+    for (book, answer) in [
+        ("empty", Ok(is_empty(rt.alloc()))),
+        ("of the order of variables", is_taken_once(rt.alloc())),
+        ("of a pass that finds no memory", is_starved(rt.alloc())),
+        ("of every pass", is_in_turn(rt.alloc())),
+    ] {
+        assert!(rt; matches!(answer, Ok(true)), "a book {book}");
+    }
 }

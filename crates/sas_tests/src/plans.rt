@@ -1,6 +1,7 @@
 //! Tables of plan files: what each comes to beside a small task.
 
-use crate::examples;
+use crate::tasks::{SWITCH, task_of};
+use crate::text::ROOM;
 use plan_backmap::{MapEnd, map_plan};
 use plan_lines::{Mapped, Step, plan_text};
 use sas_task::SasTask;
@@ -117,27 +118,22 @@ fn mapped(alloc: Global, task: &SasTask, text: &[u8]) -> Result<Mapped, MapEnd> 
     }
 }
 
-/// Whether the plan beside the switch comes to this.
-fn is_mapped(alloc: Global, text: &[u8], wanted: Result<u64, MapEnd>) -> Result<bool, AllocError> {
-    let task = examples::switch(alloc)?;
+/// What comes of a short plan beside the task of a text.
+fn mapped_beside(alloc: Global, task: &str, text: &[u8]) -> Result<Mapped, MapEnd> {
+    let Ok(task) = task_of(alloc, task.as_bytes()) else {
+        return Err(MapEnd::NoMemory);
+    };
     let found = mapped(alloc, &task, text);
     drop(task);
-    Ok(comes_to(&found, wanted))
+    found
 }
 
 #[test]
 fn each_plan_gives_its_steps_or_its_first_faulty_line(rt: HostRuntime) {
     for row in &SWITCH_PLANS {
-        let answer = is_mapped(rt.alloc(), row.0, row.1);
-        assert!(rt; matches!(answer, Ok(true)), "{:?}", row.0);
+        let found = mapped_beside(rt.alloc(), SWITCH, row.0);
+        assert!(rt; comes_to(&found, row.1), "{:?}", row.0);
     }
-}
-
-fn room_mapped(alloc: Global) -> Result<Mapped, MapEnd> {
-    let task = examples::room(alloc)?;
-    let found = mapped(alloc, &task, ROOM_PLAN);
-    drop(task);
-    found
 }
 
 const ROOM_STEP_LINES: &str = "(enter room)\n(press)\n(toggle)\n(enter room)\n";
@@ -156,7 +152,7 @@ fn has_steps_and_lines(alloc: Global, mapped: &Mapped) -> Result<bool, AllocErro
 }
 
 fn is_room_mapped(alloc: Global) -> Result<bool, AllocError> {
-    match &room_mapped(alloc) {
+    match &mapped_beside(alloc, ROOM, ROOM_PLAN) {
         Ok(mapped) => has_steps_and_lines(alloc, mapped),
         Err(_) => Ok(false),
     }

@@ -2,9 +2,8 @@
 
 ghost use Rattle.std.specs.Prelude.{◌<◌};
 
-use crate::tasks::has_text;
-use sas_reader::{ReadTaskEnd, SasPlace, read_task};
-use sas_task::SasTask;
+use crate::tasks::{has_text, read, task_of};
+use sas_reader::{ReadTaskEnd, SasPlace};
 use std::alloc::{AllocError, Global};
 use std::process::Abort;
 
@@ -30,15 +29,6 @@ pub(crate) fn with_line(
     Ok(changed)
 }
 
-/// What the text gives, where it is short enough to be read.
-fn read(alloc: Global, text: &[u8]) -> Result<SasTask, ReadTaskEnd> {
-    if text.len() < 10_000 {
-        read_task(alloc, text)
-    } else {
-        Err(ReadTaskEnd::NoMemory)
-    }
-}
-
 /// Whether the text is refused at this line of this section.
 pub(crate) fn is_refused(alloc: Global, text: &[u8], line: u64, place: SasPlace) -> bool {
     match read(alloc, text) {
@@ -49,10 +39,7 @@ pub(crate) fn is_refused(alloc: Global, text: &[u8], line: u64, place: SasPlace)
 
 /// Whether the text is that of a task whose text is the other.
 pub(crate) fn is_read_as(alloc: Global, text: &[u8], other: &[u8]) -> Result<bool, AllocError> {
-    match read(alloc, text) {
-        Ok(task) => has_text(alloc, task, other),
-        Err(_) => Ok(false),
-    }
+    has_text(alloc, task_of(alloc, text)?, other)
 }
 
 /// Whether the text is refused as the row says.
@@ -70,13 +57,17 @@ pub(crate) fn assert_refused(rt: &impl Abort, alloc: Global, text: &[u8], rows: 
 }
 
 /// The first lines of the text, with their line feeds.
-fn first_lines(alloc: Global, text: &[u8], count: u64) -> Result<Vec<u8>, AllocError> {
-    let mut lines = Vec::new(alloc);
-    for line in text.split(|byte| *byte == b'\n').take(count as usize) {
-        lines.extend_from_slice(line)?;
-        lines.push(b'\n')?;
+fn first_lines(text: &[u8], count: u64) -> &[u8] {
+    let mut left = count;
+    for (place, byte) in text.iter().enumerate() {
+        if left == 0 {
+            return &text[..place];
+        }
+        if *byte == b'\n' {
+            left -= 1;
+        }
     }
-    Ok(lines)
+    text
 }
 
 /// Whether the text is refused after so many lines, at the next one, which is missing or has no line feed.
@@ -88,8 +79,9 @@ pub(crate) fn is_cut(
 ) -> Result<bool, AllocError>
     requires { before < 89 }
 {
-    let mut cut = first_lines(alloc, text, before)?;
-    let is_missing = is_refused(alloc, cut.as_slice(), before + 1, place);
-    cut.extend_from_slice(b"0")?;
+    let lines = first_lines(text, before);
+    let is_missing = is_refused(alloc, lines, before + 1, place);
+    let mut cut = Vec::from_slice(alloc, lines)?;
+    cut.push(b'0')?;
     Ok(is_missing && is_refused(alloc, cut.as_slice(), before + 1, place))
 }

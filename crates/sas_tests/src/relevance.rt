@@ -1,10 +1,7 @@
 //! The relevance pass over tasks that are written out by hand.
 
-use crate::examples;
-use crate::tasks::{self, has_text, task, task_of, written};
-use pass_relevance::relevant;
-use sas_task::SasTask;
-use std::alloc::{AllocError, Global};
+use crate::tasks::{self, Making, assert_made, task};
+use crate::text::ROOM;
 use std::test::*;
 
 /// `b` is to have `p`: that `a` has it is of no account.
@@ -91,26 +88,7 @@ const GATE: &str = task! {
         [1, "1 0", "4 1 0"]
 };
 
-/// What the pass leaves of the task.
-fn left(alloc: Global, task: SasTask) -> Result<SasTask, AllocError> {
-    relevant(alloc, &task)
-}
-
-/// Whether the pass leaves this text of that one's task.
-fn leaves(alloc: Global, text: &str, wanted: &str) -> Result<bool, AllocError> {
-    let new = left(alloc, task_of(alloc, text)?)?;
-    has_text(alloc, new, wanted.as_bytes())
-}
-
-/// Whether the pass leaves the text of the room itself.
-fn does_room_stay(alloc: Global) -> Result<bool, AllocError> {
-    let room = examples::room(alloc)?;
-    let text = written(alloc, &room)?;
-    let new = left(alloc, room)?;
-    has_text(alloc, new, text.as_slice())
-}
-
-static LEFT: [(&str, &str); 5] = [
+static LEFT: [(&str, &str); 6] = [
     // What is of no account is left out.
     (tasks::BACK, BACK),
     (shop!(goal 1 "0 0"), SMALL_SHOP),
@@ -118,15 +96,12 @@ static LEFT: [(&str, &str); 5] = [
     // values on one variable.
     (TOUCH, TOUCH),
     (tasks::GATE, GATE),
+    (ROOM, ROOM),
     // With an empty goal the task stays. The operators of the shop stay in their own order.
     (shop!(goal 0), shop!(goal 0)),
 ];
 
 #[test]
 fn what_is_of_no_account_is_left_out(rt: HostRuntime) {
-    for row in &LEFT {
-        let answer = leaves(rt.alloc(), row.0, row.1);
-        assert!(rt; matches!(answer, Ok(true)), "{}", row.0);
-    }
-    assert!(rt; matches!(does_room_stay(rt.alloc()), Ok(true)), "the room");
+    assert_made(&rt, rt.alloc(), Making::Relevance, &LEFT);
 }

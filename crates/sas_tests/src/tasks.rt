@@ -1,10 +1,13 @@
-//! Tasks that are written out by hand: a gate, a hall, and others whose texts are those of small PDDL tasks.
+//! Tasks that are written out by hand: a switch, a gate, a hall, and others whose texts are those of small PDDL tasks.
 
-use pass_book::{Book, PassKind};
-use sas_reader::read_task;
+use order_variables::order_variables;
+use pass_h2::prune;
+use pass_relevance::relevant;
+use sas_reader::{ReadTaskEnd, read_task};
 use sas_task::SasTask;
 use sas_writer::text_of;
 use std::alloc::{AllocError, Global};
+use std::process::Abort;
 
 /// The text of a task. A row has the lines between the words that begin and end a variable, a mutex group, an operator or
 /// a rule, and the number before the rows is how many there are.
@@ -32,6 +35,20 @@ macro_rules! task {
 }
 
 pub(crate) use task;
+
+/// A lamp that is off and can be switched on, with one variable for each fact.
+pub(crate) const SWITCH: &str = task! {
+    metric 0
+    variables 2
+        ["var0", -1, 2, "Atom on()", "NegatedAtom on()"]
+        ["var1", -1, 2, "Atom off()", "NegatedAtom off()"]
+    groups 0
+    state 1 0
+    goal 1 "0 0"
+    operators 1
+        ["flip", 0, 2, "0 0 -1 0", "0 1 0 1", 1]
+    rules 0
+};
 
 /// Whoever has `q` gets `p` and gives `q` to somebody, maybe to itself; `b` is to have `p`.
 pub(crate) const BACK: &str = task! {
@@ -130,19 +147,25 @@ pub(crate) const SAFE: &str = hall! {
         [1, "0 2", "2 1 0"]
 };
 
-/// The task of a short text. Another text gives none, as where memory is wanting.
-pub(crate) fn task_of(alloc: Global, text: &str) -> Result<SasTask, AllocError> {
-    if text.len() >= 10_000 {
-        return Err(AllocError);
+/// What the text gives, where it is short enough to be read.
+pub(crate) fn read(alloc: Global, text: &[u8]) -> Result<SasTask, ReadTaskEnd> {
+    if text.len() < 10_000_000 {
+        read_task(alloc, text)
+    } else {
+        Err(ReadTaskEnd::NoMemory)
     }
-    match read_task(alloc, text.as_bytes()) {
+}
+
+/// The task of the text. A text that isn't one gives none, as where memory is wanting.
+pub(crate) fn task_of(alloc: Global, text: &[u8]) -> Result<SasTask, AllocError> {
+    match read(alloc, text) {
         Ok(task) => Ok(task),
         Err(_) => Err(AllocError),
     }
 }
 
 /// The text of the task, without what is known of it, so that no proof of a test carries that.
-pub(crate) fn written(alloc: Global, task: &SasTask) -> Result<Vec<u8>, AllocError> {
+fn written(alloc: Global, task: &SasTask) -> Result<Vec<u8>, AllocError> {
     text_of(alloc, task)
 }
 
@@ -162,16 +185,46 @@ pub(crate) fn has_text(alloc: Global, task: SasTask, wanted: &[u8]) -> Result<bo
     Ok(text.as_slice() == wanted)
 }
 
-/// Whether passes of these kinds make a task of this text of the given one.
-pub(crate) fn gives(
+/// What makes another task of a task.
+#[derive(Clone, Copy)]
+pub(crate) enum Making {
+    Copying,
+    OrderingVariables,
+    Relevance,
+    H2,
+}
+
+fn made(alloc: Global, making: Making, task: &SasTask) -> Result<SasTask, AllocError> {
+    match making {
+        Making::Copying => task.copy(alloc),
+        Making::OrderingVariables => order_variables(alloc, task),
+        Making::Relevance => relevant(alloc, task),
+        Making::H2 => prune(alloc, task),
+    }
+}
+
+/// What is made of the task of the text.
+fn made_of(alloc: Global, making: Making, text: &str) -> Result<SasTask, AllocError> {
+    let task = task_of(alloc, text.as_bytes())?;
+    let new = made(alloc, making, &task);
+    drop(task);
+    new
+}
+
+/// Whether the wanted text is that of what is made of the task of the text.
+fn makes(alloc: Global, making: Making, text: &str, wanted: &str) -> Result<bool, AllocError> {
+    has_text(alloc, made_of(alloc, making, text)?, wanted.as_bytes())
+}
+
+/// Asserts that the second text of each row is that of what is made of the task of the first.
+pub(crate) fn assert_made(
+    rt: &impl Abort,
     alloc: Global,
-    book: &Book,
-    kinds: &[PassKind],
-    task: SasTask,
-    wanted: &[u8],
-) -> Result<bool, AllocError> {
-    match book.apply(alloc, kinds, task) {
-        Ok(new) => has_text(alloc, new, wanted),
-        Err(_) => Ok(false),
+    making: Making,
+    rows: &[(&'static str, &'static str)],
+) {
+    for row in rows {
+        let answer = makes(alloc, making, row.0, row.1);
+        assert!(rt; matches!(answer, Ok(true)), "{}", row.0);
     }
 }

@@ -1,11 +1,12 @@
 //! The text of a task, written out by hand.
 
-use crate::examples;
-use crate::tasks::last_text;
-use std::alloc::Global;
+use crate::examples::room;
+use crate::tasks::has_text;
+use std::alloc::{AllocError, Global};
 use std::test::*;
 
-const ROOM: &[u8] = b"begin_version
+/// The text of the room with a lamp.
+pub(crate) const ROOM: &str = "begin_version
 3
 end_version
 begin_metric
@@ -94,18 +95,11 @@ begin_rule
 end_rule
 ";
 
-/// Whether this is the text of the room.
-fn is_written(alloc: Global, text: &[u8]) -> bool {
-    let Ok(room) = examples::room(alloc) else {
-        return false;
-    };
-    match last_text(alloc, room) {
-        Ok(written) => written.as_slice() == text,
-        Err(_) => false,
-    }
+fn is_room_written(alloc: Global) -> Result<bool, AllocError> {
+    has_text(alloc, room(alloc)?, ROOM.as_bytes())
 }
 
 #[test]
 fn the_room_is_written(rt: HostRuntime) {
-    assert!(rt; is_written(rt.alloc(), ROOM));
+    assert!(rt; matches!(is_room_written(rt.alloc()), Ok(true)));
 }
