@@ -349,13 +349,18 @@ static SECTIONS: [(u64, u64, SasPlace); 8] = [
 
 #[test]
 fn lines_that_break_their_rules_are_refused(rt: HostRuntime) {
-    assert_refused(&rt, rt.alloc(), HOUSE, &FIXED_WORDS);
-    assert_refused(&rt, rt.alloc(), HOUSE, &COUNTS);
-    assert_refused(&rt, rt.alloc(), HOUSE, &VARIABLES);
-    assert_refused(&rt, rt.alloc(), HOUSE, &PAIRS);
-    assert_refused(&rt, rt.alloc(), HOUSE, &OPERATORS);
-    assert_refused(&rt, rt.alloc(), HOUSE, &RULES);
-    assert_refused(&rt, rt.alloc(), HOUSE, &ENDS);
+    let tables: [&[Refused]; 7] = [
+        &FIXED_WORDS,
+        &COUNTS,
+        &VARIABLES,
+        &PAIRS,
+        &OPERATORS,
+        &RULES,
+        &ENDS,
+    ];
+    for rows in tables {
+        assert_refused(&rt, rt.alloc(), HOUSE, rows);
+    }
 }
 
 /// Whether the house with this line in place of another is read, and written as it was read.

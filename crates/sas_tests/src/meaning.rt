@@ -90,6 +90,27 @@ fn is_state(found: &Option<Vec<u64>>, wanted: &Option<[u64; 4]>) -> bool {
     }
 }
 
+fn are_values(
+    alloc: Global,
+    task: &SasTask,
+    state: &[u64],
+    wanted: &[u64],
+) -> Result<bool, AllocError> {
+    let found = values(alloc, task, state)?;
+    Ok(found.as_slice() == wanted)
+}
+
+fn leads(
+    alloc: Global,
+    task: &SasTask,
+    state: &[u64; 4],
+    place: u64,
+    wanted: &Option<[u64; 4]>,
+) -> Result<bool, AllocError> {
+    let found = successor(alloc, task, state, place)?;
+    Ok(is_state(&found, wanted))
+}
+
 fn is_answered(
     alloc: Global,
     task: &SasTask,
@@ -97,11 +118,9 @@ fn is_answered(
     asked: Asked,
 ) -> Result<bool, AllocError> {
     match asked {
-        Asked::Values(wanted) => Ok(values(alloc, task, state)?.as_slice() == wanted.as_slice()),
+        Asked::Values(wanted) => are_values(alloc, task, state, &wanted),
         Asked::IsPressed(wanted) => Ok(is_applicable(alloc, task, state)? == wanted),
-        Asked::Leads(place, wanted) => {
-            Ok(is_state(&successor(alloc, task, state, place)?, &wanted))
-        }
+        Asked::Leads(place, wanted) => leads(alloc, task, state, place, &wanted),
     }
 }
 

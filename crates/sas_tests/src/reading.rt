@@ -11,6 +11,30 @@ use std::process::Abort;
 /// of the fault.
 pub(crate) type Refused = (usize, &'static [u8], u64, SasPlace);
 
+/// The first lines of the text, with their line feeds, and what is behind them.
+fn split_behind_lines(text: &[u8], count: usize) -> (&[u8], &[u8]) {
+    let mut left = count;
+    for (place, byte) in text.iter().enumerate() {
+        if left == 0 {
+            return text.split_at(place);
+        }
+        if *byte == b'\n' {
+            left -= 1;
+        }
+    }
+    (text, &[])
+}
+
+/// The text from its first line feed on.
+fn from_line_feed(text: &[u8]) -> &[u8] {
+    for (place, byte) in text.iter().enumerate() {
+        if *byte == b'\n' {
+            return &text[place..];
+        }
+    }
+    &[]
+}
+
 /// The text with this line changed. Lines are counted from 1.
 pub(crate) fn with_line(
     alloc: Global,
@@ -18,14 +42,10 @@ pub(crate) fn with_line(
     line: usize,
     other: &[u8],
 ) -> Result<Vec<u8>, AllocError> {
-    let mut changed = Vec::new(alloc);
-    for (number, old) in text.split(|byte| *byte == b'\n').enumerate() {
-        if number > 0 {
-            changed.push(b'\n')?;
-        }
-        let is_changed = line.checked_sub(1) == Some(number);
-        changed.extend_from_slice(if is_changed { other } else { old })?;
-    }
+    let (before, behind) = split_behind_lines(text, line.saturating_sub(1));
+    let mut changed = Vec::from_slice(alloc, before)?;
+    changed.extend_from_slice(other)?;
+    changed.extend_from_slice(from_line_feed(behind))?;
     Ok(changed)
 }
 
@@ -56,20 +76,6 @@ pub(crate) fn assert_refused(rt: &impl Abort, alloc: Global, text: &[u8], rows: 
     }
 }
 
-/// The first lines of the text, with their line feeds.
-fn first_lines(text: &[u8], count: u64) -> &[u8] {
-    let mut left = count;
-    for (place, byte) in text.iter().enumerate() {
-        if left == 0 {
-            return &text[..place];
-        }
-        if *byte == b'\n' {
-            left -= 1;
-        }
-    }
-    text
-}
-
 /// Whether the text is refused after so many lines, at the next one, which is missing or has no line feed.
 pub(crate) fn is_cut(
     alloc: Global,
@@ -79,7 +85,7 @@ pub(crate) fn is_cut(
 ) -> Result<bool, AllocError>
     requires { before < 89 }
 {
-    let lines = first_lines(text, before);
+    let (lines, _) = split_behind_lines(text, before as usize);
     let is_missing = is_refused(alloc, lines, before + 1, place);
     let mut cut = Vec::from_slice(alloc, lines)?;
     cut.push(b'0')?;
