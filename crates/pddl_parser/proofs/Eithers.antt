@@ -4,9 +4,13 @@ use Rattle.pddl_lexer.specs.Members.{Members, NoMore, WordThen, ListThen, is_emp
 use Rattle.pddl_lexer.specs.declared.fault.Fault.{Fault}
 use Rattle.pddl_parser.specs.declared.end.ParseEnd.{ParseEnd}
 use Rattle.pddl_parser.specs.declared.end.ParseEnd.TheVariants as ends
+use Rattle.pddl_parser.specs.declared.types.Head.{Head}
+use Rattle.pddl_parser.specs.declared.types.Named.{Named}
+use Rattle.pddl_parser.specs.declared.types.Typed.{Typed}
 use Rattle.pddl_parser.specs.Outcome.{Reading, Reads, Faults, made, both, own, Outcome, first}
 use Rattle.pddl_parser.specs.Shapes.{Check, passes, check_either}
 use Rattle.pddl_parser.specs.Values.{eithers}
+use Rattle.pddl_parser.proofs.Readings.{◌>>=◌}
 
 -- a list that passes, and those after it
 passed : (check : Check) (more : Reading (Unit {0})) → check ≡ passes → first (both (λ one others. others) (own check (Reads (tt {0}))) more) ≡ first more
@@ -47,3 +51,12 @@ made_of x (Faults fault more) e = absurd cc
 pub made_fails : {A : Type 0} (x : A) (reading : Reading (Unit {0})) (end : ParseEnd) → first reading ≡ Err end → first (made (λ none. x) reading) ≡ Err end
 made_fails x (Reads none) end e = absurd cc
 made_fails x (Faults fault more) end e = let same : ends.Fault fault ≡ end = cc in ap (λ (f : ParseEnd). Err f) same
+
+abbrev headed : Named → List Typed → Head
+headed name variables = record { name = name; variables = variables }
+
+-- a head with what is read of its variables
+pub made_head : (name : Named) (variables : List Typed) (reading : Reading (Unit {0})) →
+    first (made (λ none. headed name variables) reading) ≡ (first (made (λ none. variables) reading) >>= λ (read : List Typed). Ok (headed name read))
+made_head name variables (Reads none) = refl
+made_head name variables (Faults fault more) = refl
