@@ -79,7 +79,7 @@ module _ (domain : Domain) (problem : Problem) (positive : Bool) (scope : Scope)
 
     module _ (variables listed : List Typed) (inside given : Condition) (at : At) (same_variables : listed ≡ variables) (same_inside : given ≡ inside) (asked : Asked) where
       abbrev quantifies : List Typed → Condition → Asked → Made Part
-      quantifies v x a = quantified domain problem v (known domain problem x) a scope around next
+      quantifies v x a = quantified domain problem v (known domain problem x) a.some a.positive scope around next
 
       same : (asks : Asked) → asked ≡ asks → quantifies listed given asked ≡ quantifies variables inside asks
       same asks is_asked =

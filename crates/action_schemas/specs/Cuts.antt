@@ -3,7 +3,6 @@ use Rattle.std.specs.Prelude.{ℕ, Bool, true, List, map, if◌then◌else◌}
 use Rattle.pddl_parser.specs.declared.types.Domain.{Domain}
 use Rattle.pddl_parser.specs.declared.types.Problem.{Problem}
 use Rattle.pddl_parser.specs.declared.types.Typed.{Typed}
-use Rattle.action_schemas.specs.declared.conditions.Asked.{Asked}
 use Rattle.action_schemas.specs.declared.effects.Required.{Required}
 use Rattle.normal_task.specs.declared.parts.Part.{Part}
 use Rattle.normal_task.specs.Parts.{Made, Scope, Known, in_turn, all_of, parts, exists_inside, none_inside}
@@ -13,9 +12,9 @@ abbrev pub combined : Bool → ℕ → List (ℕ → Made Part) → ℕ → Made
 combined every around makes next = if every then all_of around makes next else in_turn makes next
 
 -- some objects of the variables make the inside true, or its negation, or none do
-abbrev pub quantified : Domain → Problem → List Typed → Known → Asked → Scope → (around next : ℕ) → Made Part
-quantified domain problem variables inside asked scope around next =
-    if asked.some then exists_inside domain problem variables inside asked.positive scope around next else none_inside domain problem variables inside asked.positive scope around next
+abbrev pub quantified : Domain → Problem → List Typed → Known → (some positive : Bool) → Scope → (around next : ℕ) → Made Part
+quantified domain problem variables inside some positive scope around next =
+    if some then exists_inside domain problem variables inside positive scope around next else none_inside domain problem variables inside positive scope around next
 
 -- how what is required is cut, in the scope in which it was met
 abbrev pub cut_of : Domain → Problem → Required → ℕ → ℕ → Made Part

@@ -84,8 +84,7 @@ pub fn cut<'n, 'a>(
             let first = cut(alloc, here, premise.get(), !positive, next)?;
             let start = sum(next, first.fresh.as_slice().len() as u64)?;
             let second = cut(alloc, here, conclusion.get(), positive, start)?;
-            let made = joined_made(alloc, !positive, here.around, first, second)?;
-            Ok(made)
+            joined_made(alloc, !positive, here.around, first, second)
         }
         Condition::Forall(variables, inside, _) => {
             let asked = Asked::by_forall(positive);
@@ -129,7 +128,7 @@ fn cut_quantified<'n, 'a>(
     asked: Asked,
     next: u64,
 ) -> Result<Made<Part>, AllocError>
-    ensures { IfOk result (IsMadeOf (quantified here.now.numbering.now.domain here.now.numbering.now.problem variables.now (spec.known here.now.numbering.now.domain here.now.numbering.now.problem inside.now) asked here.now.scope.now here.now.around next)) }
+    ensures { IfOk result (IsMadeOf (quantified here.now.numbering.now.domain here.now.numbering.now.problem variables.now (spec.known here.now.numbering.now.domain here.now.numbering.now.problem inside.now) asked.some asked.positive here.now.scope.now here.now.around next)) }
 {
     if asked.some {
         cut_some(alloc, here, variables, inside, asked.positive, next)
@@ -321,6 +320,23 @@ pub(crate) fn neutral(alloc: Global, every: bool) -> Result<Made<Part>, AllocErr
 
 /// Every pairing of a part of the first with one of the second where `every` says so, or else the parts of the first and
 /// then those of the second.
+fn joined_parts(
+    alloc: Global,
+    every: bool,
+    around: u64,
+    first: List<Part>,
+    second: List<Part>,
+) -> Result<List<Part>, AllocError>
+    ensures { IfOk result (λ parts. parts ≡ (if every then spec.paired around first second else first ++ second)) }
+{
+    if every {
+        paired(alloc, around, first, second.as_slice())
+    } else {
+        joined_lists(first, second)
+    }
+}
+
+/// The parts of both, joined, and the new predicates of the first and then those of the second.
 pub(crate) fn joined_made(
     alloc: Global,
     every: bool,
@@ -330,11 +346,7 @@ pub(crate) fn joined_made(
 ) -> Result<Made<Part>, AllocError>
     ensures { IfOk result (λ made. (made.items ≡ (if every then spec.paired around first.items second.items else first.items ++ second.items)) × (made.fresh ≡ first.fresh ++ second.fresh)) }
 {
+    let items = joined_parts(alloc, every, around, first.items, second.items)?;
     let fresh = joined_lists(first.fresh, second.fresh)?;
-    let items = if every {
-        paired(alloc, around, first.items, second.items.as_slice())?
-    } else {
-        joined_lists(first.items, second.items)?
-    };
     Ok(Made { items, fresh })
 }
