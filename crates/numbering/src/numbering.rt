@@ -1,8 +1,8 @@
 // The numbers of objects, predicates and functions.
-ghost use Rattle.std.specs.Prelude.{◌≡◌, ◌++◌, [], ◌∷◌, List as Items, map, length, IfOk, IfSome, OnOk};
-ghost use Rattle.std.specs.List.{filter};
+ghost use Rattle.std.specs.Prelude.{◌≡◌, ◌++◌, false, [], ◌∷◌, List as Items, map, length, IfNone, IfOk, IfSome, OnOk};
+ghost use Rattle.std.specs.List.{filter, flat_map, list_any};
 ghost use Rattle.declarations.specs.Asked.{variable_types};
-ghost use Rattle.declarations.specs.Below.{has_type_among, range_of_types};
+ghost use Rattle.declarations.specs.Below.{has, has_type_among, one_type as alone, range_of_types};
 ghost use Rattle.normal_task.specs.Numbers as spec;
 ghost use Rattle.numbering.specs.Known.{AreKnown};
 ghost use Rattle.pddl_parser.specs.declared.types.Named.{Named as TypeName};
@@ -257,7 +257,8 @@ impl<'a> Numbering<'a> {
 
     /// The numbers of the objects of the listed type, if they are known.
     fn known_range(&self, listed: &[Named]) -> Option<&ObjectRange>
-        ensures { IfSome result (λ range. range.now ≡ range_of_types self.now.domain self.now.problem listed.now) }
+        ensures range { IfSome result (λ range. range.now ≡ range_of_types self.now.domain self.now.problem listed.now) }
+        ensures unknown { IfNone result (list_any (has (flat_map alone (variable_types self.now.domain self.now.problem))) (alone listed.now) ≡ false) }
     {
         let name = one_type(listed)?;
         let place = self.known.types.position(name);

@@ -4,8 +4,8 @@ use Rattle.declarations.specs.Below.{objects_of_type}
 use Rattle.numbering.proofs.KnownTypes.{known_at}
 use Rattle.numbering.proofs.numbering.Numbering.known_range.Goals as goal
 
-pub returns-then-place-len : goal.returns-then-place-len
-returns-then-place-len c =
+pub returns-then-place-len-clause-range : goal.returns-then-place-len-clause-range
+returns-then-place-len-clause-range c =
     let domain = c.args.self.now.domain in
     let problem = c.args.self.now.problem in
     let types = c.self.inside.known.types in
