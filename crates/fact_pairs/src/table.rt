@@ -99,6 +99,7 @@ impl Table {
         self.facts.as_slice()
     }
 
+    /// The number of the fact, counted from 0 in the order of variables and their values.
     pub fn number(&self, fact: &Pair) -> u64
         ensures { result ≡ words.number_in self.now fact.now }
     {
@@ -202,6 +203,7 @@ pub fn all_marked(table: &Table, facts: &[Pair]) -> bool
     facts.iter().all(|fact| goes_with(table, fact, facts))
 }
 
+/// Whether a pair that the operator at this place needs may have been found of late; not where no operator stands there.
 pub fn wakes_at(table: &Table, operators: &[Operator], place: u64) -> bool
     ensures { result ≡ words.is_woken_at operators.now table.now place }
 {
