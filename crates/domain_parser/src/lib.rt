@@ -4,5 +4,6 @@
 mod action;
 mod domain;
 mod function;
+pub mod laws;
 
 pub use domain::parse_domain;

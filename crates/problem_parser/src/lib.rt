@@ -2,6 +2,7 @@
 #![tactic(auto)]
 
 mod init;
+pub mod laws;
 mod problem;
 
 pub use problem::parse_problem;

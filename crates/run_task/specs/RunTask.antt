@@ -15,13 +15,9 @@ use Rattle.fdr_encoder.specs.Encoding.{IsEncoding}
 use Rattle.task_simplifier.specs.Projection.{IsProjection}
 use Rattle.pass_book.specs.declared.kind.PassKind.{PassKind}
 use Rattle.pass_book.specs.Passes.{IsChain}
-use Rattle.plan_backmap.specs.Solutions.{NamesTellCosts}
 use Rattle.sas_task.specs.Task.{Task}
-use Rattle.sas_task.specs.Valid.{IsValid}
-use Rattle.sas_task.specs.Keeps.{Keeps}
 use Rattle.sas_task.specs.Output.{text_of}
 use Rattle.messages.specs.declared.outcome.Summary.{Summary}
-use Rattle.run_task.specs.Theorem.{Translates}
 
 -- The task encodes what can be reached of the instances of the normal task, over the cover of the facts by the mutex groups of the candidates that were found, with `full` by whole groups.
 pub record IsRunEncoding (full : Bool) (made : Normal) (found : Found) (encoded : Task) : Type 0 where
@@ -43,21 +39,12 @@ pub record IsRunTask (full : Bool) (made : Normal) (found : Found) (task : Task)
   pub encoding : IsRunEncoding full made found encoded
   pub projection : IsProjection encoded task
 
--- A run makes this task of the pair, and finds these invariants, over as many candidates at most as the settings say: its own task, over whole groups where they say so, changed by the passes that are asked for, one after another. It is valid, operators of one name have one cost, and it translates the pair.
+-- A run makes this task of the pair, and finds these invariants, over as many candidates at most as the settings say: its own task, over whole groups where they say so, changed by the passes that are asked for, one after another.
 pub record IsTaskOf (pair : FilePair) (settings : Settings) (passes : List PassKind) (found : Found) (task : Task) : Type 0 where
   pub is_found : IsFound (normal pair.domain pair.problem) settings.max_candidates found
   pub first : Task
   pub is_run_task : IsRunTask settings.full_encoding (normal pair.domain pair.problem) found first
   pub chain : IsChain passes first task
-  pub valid : IsValid task
-  pub tells : NamesTellCosts task.operators
-  pub translates : Translates passes pair.domain pair.problem task
-
--- The passes make this task of a written one, one after another. It is valid, and may stand for the written one.
-pub record IsReadTask (written : Task) (passes : List PassKind) (task : Task) : Type 0 where
-  pub chain : IsChain passes written task
-  pub valid : IsValid task
-  pub keeps : Keeps written task
 
 -- what a source comes to: a pair without faults, or a written task
 pub data Start : Type 0 where
@@ -68,10 +55,10 @@ pub data Start : Type 0 where
 abbrev pub nothing_found : Found
 nothing_found = record { tried = 0; accepted = [] }
 
--- A run makes this task of its start, with these invariants: of a pair with those that it finds, and of a written task with none.
+-- A run makes this task of its start, with these invariants: of a pair with those that it finds, and of a written task by the passes alone, with none.
 abbrev pub IsMadeFrom : Start → Settings → List PassKind → Found → Task → Type 0
 IsMadeFrom (FromPair pair) settings passes found task = IsTaskOf pair settings passes found task
-IsMadeFrom (FromTask written) settings passes found task = (found ≡ nothing_found) × IsReadTask written passes task
+IsMadeFrom (FromTask written) settings passes found task = (found ≡ nothing_found) × IsChain passes written task
 
 -- how many candidates for invariants were tried and accepted, and the sizes of the task; the facts are the sum of the ranges of all variables
 abbrev pub summary_of : Found → Task → Summary
@@ -94,12 +81,3 @@ pub record Output : Type 0 where
 
 abbrev pub output_of : Found → Task → List ℕ → Output
 output_of found task plan = record { text = text_of task; summary = summary_of found task; plan = plan }
-
--- What passes make of the task of a run without passes is a task of the run with them.
-abbrev pub PassesTranslate : Type 0
-PassesTranslate =
-    (pair : FilePair) (settings : Settings) (passes : List PassKind) (found : Found) (first task : Task) → IsTaskOf pair settings [] found first → IsChain passes first task → IsTaskOf pair settings passes found task
-
--- What passes make of a valid task, they make of it as a written one.
-abbrev pub PassesKeepReadTasks : Type 0
-PassesKeepReadTasks = (passes : List PassKind) (written task : Task) → IsValid written → IsChain passes written task → IsReadTask written passes task

@@ -8,7 +8,8 @@ ghost use Rattle.invariant_guess.specs.declared.types.Found.{Found};
 ghost use Rattle.invariant_guess.specs.Trial.{IsFound};
 ghost use Rattle.sas_task.specs.Task.{Task};
 ghost use Rattle.run_task.specs.OneTask.{OneRunTask, OneTaskOfPair};
-ghost use Rattle.run_task.specs.RunTask.{IsRunTask, IsTaskOf, PassesTranslate, PassesKeepReadTasks};
+ghost use Rattle.run_task.specs.RunTask.{IsRunTask};
+ghost use Rattle.run_task.specs.Theorem.{TranslatesPair, TasksTranslate, PassedTasksStand};
 
 use fdr_encoder::laws::{covers, exclusive_covers, simulation, validity};
 use group_cover::laws::one_cover_of_same;
@@ -23,9 +24,9 @@ use static_matcher::laws::one_ground_task;
 use task_simplifier::laws::{orders_forgotten, projection_keeps};
 
 /// The task that a run without passes makes of a pair without faults is valid, and translates the pair.
-pub fn run_task_translates()
+fn run_task_translates()
     ensures { (pair : FilePair) (settings : Settings) (found : Found) (task : Task) → IsChecked pair → IsFound (normal pair.domain pair.problem) settings.max_candidates found →
-        IsRunTask settings.full_encoding (normal pair.domain pair.problem) found task → IsTaskOf pair settings [] found task }
+        IsRunTask settings.full_encoding (normal pair.domain pair.problem) found task → TranslatesPair [] pair task }
 {
     idle_steps();
     same_task();
@@ -50,17 +51,19 @@ pub fn run_task_translates()
     solutions_cost_the_total();
 }
 
-/// What passes make of it is valid, and translates the pair.
-pub fn passes_translate()
-    ensures { PassesTranslate }
+/// The translation theorem: the task that a run makes of a pair without faults is valid, and translates the pair, whatever passes
+/// were asked for.
+pub fn tasks_translate()
+    ensures { TasksTranslate }
 {
+    run_task_translates();
     passes_keep();
     solutions_cost_the_total();
 }
 
-/// What passes make of a written task is valid, and may stand for it.
-pub fn passes_keep_read_tasks()
-    ensures { PassesKeepReadTasks }
+/// What passes make of a valid written task is valid, and may stand for it.
+pub fn passed_tasks_stand()
+    ensures { PassedTasksStand }
 {
     passes_keep();
 }

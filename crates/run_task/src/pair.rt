@@ -12,7 +12,6 @@ ghost use Rattle.relaxed_reach.specs.Reachable.{IsReachedTask};
 ghost use Rattle.mutex_groups.specs.Laws.{IsReachedOf};
 ghost use Rattle.run_task.specs.RunTask.{IsRunEncoding, IsRunTask, IsTaskOf};
 
-use crate::laws::run_task_translates;
 use axiom_layers::layers;
 use command_line::Settings;
 use fdr_encoder::encode;
@@ -48,7 +47,6 @@ pub fn task_of_pair(alloc: Global, checked: Checked, settings: Settings) -> Resu
     requires { IsChecked checked }
     ensures { IfOk result (λ made. IsTaskOf checked settings [] made.found made.task) }
 {
-    run_task_translates();
     let normalised = normalise(alloc, &checked);
     drop(checked);
     let normal = normalised?;

@@ -19,6 +19,8 @@ use Rattle.run_task.specs.RunTask.{Output}
 use Rattle.translator.specs.Run.{ComesTo, RunsTo, LacksFile, HasFault}
 use Rattle.translator.specs.OneRun.{OneEnding}
 use Rattle.translator.specs.Store.{Store, IsUntouched, Screen}
+use Rattle.translator.specs.Theorem.{HoldsTranslation, OutputsTranslate}
+use Rattle.translator.proofs.Owed.{holds}
 use Rattle.translator.specs.Call.{IsWritten, IsWrittenInPart, Ends, misused, starved, unread, refused, unwritten, written, whole, part, Called, called}
 use Rattle.translator.proofs.FirstBytes.{capital, usage_small, memory_small, unreadable_small, unwritable_small, refusal_small, begins_capital, printed_is}
 
@@ -207,6 +209,14 @@ module _ (one : OneEnding) (before now : Store) (words : Option Asked) where
     done status (called meant text (refused asked name message named untouched why) (whole grows same)) meant_so = absurd cc
     done status (called meant text (unwritten asked output named why) (whole grows same)) meant_so = absurd cc
     done status (called meant text (written asked output named is reads writes) (whole grows same)) meant_so = subst (λ (w : Option Asked). IsSomeAnd w (λ asked. (output : Output) × (IsWritten before.files now.files asked output × (screen_now.printed ≡ append_known screen.printed (task_lines output.summary output.plan))))) (sym named) (output, (is, grows))
+
+    wholly : (asked : Option Asked) → IsSomeAnd asked (λ asked. (output : Output) × (IsWritten before.files now.files asked output × (screen_now.printed ≡ append_known screen.printed (task_lines output.summary output.plan)))) → IsSomeAnd asked Wholly
+    wholly None is = absurd is
+    wholly (Some asked) is = (is.0, is.1.0)
+
+    pub theorem : OutputsTranslate → (status : Status) → Called before now words screen screen_now status → status ≡ statuses.Done
+        → IfSome before.files (λ held. IsSomeAnd now.files (λ holding. IsSomeAnd words (HoldsTranslation held holding)))
+    theorem law status ends meant_so = holds law before.files now.files words (wholly words (done status ends meant_so))
 
     pub untouched_unless_written : (status : Status) → Called before now words screen screen_now status → status ≢ statuses.Done → status ≢ statuses.Device → IsUntouched before now
     untouched_unless_written status (called meant text ends (part broke rose)) not_done no_device = absurd (no_device refl)

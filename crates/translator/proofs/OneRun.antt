@@ -18,7 +18,7 @@ module _ (one_task_of_pair : OneTaskOfPair) (one_chain : (kinds : List PassKind)
   -- one task is made from a start, and one thing found
   one_of_start : (start : Start) (settings : Settings) (passes : List PassKind) (found found' : Found) (one other : Task) → IsMadeFrom start settings passes found one → IsMadeFrom start settings passes found' other → (found ≡ found') × (one ≡ other)
   one_of_start (FromPair pair) settings passes found found' one other p q = one_task_of_pair pair settings settings passes found found' one other refl refl p q
-  one_of_start (FromTask written) settings passes found found' one other p q = (p.0 ∙ sym q.0, one_chain passes written one other p.1.chain q.1.chain)
+  one_of_start (FromTask written) settings passes found found' one other p q = (p.0 ∙ sym q.0, one_chain passes written one other p.1 q.1)
 
   -- the plan file is mapped back to one task
   one_written : (files : Contents) (asked : Asked) (start start' : Start) (found found' : Found) (one other : Task) → start ≡ start' → IsMadeFrom start asked.settings asked.passes found one → IsMadeFrom start' asked.settings asked.passes found' other →

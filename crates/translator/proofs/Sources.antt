@@ -16,13 +16,14 @@ use Rattle.messages.specs.Outcome.{Outcome, status_of, line_of}
 use Rattle.translator.specs.Asked.{Asked}
 use Rattle.command_line.specs.declared.accepted.Settings.{Settings}
 use Rattle.invariant_guess.specs.declared.types.Found.{Found}
+use Rattle.type_checker.specs.Checked.{FilePair}
 use Rattle.sas_task.specs.Task.{Task}
 use Rattle.sas_task.specs.Output.{text_of}
 use Rattle.run_task.specs.declared.pair.Made.{Made}
 use Rattle.translator.specs.Ending.{Ending, Gives, Absent, Refused, ◌>>=◌}
 use Rattle.translator.specs.Plan.{of_plan, plan_names}
 use Rattle.pass_book.specs.Passes.{IsChain}
-use Rattle.run_task.specs.RunTask.{Output, Start, FromPair, FromTask, IsTaskOf, IsReadTask, PassesTranslate, PassesKeepReadTasks, summary_of, output_of}
+use Rattle.run_task.specs.RunTask.{Output, Start, FromPair, FromTask, IsTaskOf, summary_of, output_of}
 use Rattle.translator.specs.Run.{Text, text, read, of_texts, of_source, inputs, titles, all_inputs, all_titles, names_read, made_domain, made_problem, ComesTo, no_file, faulty, made}
 use Rattle.translator.specs.Store.{Store, IsUntouched, AsksForNoOther}
 use Rattle.translator.specs.Call.{Ends, misused, starved, unread, refused}
@@ -225,14 +226,18 @@ module _ (asked : Asked) where
       (always _ before.files (λ held. record { absent = no_file; refused = faulty }))
 
   -- what the passes make of the task that is made of the source
-  pub passed_so : (before mid : Store) (found found' : Found) (first task : Task) → PassesTranslate → PassesKeepReadTasks → found' ≡ found → IsChain asked.passes first task
+  pub passed_so : (before mid : Store) (found found' : Found) (first task : Task) → found' ≡ found → IsChain asked.passes first task
       → IsRead before mid (λ held. IsMadeOf (of_source held asked.source) asked.settings [] found first) → IsRead before mid (λ held. IsMadeOf (of_source held asked.source) asked.settings asked.passes found' task)
-  passed_so before mid found found' first task law law' same chain made_so =
+  passed_so before mid found found' first task same chain made_so =
       (made_so.0, if_told (λ held. IsMadeOf (of_source held asked.source) asked.settings [] found first) _ before.files (λ held. by_ending (of_source held asked.source)) made_so.1)
     where
+      passed : (pair : FilePair) → IsTaskOf pair asked.settings [] found first → IsTaskOf pair asked.settings asked.passes found task
+      passed pair is_made =
+          record { is_found = is_made.is_found; first = is_made.first; is_run_task = is_made.is_run_task; chain = subst (λ (t : Task). IsChain asked.passes t task) is_made.chain chain }
+
       by_ending : (e : Ending Start) → IsMadeOf e asked.settings [] found first → IsMadeOf e asked.settings asked.passes found' task
-      by_ending (Gives (FromPair pair)) is_made = subst (λ (f : Found). IsTaskOf pair asked.settings asked.passes f task) (sym same) (law pair asked.settings asked.passes found first task is_made chain)
-      by_ending (Gives (FromTask written)) is_made = (same ∙ is_made.0, subst (λ (t : Task). IsReadTask t asked.passes task) is_made.1.chain (law' asked.passes first task is_made.1.valid chain))
+      by_ending (Gives (FromPair pair)) is_made = subst (λ (f : Found). IsTaskOf pair asked.settings asked.passes f task) (sym same) (passed pair is_made)
+      by_ending (Gives (FromTask written)) is_made = (same ∙ is_made.0, subst (λ (t : Task). IsChain asked.passes t task) is_made.1 chain)
       by_ending (Absent name) is_made = absurd is_made
       by_ending (Refused name message) is_made = absurd is_made
 

@@ -53,6 +53,21 @@ said_refused name (Faults found more) end fault is given =
 pub checked_pair : (d : Domain) (p : Problem) (pair : FilePair) → ChecksTo d p (Ok pair) → IsWellSpelled d → IsWellSpelledProblem p → IsChecked pair
 checked_pair d p pair checks spelled spelled' = subst IsChecked (sym checks.0) (record { faultless = checks.1; spelled = spelled; spelled_problem = spelled' })
 
+-- ---- what the stages gave, where there is something to go on with
+
+pub stage_gives : {A B : Type 0} (e : Ending A) (next : A → Ending B) (value : B) → (e >>= next) ≡ Gives value → (given : A) × (e ≡ Gives given) × (next given ≡ Gives value)
+stage_gives (Gives given) next value is = (given, refl, is)
+stage_gives (Absent name) next value is = absurd (cc (is))
+stage_gives (Refused name message) next value is = absurd (cc (is))
+
+said_reads : {A : Type 0} (name : List ℕ) (reading : Reading A) (value : A) → said name reading ≡ Gives value → reading ≡ Reads value
+said_reads name (Reads found) value is = let same : found ≡ value = cc (is) in ap Reads same
+said_reads name (Faults fault more) value is = absurd (cc (is))
+
+unless_checked_gives : (domain problem : Text) (faults : List SidedFault) (pair given : FilePair) → unless_checked domain problem faults pair ≡ Gives given → (faults ≡ []) × (pair ≡ given)
+unless_checked_gives domain problem [] pair given is = (refl, cc (is))
+unless_checked_gives domain problem ((side, fault) ∷ more) pair given is = absurd (cc (is))
+
 -- ---- one after another
 
 -- what the one stage comes to the other does too, but where it gives something
@@ -104,6 +119,21 @@ module _ (domain problem : Text) where
   begins : of_texts domain problem ≡ (tree_of domain >>= AfterTree)
   unfolding of_texts
   begins = refl
+
+  -- the pair that they come to has no check fault, and its names and numbers are well spelled
+  module _ (spelled : (tree : Members) (domain : Domain) → domain_reading tree ≡ Reads domain → IsWellSpelled domain)
+      (spelled_problem : (tree : Members) (problem : Problem) → problem_reading tree ≡ Reads problem → IsWellSpelledProblem problem) where
+    pub gives_checked : (start : Start) → of_texts domain problem ≡ Gives start → (pair : FilePair) × IsChecked pair × (start ≡ FromPair pair)
+    gives_checked start is =
+        let t = stage_gives (tree_of domain) AfterTree start (sym begins ∙ is) in
+        let u = stage_gives (tree_of problem) (AfterTrees t.0) start t.2 in
+        let d = stage_gives (said domain.name (domain_reading t.0)) (AfterDomain u.0) start u.2 in
+        let p = stage_gives (said problem.name (problem_reading u.0)) (AfterBoth d.0) start d.2 in
+        let checked = stage_gives (Checks d.0 p.0) from_pair start p.2 in
+        let faultless = unless_checked_gives domain problem (check_faults d.0 p.0) _ checked.0 checked.1 in
+        let pair_spelled = spelled t.0 d.0 (said_reads domain.name (domain_reading t.0) d.0 d.1) in
+        let problem_spelled = spelled_problem u.0 p.0 (said_reads problem.name (problem_reading u.0) p.0 p.1) in
+        (checked.0, subst IsChecked faultless.1 (record { faultless = faultless.0; spelled = pair_spelled; spelled_problem = problem_spelled }), cc (checked.2))
 
   pub stops_at_domain : (end : End) → StopsWhere (tree_of domain) end → StopsWhere (of_texts domain problem) end
   stops_at_domain = first_stops (of_texts domain problem) (tree_of domain) AfterTree begins

@@ -15,7 +15,7 @@ use Rattle.sas_task.specs.Task.{Task}
 use Rattle.sas_task.specs.Valid.{IsValid}
 use Rattle.messages.specs.declared.outcome.Message.TheVariants as messages
 use Rattle.translator.specs.Ending.{Ending, Gives, Refused, ◌>>=◌}
-use Rattle.run_task.specs.RunTask.{Start, FromTask, nothing_found, PassesKeepReadTasks}
+use Rattle.run_task.specs.RunTask.{Start, FromTask, nothing_found}
 use Rattle.translator.specs.Run.{text, read, unless_broken, of_task_text, of_source}
 use Rattle.translator.specs.Store.{Store}
 use Rattle.translator.specs.Stages.{IsRead, IsMadeOf}
@@ -62,10 +62,10 @@ unfolding of_source
 task_begins name held = refl
 
 -- without passes, the run's task is the written one
-pub task_made_so : (name : List ℕ) (before now : Store) (settings : Settings) (found : Found) (written : Task) → PassesKeepReadTasks → IsValid written → found ≡ nothing_found
+pub task_made_so : (name : List ℕ) (before now : Store) (settings : Settings) (found : Found) (written : Task) → found ≡ nothing_found
     → IsRead before now (λ held. of_source held (WrittenTask name) ≡ Gives (FromTask written)) → IsRead before now (λ held. IsMadeOf (of_source held (WrittenTask name)) settings [] found written)
-task_made_so name before now settings found written law valid nothing gives = (
+task_made_so name before now settings found written nothing gives = (
   gives.0,
   if_told (λ held. of_source held (WrittenTask name) ≡ Gives (FromTask written)) _ before.files
-      (λ held comes. subst (λ (e : Ending Start). IsMadeOf e settings [] found written) (sym comes) (nothing, law [] written written valid refl)) gives.1,
+      (λ held comes. subst (λ (e : Ending Start). IsMadeOf e settings [] found written) (sym comes) (nothing, refl)) gives.1,
 )

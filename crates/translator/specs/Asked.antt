@@ -11,6 +11,8 @@ use Rattle.command_line.specs.declared.accepted.Settings.{Settings}
 use Rattle.pass_book.specs.declared.kind.PassKind.{PassKind}
 use Rattle.pass_book.specs.declared.kind.PassKind.TheVariants.{Order, Relevance, H2}
 use Rattle.pass_book.specs.Passes.{is_held}
+use Rattle.pass_book.specs.declared.book.Book.{Book}
+use Rattle.pass_book.specs.Held.{held_kinds}
 
 -- where the task comes from, how it is made, the passes that change it then, the name of the output file, and the name of a plan file that is to be mapped back, if there is one
 pub record Asked : Type 0 where
@@ -72,3 +74,7 @@ if_held held None = None
 -- what the words ask for, where they are accepted and the kinds of passes that they name are held: the program's name stands first
 abbrev pub asked_by_words : List PassKind → List (String Global) → Option Asked
 asked_by_words held words = if_held held (accepted (map string_bytes words))
+
+-- the same, with the passes that the book holds, whatever their functions are
+abbrev pub asked_of : {X : Type 0} {F : X → Type 0} {run : _} → Book X F run → List (String Global) → Option Asked
+asked_of book words = asked_by_words (held_kinds book) words

@@ -3,6 +3,7 @@
 ghost use Rattle.std.specs.Prelude.{◌≡◌, ◌==◌, Some, None, IfOk, IfErr, map, option_map};
 ghost use Rattle.std.specs.List.{slice_split};
 ghost use Rattle.command_line.specs.Accepted as words_of;
+ghost use Rattle.pass_book.specs.Held.{held_kinds};
 ghost use Rattle.pass_book.specs.Passes.{first_missing};
 ghost use Rattle.translator.specs.Asked as asked;
 ghost use Rattle.translator.specs.Requests.{asked_by};
@@ -26,9 +27,9 @@ pub(crate) fn requested<'a>(
     words: &'a Vec<String>,
     book: &Book,
 ) -> Result<Request<'a>, End<'a>>
-    ensures ok { IfOk result (λ request. asked.asked_by_words (map (λ pass. pass.kind) book.now.passes.items) words.now.items ≡ Some (asked_by request)) }
-    ensures held { IfOk result (λ request. first_missing (map (λ pass. pass.kind) book.now.passes.items) request.passes.items ≡ None) }
-    ensures err { IfErr result (IsRefusal (asked.asked_by_words (map (λ pass. pass.kind) book.now.passes.items) words.now.items)) }
+    ensures ok { IfOk result (λ request. asked.asked_of book.now words.now.items ≡ Some (asked_by request)) }
+    ensures held { IfOk result (λ request. first_missing (held_kinds book.now) request.passes.items ≡ None) }
+    ensures err { IfErr result (IsRefusal (asked.asked_of book.now words.now.items)) }
 {
     match read_words(alloc, words) {
         Ok(Some(accepted)) => with_passes(alloc, accepted, book),
@@ -43,9 +44,9 @@ fn with_passes<'a>(
     accepted: Accepted<'a>,
     book: &Book,
 ) -> Result<Request<'a>, End<'a>>
-    ensures ok { IfOk result (λ request. asked.if_held (map (λ pass. pass.kind) book.now.passes.items) (Some (words_of.asked_by accepted.entry)) ≡ Some (asked_by request)) }
-    ensures held { IfOk result (λ request. first_missing (map (λ pass. pass.kind) book.now.passes.items) request.passes.items ≡ None) }
-    ensures err { IfErr result (IsRefusal (asked.if_held (map (λ pass. pass.kind) book.now.passes.items) (Some (words_of.asked_by accepted.entry)))) }
+    ensures ok { IfOk result (λ request. asked.if_held (held_kinds book.now) (Some (words_of.asked_by accepted.entry)) ≡ Some (asked_by request)) }
+    ensures held { IfOk result (λ request. first_missing (held_kinds book.now) request.passes.items ≡ None) }
+    ensures err { IfErr result (IsRefusal (asked.if_held (held_kinds book.now) (Some (words_of.asked_by accepted.entry)))) }
 {
     match kinds_of(alloc, accepted.passes, book) {
         Ok(Some(passes)) => Ok(Request { accepted, passes }),
@@ -60,7 +61,7 @@ fn kinds_of(
     list: Option<&str>,
     book: &Book,
 ) -> Result<Option<Vec<PassKind>>, AllocError>
-    ensures kinds { IfOk result (λ kinds. option_map (λ kinds. kinds.items) kinds ≡ asked.kinds_of (map (λ pass. pass.kind) book.now.passes.items) (option_map (λ list. list.now) list.entry)) }
+    ensures kinds { IfOk result (λ kinds. option_map (λ kinds. kinds.items) kinds ≡ asked.kinds_of (held_kinds book.now) (option_map (λ list. list.now) list.entry)) }
 {
     match list {
         Some(list) => kinds_named(alloc, names_in(alloc, list)?.as_slice(), book),
@@ -81,7 +82,7 @@ fn kinds_named(
     names: &[&str],
     book: &Book,
 ) -> Result<Option<Vec<PassKind>>, AllocError>
-    ensures { IfOk result (λ kinds. option_map (λ kinds. kinds.items) kinds ≡ asked.kinds_named (map (λ pass. pass.kind) book.now.passes.items) (map (λ name. name.now) names.now)) }
+    ensures { IfOk result (λ kinds. option_map (λ kinds. kinds.items) kinds ≡ asked.kinds_named (held_kinds book.now) (map (λ name. name.now) names.now)) }
 {
     let mut kinds = Vec::new(alloc);
     for name in names {
@@ -95,7 +96,7 @@ fn kinds_named(
 
 /// The kind of this name, if it is one and the book has it.
 fn kind_held(name: &str, book: &Book) -> Option<PassKind>
-    ensures { result ≡ asked.kind_held (map (λ pass. pass.kind) book.now.passes.items) name.now }
+    ensures { result ≡ asked.kind_held (held_kinds book.now) name.now }
 {
     let kind = kind_named(name)?;
     if book.has(kind) { Some(kind) } else { None }

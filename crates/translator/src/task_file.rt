@@ -1,7 +1,6 @@
 //! A written task, read back.
 
 ghost use Rattle.std.specs.Prelude.{◌≡◌, ◌≤◌, IfOk, IfErr, length};
-ghost use Rattle.sas_task.specs.Valid.{IsValid};
 ghost use Rattle.translator.specs.Ending.{Gives};
 ghost use Rattle.translator.specs.Run.{of_task_text};
 ghost use Rattle.run_task.specs.RunTask as run_task;
@@ -11,7 +10,7 @@ use crate::translation::Input;
 use invariant_guess::Found;
 use lists::List;
 use messages::{End, Message};
-use sas_reader::{ReadTaskEnd, read_task, texts};
+use sas_reader::{ReadTaskEnd, read_task};
 use sas_task::SasTask;
 use std::alloc::Global;
 
@@ -20,9 +19,7 @@ pub(crate) fn written_task<'n>(alloc: Global, text: &Input<'n, '_>) -> Result<Sa
     requires { length text.now.bytes.now ≤ 67108864 }
     ensures ok { IfOk result (λ task. of_task_text (text_by text.now) ≡ Gives (run_task.FromTask task)) }
     ensures err { IfErr result (StopsWhere (of_task_text (text_by text.now))) }
-    ensures valid { IfOk result IsValid }
 {
-    texts();
     match read_task(alloc, text.bytes) {
         Ok(task) => Ok(task),
         Err(ReadTaskEnd::Fault(fault)) => Err(End::Refused(text.name, Message::TaskLine(fault))),

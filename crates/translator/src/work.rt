@@ -5,11 +5,12 @@ ghost use Rattle.tl_device.specs.Causes.{HasCause};
 ghost use Rattle.tl_device.specs.Contents.{GrownInPart, emptied, grown};
 ghost use Rattle.command_line.specs.declared.accepted.Settings.{Settings as MadeBy};
 ghost use Rattle.command_line.specs.Accepted.{Files as OfFiles, WrittenTask, source_by};
+ghost use Rattle.pass_book.specs.Held.{held_kinds};
 ghost use Rattle.pass_book.specs.Passes.{IsChain, first_missing};
 ghost use Rattle.messages.specs.Outcome.{status_of, line_of};
 ghost use Rattle.sas_task.specs.Output.{text_of as task_text};
 ghost use Rattle.run_task.specs.RunTask.{summary_of};
-ghost use Rattle.translator.specs.Asked.{asked_by_words};
+ghost use Rattle.translator.specs.Asked.{asked_of};
 ghost use Rattle.translator.specs.Ending.{Gives};
 ghost use Rattle.translator.specs.Run.{text, read, of_source, inputs, titles, all_inputs, all_titles, names_read, ComesTo};
 ghost use Rattle.translator.specs.Store.{store, IsUntouched, AsksForNoOther};
@@ -26,7 +27,6 @@ use command_line::{Accepted, Settings, Source};
 use messages::{End, Message, Report};
 use pass_book::{ApplyEnd, Book, PassKind};
 use pddl_lexer::{At, Fault, Kind};
-use run_task::laws::{passes_keep_read_tasks, passes_translate};
 use run_task::{Made, summary};
 use sas_task::SasTask;
 use sas_writer::text_of;
@@ -50,8 +50,8 @@ pub(crate) fn work<'a, F: Files>(
     files: &mut F,
     book: &Book,
 ) -> Result<Report, End<'a>>
-    ensures ends { Ends (store F.Files files.old) (store F.Files files.new) (asked_by_words (map (λ pass. pass.kind) book.now.passes.items) words.now.items) (status_of result) (line_of result) }
-    ensures asks { AsksForNoOther (store F.Files files.old) (store F.Files files.new) (names_read (asked_by_words (map (λ pass. pass.kind) book.now.passes.items) words.now.items)) }
+    ensures ends { Ends (store F.Files files.old) (store F.Files files.new) (asked_of book.now words.now.items) (status_of result) (line_of result) }
+    ensures asks { AsksForNoOther (store F.Files files.old) (store F.Files files.new) (names_read (asked_of book.now words.now.items)) }
 {
     let request = requested(alloc, words, book)?;
     let written = prepared(alloc, &request, files, book)?;
@@ -69,14 +69,12 @@ fn prepared<'a, F: Files>(
     files: &mut F,
     book: &Book,
 ) -> Result<Written, End<'a>>
-    requires { first_missing (map (λ pass. pass.kind) book.now.passes.items) request.now.passes.items ≡ None }
+    requires { first_missing (held_kinds book.now) request.now.passes.items ≡ None }
     ensures ok { IfOk result (λ written. IsRead (store F.Files files.old) (store F.Files files.new) (λ held. ComesTo held (asked_by request.now) (Gives (output_by written)))) }
     ensures err { IfErr result (StopsReading (store F.Files files.old) (store F.Files files.new) (all_inputs (asked_by request.now)) (all_titles (asked_by request.now)) (λ held. ComesTo held (asked_by request.now))) }
     ensures untouched { IsUntouched (store F.Files files.old) (store F.Files files.new) }
     ensures asks { AsksForNoOther (store F.Files files.old) (store F.Files files.new) (all_inputs (asked_by request.now)) }
 {
-    passes_translate();
-    passes_keep_read_tasks();
     let accepted = &request.accepted;
     let first = made(alloc, accepted, files)?;
     let made = passed(alloc, first, request.passes.as_slice(), book)?;
@@ -109,7 +107,7 @@ fn to_be_written<'a, F: Files>(
 
 /// The same, with what the passes of these kinds make of the task, one after another.
 fn passed(alloc: Global, made: Made, kinds: &[PassKind], book: &Book) -> Result<Made, AllocError>
-    requires { first_missing (map (λ pass. pass.kind) book.now.passes.items) kinds.now ≡ None }
+    requires { first_missing (held_kinds book.now) kinds.now ≡ None }
     ensures found { IfOk result (λ new. new.found ≡ made.found) }
     ensures chain { IfOk result (λ new. IsChain kinds.now made.task new.task) }
 {
@@ -174,7 +172,6 @@ fn task_of_file<'a, F: Files>(alloc: Global, name: &'a str, files: &mut F) -> Re
     ensures untouched { IsUntouched (store F.Files files.old) (store F.Files files.new) }
     ensures asks { AsksForNoOther (store F.Files files.old) (store F.Files files.new) (name.now ∷ []) }
 {
-    passes_keep_read_tasks();
     let bytes = read_input(alloc, files, name)?;
     let text = Input {
         name,

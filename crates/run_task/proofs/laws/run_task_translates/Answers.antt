@@ -1,4 +1,3 @@
-use Rattle.std.proofs.Common.{refl}
 use Rattle.lists.proofs.Members.{all_from_members}
 use Rattle.pddl_parser.specs.Plan.{pddl_task}
 use Rattle.normal_task.specs.Meaning.{normal_task}
@@ -38,10 +37,6 @@ returns c pair settings found task checked is_found run =
     (c.operators_tell_costs.ensures.encodings made grounded reached encoding.sets encoding.groups encoding.layers run.encoded
     (c.names_tell_costs.ensures pair.domain pair.problem checked.spelled checked.spelled_problem checked.faultless) is_ground encoding.is_reached.is_reached encoding.encodes) in
     record {
-      is_found = is_found;
-      first = task;
-      is_run_task = run;
-      chain = refl;
       valid = written_valid;
       tells = tells;
       translates = translates pair.domain pair.problem reached encoding.sets run.encoded task _ means

@@ -1,4 +1,4 @@
-use Rattle.translator.proofs.Clauses.{usage, refuses, device, reads_stay, writes_stay, faults_stay, absent_input, input_fault, refused_input, complete, done, untouched_unless_written, left, in_part, others, fault_printed, unread_printed, absent_printed, summary_begun}
+use Rattle.translator.proofs.Clauses.{usage, refuses, device, reads_stay, writes_stay, faults_stay, absent_input, input_fault, refused_input, complete, done, theorem, untouched_unless_written, left, in_part, others, fault_printed, unread_printed, absent_printed, summary_begun}
 use Rattle.translator.proofs.command.translate.Goals as goal
 
 pub returns-clause-usage : goal.returns-clause-usage
@@ -33,6 +33,9 @@ returns-clause-complete g c = complete c.one_ending_of_a_run.ensures _ _ _ _ _ _
 
 pub returns-clause-done : goal.returns-clause-done
 returns-clause-done g c = done c.one_ending_of_a_run.ensures _ _ _ _ _ _ c.called.ensures.called
+
+pub returns-clause-theorem : goal.returns-clause-theorem
+returns-clause-theorem g c = theorem c.one_ending_of_a_run.ensures _ _ _ _ _ c.outputs_translate.ensures _ c.called.ensures.called
 
 pub returns-clause-untouched : goal.returns-clause-untouched
 returns-clause-untouched g c = untouched_unless_written c.one_ending_of_a_run.ensures _ _ _ _ _ _ c.called.ensures.called

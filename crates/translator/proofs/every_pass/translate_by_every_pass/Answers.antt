@@ -1,4 +1,4 @@
-use Rattle.std.proofs.Common.{◌≡◌, refl, sym, ap, subst}
+use Rattle.std.proofs.Common.{refl, sym, ap, subst}
 use Rattle.messages.specs.declared.outcome.Status.TheVariants.{NoMemory}
 use Rattle.messages.specs.Messages.{memory_line}
 use Rattle.translator.specs.Asked.{asked_by_words, every_pass}

@@ -37,7 +37,7 @@ returns-clause-ok g c =
     let before = store g.F.Files c.args.files.now in
     let mid = store g.F.Files c.made.new.files in
     let now = store g.F.Files c.to_be_written-written.new.files in
-    let made_so = passed_so asked before mid c.in_ok-first.first.found found c.in_ok-first.first.task task c.passes_translate.ensures c.passes_keep_read_tasks.ensures c.in_ok-made.ensures.found (subst (λ (kinds : List PassKind). IsChain kinds c.in_ok-first.first.task task) c.as_slice.ensures.value c.in_ok-made.ensures.chain) c.in_ok-first.ensures.ok in
+    let made_so = passed_so asked before mid c.in_ok-first.first.found found c.in_ok-first.first.task task c.in_ok-made.ensures.found (subst (λ (kinds : List PassKind). IsChain kinds c.in_ok-first.first.task task) c.as_slice.ensures.value c.in_ok-made.ensures.chain) c.in_ok-first.ensures.ok in
     IfOk-weaker c.to_be_written-written.result
     (λ written. (written.text.items ≡ text_of task) × (written.report.summary ≡ summary_of found task) × IsRead mid now (λ held. of_plan held asked.plan task ≡ Gives written.report.plan.items))
     (λ written. IsRead before now (λ held. ComesTo held asked (Gives (output_by written))))
@@ -52,7 +52,7 @@ returns-clause-err g c =
     let before = store g.F.Files c.args.files.now in
     let mid = store g.F.Files c.made.new.files in
     let now = store g.F.Files c.to_be_written-written.new.files in
-    let made_so = passed_so asked before mid c.in_ok-first.first.found found c.in_ok-first.first.task task c.passes_translate.ensures c.passes_keep_read_tasks.ensures c.in_ok-made.ensures.found (subst (λ (kinds : List PassKind). IsChain kinds c.in_ok-first.first.task task) c.as_slice.ensures.value c.in_ok-made.ensures.chain) c.in_ok-first.ensures.ok in
+    let made_so = passed_so asked before mid c.in_ok-first.first.found found c.in_ok-first.first.task task c.in_ok-made.ensures.found (subst (λ (kinds : List PassKind). IsChain kinds c.in_ok-first.first.task task) c.as_slice.ensures.value c.in_ok-made.ensures.chain) c.in_ok-first.ensures.ok in
     IfErr-weaker c.to_be_written-written.result
     (StopsReading mid now (plan_names asked.plan) (plan_names asked.plan) (λ held e. of_plan held asked.plan task ≡ e))
     (StopsReading before now (all_inputs asked) (all_titles asked) (λ held. ComesTo held asked))

@@ -25,6 +25,6 @@ pub returns-clause-ok : goal.returns-clause-ok
 returns-clause-ok g c settings =
     let before = store g.F.Files c.args.files.now in
     let now = store g.F.Files c.read_input.new.files in
-    task_made_so c.args.name.now before now settings c.nothing_found-found.result c.in_ok-task.task c.passes_keep_read_tasks.ensures c.in_ok-task.ensures.valid c.nothing_found-found.ensures
+    task_made_so c.args.name.now before now settings c.nothing_found-found.result c.in_ok-task.task c.nothing_found-found.ensures
     (text_given c.args.name.now (λ held. of_source held (WrittenTask c.args.name.now)) of_task_text (task_begins c.args.name.now) before now _ _ c.deref.ensures.value c.in_ok-bytes.ensures.ok
     (FromTask c.in_ok-task.task) c.in_ok-task.ensures.ok)

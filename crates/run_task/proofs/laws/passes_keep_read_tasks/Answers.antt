@@ -1,9 +1,0 @@
-use Rattle.run_task.proofs.laws.passes_keep_read_tasks.Goals as goal
-
-pub returns : goal.returns
-returns c passes written task valid chain =
-    record {
-      chain = chain;
-      valid = c.passes_keep.ensures.valid passes written task valid chain;
-      keeps = c.passes_keep.ensures.stands passes written task valid chain;
-    }
