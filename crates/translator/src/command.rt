@@ -68,10 +68,8 @@ pub fn translate<F: Files, C: Console>(
     ensures done { result ≡ Status.Done → IsSomeAnd (asked_of book.now words.items) (λ asked. (output : Output)
         × (IsWritten (F.files files.old) (F.files files.new) asked output × (C.printed console.new ≡ append_known (C.printed console.old) (task_lines output.summary output.plan)))) }
 
-    // The translation theorem. Where the files are told, the output file then holds the text of a valid task. Of a pair of files, or
-    // of made texts, it has these promises: the names of each solution are those of a plan, at equal cost; without passes those of
-    // each plan without idle steps are a solution's, and with them a solution's are a subsequence of those of each plan, at no
-    // greater cost; each mutex group has at most one true fact in each reachable state. A written task it may stand for.
+    // The translation theorem: where the files are told, the output file then holds the text of a task that translates the pair of
+    // files, or may stand for the written task. `Translates` of `run_task` and `Keeps` of `sas_task` say what that is.
     ensures theorem { result ≡ Status.Done → IfSome (F.files files.old) (λ before. IsSomeAnd (F.files files.new) (λ now. IsSomeAnd (asked_of book.now words.items) (HoldsTranslation before now))) }
 
     // The name that is asked for last is one of those that the words name, or the one of before: so it is that of before where
