@@ -117,6 +117,17 @@ static FILES: &[Row] = &[
         "(define (problem p) (:domain d)\n(:objects b\na) (:init) (:goal ()))",
         Some((Side::Problem, DuplicateName, 3, 1)),
     ),
+    // Of the variables of functions.
+    (
+        "(define (domain d) (:functions (f ?x - lamp)))",
+        LAMP,
+        Some((Side::Domain, UnknownType, 1, 40)),
+    ),
+    (
+        "(define (domain d) (:functions (f ?x ?x)))",
+        LAMP,
+        Some((Side::Domain, DuplicateName, 1, 38)),
+    ),
     (
         SWITCH,
         "(define (problem p) (:domain d) (:init)
@@ -136,7 +147,9 @@ macro_rules! sections {
 static SECTIONS: &[Row] = sections! {
     ("(:action b :parameters (?y - e))", UnknownType, 7, 30),
     ("(:action go)", DuplicateName, 7, 10),
+    ("(:derived (at ?y - e) (on))", UnknownType, 7, 20),
     ("(:action b :parameters (?x\n?x))", DuplicateName, 8, 1),
+    ("(:derived (at ?x ?x) (on))", DuplicateName, 7, 18),
     ("(:derived (dim) (on))", UnknownPredicate, 7, 12),
     ("(:action b :effect (increase (cost) 1))", UnknownFunction, 7, 31),
     ("(:action b :effect (at))", WrongArity, 7, 21),
