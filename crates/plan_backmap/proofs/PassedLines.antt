@@ -6,7 +6,6 @@ use Rattle.std.specs.Option.{option_to_list}
 use Rattle.std.proofs.lemmas.List.Sums.{sum_by-append}
 use Rattle.plan_lines.proofs.Cuts.{next_line, shorter}
 use Rattle.plan_backmap.specs.declared.plan.MapEnd.{MapEnd}
-use Rattle.plan_backmap.specs.declared.plan.MapEnd.TheVariants.{BadLine, UnknownStep, NoMemory}
 use Rattle.plan_lines.specs.Lines.{plan_lines, trimmed}
 use Rattle.plan_lines.specs.FirstLine.{first_line, after_line}
 use Rattle.plan_backmap.specs.Plans as spec
@@ -44,16 +43,14 @@ module _ (operators : List Operator) (text : List ℕ) (number : ℕ) (steps : L
       p.taken ∙ ap (λ ls. steps ++ spec.steps operators ls) (next_line rest some)
       ∙ ap (λ l. steps ++ cons_option (spec.step_of operators l) (spec.steps operators (plan_lines (after_line rest)))) (sym line_is)
 
-  first_here : (fault : MapEnd) → spec.fault_of operators (number + 1) line ≡ Some fault → spec.IsFirst (spec.faults operators (plan_lines text)) fault
+  first_here : (fault : spec.PlanFault) → spec.fault_of operators (number + 1) line ≡ Some fault → spec.IsFirst (spec.faults operators (plan_lines text)) fault
   first_here fault here =
       let after = spec.faults_from (number + 1 + 1) operators (plan_lines (after_line rest)) in
       (after, faults_split ∙ ap (λ found. cons_option found after) here)
 
   -- a fault that is found here is the first
-  pub fault_here : (end : MapEnd) → spec.IfFault end (λ fault. spec.fault_of operators (number + 1) line ≡ Some fault) → spec.IfFault end (λ fault. spec.IsFirst (spec.faults operators (plan_lines text)) fault)
-  fault_here (BadLine n) here = first_here _ here
-  fault_here (UnknownStep n) here = first_here _ here
-  fault_here NoMemory here = tt
+  pub fault_here : (end : MapEnd) → spec.IfFault end (λ fault. spec.fault_of operators (number + 1) line ≡ Some fault) → spec.IfFault end (spec.IsFirst (spec.faults operators (plan_lines text)))
+  fault_here end here fault is = first_here fault (here fault is)
 
   -- one line more
   pub passed_line : (after : List ℕ) → after ≡ after_line rest → spec.fault_of operators (number + 1) line ≡ None →

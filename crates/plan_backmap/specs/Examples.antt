@@ -2,9 +2,8 @@
 use Rattle.std.specs.Prelude.{◌≡◌, ℕ, true, false, List, [], ◌∷◌, ◌++◌, codes}
 use Rattle.sas_task.specs.declared.parts.Operator.{Operator}
 use Rattle.plan_lines.specs.Lines.{lines, trimmed, plan_lines, is_comment, is_step, words, name}
-use Rattle.plan_backmap.specs.Plans.{faults, mapped}
+use Rattle.plan_backmap.specs.Plans.{BadLine, UnknownStep, faults, mapped}
 use Rattle.plan_lines.specs.declared.plan.Step.{Step}
-use Rattle.plan_backmap.specs.declared.plan.MapEnd.TheVariants.{BadLine, UnknownStep}
 
 abbrev pub operator : List ℕ → ℕ → Operator
 operator name cost = record { name = name; conditions = []; effects = []; cost = cost }

@@ -1,5 +1,5 @@
 -- What a plan file comes to for a task's operators: its steps with their costs, or its first faulty line.
-use Rattle.std.specs.Prelude.{◌≡◌, ℕ, List, [], ◌∷◌, Option, Some, None, Result, Ok, Err, is_some, not, if◌then◌else◌}
+use Rattle.std.specs.Prelude.{◌≡◌, ◌≢◌, ℕ, List, [], ◌∷◌, Option, Some, None, Result, Err, is_some, not, if◌then◌else◌}
 use Rattle.std.specs.List.{enumerate_from, filter_map, sum_by}
 use Rattle.std.specs.Option.{option_map}
 use Rattle.names.specs.Names.{Name, is_same}
@@ -8,7 +8,7 @@ use Rattle.plan_lines.specs.Lines.{is_comment, is_step, words, name}
 use Rattle.plan_lines.specs.declared.plan.Step.{Step}
 use Rattle.plan_lines.specs.declared.plan.Mapped.{Mapped}
 use Rattle.plan_backmap.specs.declared.plan.MapEnd.{MapEnd}
-use Rattle.plan_backmap.specs.declared.plan.MapEnd.TheVariants.{BadLine, UnknownStep, NoMemory}
+use Rattle.plan_backmap.specs.declared.plan.MapEnd.TheVariants as ends
 
 -- a line of a text: 1 is the first
 abbrev pub Line : Type 0
@@ -27,8 +27,13 @@ step_of operators line = if is_step line then option_map (λ cost. record { word
 abbrev pub steps : List Operator → List (List ℕ) → List Step
 steps operators plan = filter_map (step_of operators) plan
 
--- The fault of a trimmed line, if it has one: it is no comment and no step, or it is a step whose name no operator has.
-abbrev pub fault_of : List Operator → Line → List ℕ → Option MapEnd
+-- a faulty line of a plan file: it is no comment and no step, or it is a step whose name no operator has
+pub data PlanFault : Type 0 where
+  BadLine : (line : Line) → PlanFault
+  UnknownStep : (line : Line) → PlanFault
+
+-- the fault of a trimmed line with this number, if it has one
+abbrev pub fault_of : List Operator → Line → List ℕ → Option PlanFault
 fault_of operators number line =
     if is_comment line then None
     else if not (is_step line) then Some (BadLine number)
@@ -36,11 +41,11 @@ fault_of operators number line =
     else Some (UnknownStep number)
 
 -- the faults of trimmed lines, in order, where the first has this number
-abbrev pub faults_from : Line → List Operator → List (List ℕ) → List MapEnd
+abbrev pub faults_from : Line → List Operator → List (List ℕ) → List PlanFault
 faults_from number operators plan = filter_map (λ line. fault_of operators line.0 line.1) (enumerate_from number plan)
 
 -- the faults of trimmed lines, in order, counted from 1
-abbrev pub faults : List Operator → List (List ℕ) → List MapEnd
+abbrev pub faults : List Operator → List (List ℕ) → List PlanFault
 faults operators plan = faults_from 1 operators plan
 
 -- what the steps cost together
@@ -52,18 +57,18 @@ abbrev pub mapped : List Operator → List (List ℕ) → Mapped
 mapped operators plan = record { steps = steps operators plan; total = total (steps operators plan) }
 
 -- the fault is the first of these
-abbrev pub IsFirst : List MapEnd → MapEnd → Type 0
-IsFirst faults fault = (more : List MapEnd) × (faults ≡ fault ∷ more)
+abbrev pub IsFirst : List PlanFault → PlanFault → Type 0
+IsFirst faults fault = (more : List PlanFault) × (faults ≡ fault ∷ more)
 
--- the fact holds of the end, if it is a faulty line
-abbrev pub IfFault : MapEnd → (MapEnd → Type 0) → Type 0
-IfFault (BadLine number) fact = fact (BadLine number)
-IfFault (UnknownStep number) fact = fact (UnknownStep number)
-IfFault NoMemory fact = Unit {0}
+-- what is answered for a fault
+abbrev pub end_of : PlanFault → MapEnd
+end_of (BadLine line) = ends.BadLine line
+end_of (UnknownStep line) = ends.UnknownStep line
+
+-- the fact holds of the fault for which the end is answered, if it is for one
+abbrev pub IfFault : MapEnd → (PlanFault → Type 0) → Type 0
+IfFault end fact = (fault : PlanFault) → end ≡ end_of fault → fact fault
 
 -- the fact holds, unless memory ran out
 abbrev pub UnlessNoMemory : {A : Type 0} → Result A MapEnd → Type 0 → Type 0
-UnlessNoMemory (Ok x) fact = fact
-UnlessNoMemory (Err (BadLine number)) fact = fact
-UnlessNoMemory (Err (UnknownStep number)) fact = fact
-UnlessNoMemory (Err NoMemory) fact = Unit {0}
+UnlessNoMemory result fact = result ≢ Err ends.NoMemory → fact

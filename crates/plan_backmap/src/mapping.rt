@@ -3,8 +3,7 @@
 ghost use Rattle.std.specs.Prelude.{◌≡◌, ◌≤◌, ◌<◌, ◌^◌, [], ◌++◌, length, None, Some, IsOk, Err, IfOk, IfErr, IfSome, OnOk};
 ghost use Rattle.std.specs.Option.{option_to_list};
 ghost use Rattle.plan_lines.specs.Lines.{plan_lines};
-ghost use Rattle.plan_backmap.specs.Plans.{step_of, fault_of, faults, mapped, total, IsFirst, IfFault, UnlessNoMemory};
-ghost use Rattle.plan_backmap.specs.declared.plan.MapEnd.{MapEnd};
+ghost use Rattle.plan_backmap.specs.Plans.{PlanFault, step_of, fault_of, faults, mapped, total, IsFirst, end_of, IfFault, UnlessNoMemory};
 
 use crate::costs::Costs;
 use crate::plan::MapEnd;
@@ -63,7 +62,7 @@ fn map_lines(alloc: Global, costs: &Costs, bytes: &[u8]) -> Result<Mapped, MapEn
     requires { length bytes.now < 2 ^ 32 }
     ensures mapped { IfOk result (λ answer. answer ≡ mapped costs.now.operators (plan_lines bytes.now)) }
     ensures faultless { OnOk result (faults costs.now.operators (plan_lines bytes.now) ≡ []) }
-    ensures first { IfErr result (λ end. IfFault end (λ fault. IsFirst (faults costs.now.operators (plan_lines bytes.now)) fault)) }
+    ensures first { IfErr result (λ end. IfFault end (IsFirst (faults costs.now.operators (plan_lines bytes.now)))) }
 {
     let mut steps = Vec::new(alloc);
     let mut total = 0;
@@ -103,12 +102,12 @@ pub fn map_plan(alloc: Global, task: &SasTask, bytes: &[u8]) -> Result<Mapped, M
     // Only a plan without faulty lines is mapped.
     ensures faultless { OnOk result (faults task.now.operators (plan_lines bytes.now) ≡ []) }
     // A faulty line that is answered is the first.
-    ensures first { IfErr result (λ end. IfFault end (λ fault. IsFirst (faults task.now.operators (plan_lines bytes.now)) fault)) }
+    ensures first { IfErr result (λ end. IfFault end (IsFirst (faults task.now.operators (plan_lines bytes.now)))) }
 
     // Unless memory runs out, a plan without faulty lines is mapped, and one with faulty lines gives the first.
     ensures ok { faults task.now.operators (plan_lines bytes.now) ≡ [] → UnlessNoMemory result (IsOk result) }
-    ensures fault { (fault : MapEnd) → IsFirst (faults task.now.operators (plan_lines bytes.now)) fault
-        → UnlessNoMemory result (result ≡ Err fault) }
+    ensures fault { (fault : PlanFault) → IsFirst (faults task.now.operators (plan_lines bytes.now)) fault
+        → UnlessNoMemory result (result ≡ Err (end_of fault)) }
 {
     let costs = Costs::of(alloc, task)?;
     map_lines(alloc, &costs, bytes)

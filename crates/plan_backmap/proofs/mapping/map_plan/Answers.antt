@@ -8,7 +8,7 @@ use Rattle.plan_backmap.proofs.mapping.map_plan.Goals as goal
 
 pub returns-clause-first : goal.returns-clause-first
 returns-clause-first c =
-    subst (λ (task : Task). IfErr c.map_lines.result (λ end. IfFault end (λ fault. IsFirst (faults task.operators (plan_lines c.args.bytes.now)) fault))) c.in_ok-costs.ensures c.map_lines.ensures.first
+    subst (λ (task : Task). IfErr c.map_lines.result (λ end. IfFault end (IsFirst (faults task.operators (plan_lines c.args.bytes.now))))) c.in_ok-costs.ensures c.map_lines.ensures.first
 
 pub returns-clause-ok : goal.returns-clause-ok
 returns-clause-ok c = is_mapped _ c.map_lines.result (returns-clause-first c)
