@@ -5,7 +5,7 @@ use Rattle.std.specs.declared.option.Option.{Option}
 use Rattle.std.specs.declared.option.Option.TheVariants.{Some, None}
 use Rattle.tl_device.specs.Contents.{Contents}
 use Rattle.plan_lines.specs.Lines.{plan_lines}
-use Rattle.plan_backmap.specs.Plans.{faults, mapped, IsFirst, IfFault}
+use Rattle.plan_backmap.specs.Plans.{PlanFault, BadLine, UnknownStep, faults, mapped, IsFirst, IfFault}
 use Rattle.plan_lines.specs.PlanText.{plan_text}
 use Rattle.plan_lines.specs.declared.plan.Mapped.{Mapped}
 use Rattle.plan_backmap.specs.declared.plan.MapEnd.{MapEnd}
@@ -22,28 +22,25 @@ use Rattle.translator.proofs.Sources.{always}
 
 -- ---- a text
 
-pub bad_line : (name : List ℕ) (faults : List MapEnd) (lines : List ℕ) (end : MapEnd) (line : ℕ) → end ≡ map_ends.BadLine line → IfFault end (IsFirst faults) → unless_faulty name faults lines ≡ Refused name (messages.BadPlanLine line)
+pub bad_line : (name : List ℕ) (faults : List PlanFault) (lines : List ℕ) (end : MapEnd) (line : ℕ) → end ≡ map_ends.BadLine line → IfFault end (IsFirst faults) → unless_faulty name faults lines ≡ Refused name (messages.BadPlanLine line)
 bad_line name faults lines end line is first =
-    let found = subst (λ (e : MapEnd). IfFault e (IsFirst faults)) is first in
-    ap (λ (fs : List MapEnd). unless_faulty name fs lines) found.1
+    ap (λ (fs : List PlanFault). unless_faulty name fs lines) (first (BadLine line) is).1
 
-pub unknown_step : (name : List ℕ) (faults : List MapEnd) (lines : List ℕ) (end : MapEnd) (line : ℕ) → end ≡ map_ends.UnknownStep line → IfFault end (IsFirst faults) → unless_faulty name faults lines ≡ Refused name (messages.UnknownStep line)
+pub unknown_step : (name : List ℕ) (faults : List PlanFault) (lines : List ℕ) (end : MapEnd) (line : ℕ) → end ≡ map_ends.UnknownStep line → IfFault end (IsFirst faults) → unless_faulty name faults lines ≡ Refused name (messages.UnknownStep line)
 unknown_step name faults lines end line is first =
-    let found = subst (λ (e : MapEnd). IfFault e (IsFirst faults)) is first in
-    ap (λ (fs : List MapEnd). unless_faulty name fs lines) found.1
+    ap (λ (fs : List PlanFault). unless_faulty name fs lines) (first (UnknownStep line) is).1
 
 pub lines_given : (task : Task) (plan : Text) (it : Mapped) (metric : Bool) (bytes : List ℕ) → faults task.operators (plan_lines plan.bytes) ≡ [] → it ≡ mapped task.operators (plan_lines plan.bytes) → metric ≡ task.metric → bytes ≡ plan_text metric it
     → mapped_lines task plan ≡ Gives bytes
 lines_given task plan it metric bytes none is same text_is =
-    ap (λ (fs : List MapEnd). unless_faulty plan.name fs (plan_text task.metric (mapped task.operators (plan_lines plan.bytes)))) none
+    ap (λ (fs : List PlanFault). unless_faulty plan.name fs (plan_text task.metric (mapped task.operators (plan_lines plan.bytes)))) none
     ∙ ap Gives (sym (text_is ∙ ap₂ plan_text same is))
 
 -- a fault is told of the text's name
-told_unless : (names : List (List ℕ)) (name : List ℕ) (faults : List MapEnd) (lines : List ℕ) → Contains names name → IsToldOf names (unless_faulty name faults lines)
+told_unless : (names : List (List ℕ)) (name : List ℕ) (faults : List PlanFault) (lines : List ℕ) → Contains names name → IsToldOf names (unless_faulty name faults lines)
 told_unless names name [] lines in' = tt
-told_unless names name (map_ends.BadLine line ∷ more) lines in' = in'
-told_unless names name (map_ends.UnknownStep line ∷ more) lines in' = in'
-told_unless names name (map_ends.NoMemory ∷ more) lines in' = told_unless names name more lines in'
+told_unless names name (BadLine line ∷ more) lines in' = in'
+told_unless names name (UnknownStep line ∷ more) lines in' = in'
 
 pub plan_told : (names : List (List ℕ)) (task : Task) (plan : Text) → Contains names plan.name → IsToldOf names (mapped_lines task plan)
 plan_told names task plan = told_unless names plan.name (faults task.operators (plan_lines plan.bytes)) (plan_text task.metric (mapped task.operators (plan_lines plan.bytes)))

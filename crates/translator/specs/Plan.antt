@@ -4,21 +4,18 @@ use Rattle.std.specs.declared.option.Option.{Option}
 use Rattle.std.specs.declared.option.Option.TheVariants.{Some, None}
 use Rattle.tl_device.specs.Contents.{Contents}
 use Rattle.plan_lines.specs.Lines.{plan_lines}
-use Rattle.plan_backmap.specs.Plans.{faults, mapped}
+use Rattle.plan_backmap.specs.Plans.{PlanFault, BadLine, UnknownStep, faults, mapped}
 use Rattle.plan_lines.specs.PlanText.{plan_text}
-use Rattle.plan_backmap.specs.declared.plan.MapEnd.{MapEnd}
-use Rattle.plan_backmap.specs.declared.plan.MapEnd.TheVariants as map_ends
 use Rattle.sas_task.specs.Task.{Task}
 use Rattle.messages.specs.declared.outcome.Message.TheVariants as messages
 use Rattle.translator.specs.Ending.{Ending, Gives, Refused, ◌>>=◌}
 use Rattle.translator.specs.Texts.{Text, read}
 
--- the lines, or the first of the faults of the plan file of this name; want of memory is none
-abbrev pub unless_faulty : List ℕ → List MapEnd → List ℕ → Ending (List ℕ)
+-- the lines, or the first of the faults of the plan file of this name
+abbrev pub unless_faulty : List ℕ → List PlanFault → List ℕ → Ending (List ℕ)
 unless_faulty name [] lines = Gives lines
-unless_faulty name (map_ends.BadLine line ∷ more) lines = Refused name (messages.BadPlanLine line)
-unless_faulty name (map_ends.UnknownStep line ∷ more) lines = Refused name (messages.UnknownStep line)
-unless_faulty name (map_ends.NoMemory ∷ more) lines = unless_faulty name more lines
+unless_faulty name (BadLine line ∷ more) lines = Refused name (messages.BadPlanLine line)
+unless_faulty name (UnknownStep line ∷ more) lines = Refused name (messages.UnknownStep line)
 
 -- the lines on a plan's steps and on what they cost, mapped back to the task's operators
 abbrev pub mapped_lines : Task → Text → Ending (List ℕ)
