@@ -1,2 +1,3 @@
 pub mod Cuts
 mod Digits
+pub mod FirstLines

@@ -1,5 +1,5 @@
 -- The text of a valid task is read as that task: operators, rules, and the whole text.
-use Rattle.std.proofs.Common.{◌≡◌, ℕ, ◌^◌, ◌<◌, ◌≤◌, List, [], ◌∷◌, ◌++◌, length, get_or, Option, Some, None, Ok, refl, sym, ap, ◌∙◌, subst, append_assoc, append-nil, arith, length-append}
+use Rattle.std.proofs.Common.{◌≡◌, ℕ, ◌^◌, ◌<◌, ◌≤◌, List, [], ◌∷◌, ◌++◌, length, map, get_or, Option, Some, None, Ok, refl, sym, ap, ◌∙◌, subst, append_assoc, append-nil, arith, length-append}
 use Rattle.std.specs.Prelude.{codes, IsSomeAnd, slice_get}
 use Rattle.std.specs.List.{All, AllPairs, flat_map, enumerate_from}
 use Rattle.std.proofs.lemmas.List.{get_or_append_left}
@@ -16,17 +16,18 @@ use Rattle.sas_lines.specs.declared.fault.SasPlace.TheVariants as places
 use Rattle.sas_lines.specs.Contexts.{so_far}
 use Rattle.sas_lines.specs.Forms.{◌>>=◌, ◌>>◌, Unread, Form, followed, unread, pieces_of, in_section, section, listed}
 use Rattle.sas_lines.specs.Numbers.{number_line}
-use Rattle.sas_sections.specs.Operators.{operator, operators}
+use Rattle.sas_sections.specs.Operators.{operator, operators, spared}
 use Rattle.sas_sections.specs.Rules.{rule, rules}
 use Rattle.sas_sections.specs.Sections.{version, metric, variables, groups, state, goal}
 use Rattle.sas_sections.proofs.Again.{IsSmall, Again, small_after, again_then, again_next, again_number, again_listed}
 use Rattle.sas_sections.proofs.AgainPairs.{Fits, value_fits, at_place, in_all, same_lines, again_each}
 use Rattle.sas_sections.proofs.AgainSections.{again_version, again_metric, again_state}
-use Rattle.sas_sections.proofs.AgainOperators.{IsShort, again_operator}
+use Rattle.sas_sections.proofs.AgainOperators.{IsShort, less_is, again_operator}
 use Rattle.sas_sections.proofs.AgainRules.{again_rule}
 use Rattle.sas_sections.proofs.AgainText.{many, each_short, conditions_short}
-use Rattle.sas_sections.proofs.WrittenLines.{lines_clean, pieces_back}
-use Rattle.sas_reader.specs.Text.{task}
+use Rattle.sas_sections.proofs.Lines.{NoFeed}
+use Rattle.sas_sections.proofs.WrittenLines.{name_clean, lines_clean, pieces_back}
+use Rattle.sas_reader.specs.Text.{task, with_operators, IsTextOf}
 use Rattle.sas_reader.proofs.WholeText.{made, to_end, to_rules, to_operators, to_goal, to_state, to_groups, to_variables}
 use Rattle.sas_reader.proofs.AgainWhole.{again_when, AgainEnd, then_end, ends, variables_small, rule_short, variables_again, groups_again, goal_again}
 
@@ -62,16 +63,22 @@ operator_short o short each =
       conditions-short = All-weaker (λ e. All Q (effect_line o e ∷ [])) (λ e. length e.conditions < 2 ^ 64) (λ e good. conditions_short o e (All-head Q (effect_line o e) [] good)) o.effects lines-each;
     }
 
-pub operators_again : (t : Task) → Fits (so_far t.variables []) → All (IsValidOperator t) t.operators → Again (operators t.metric (so_far t.variables [])) t.operators (counted operator_lines t.operators)
+mapped_each : {X Y : Type 0} (P : Y → Type 0) (f : X → Y) (xs : List X) → All P (map f xs) → All (λ x. P (f x)) xs
+mapped_each P f [] are = All-nil (λ x. P (f x))
+mapped_each P f (x ∷ xs) are = All-cons (λ x. P (f x)) x xs (All-head P (f x) (map f xs) are) (mapped_each P f xs (All-tail P (f x) (map f xs) are))
+
+-- some names have one space more
+pub operators_again : (t : Task) (written : List Operator) → Fits (so_far t.variables []) → All (λ o. IsValidOperator t (spared o)) written
+    → Again (operators t.metric (so_far t.variables [])) (map spared written) (counted operator_lines written)
 unfolding operators
-operators_again t fits are =
+operators_again t written fits are =
     let base = so_far t.variables [] in
-    again_when (number_line >>= λ count. listed (λ _. operator t.metric base) count []) t.operators (counted operator_lines t.operators) (λ short each.
-    let all : length (flat_map operator_lines t.operators) < 2 ^ 63 = omega (arith, short) in
-    let shorts = each_short operator_lines t.operators (2 ^ 63) all in
-    let lines-each = flat_each (λ p. length p < 2 ^ 63) operator_lines t.operators (All-tail (λ (p : Line). length p < 2 ^ 63) (numeral (length t.operators)) (flat_map operator_lines t.operators) each) in
-    again_each (operator t.metric base) (λ o. IsValidOperator t o × IsShort o) operator_lines t.operators (omega (arith, all, many operator_lines t.operators (λ o. omega arith)))
-    (λ k d within. (are k d within, operator_short (get_or t.operators k d) (shorts k d within) (lines-each k d within)))
+    again_when (number_line >>= λ count. listed (λ _. operator t.metric base) count []) (map spared written) (counted operator_lines written) (λ short each.
+    let all : length (flat_map operator_lines written) < 2 ^ 63 = omega (arith, short) in
+    let shorts = each_short operator_lines written (2 ^ 63) all in
+    let lines-each = flat_each (λ p. length p < 2 ^ 63) operator_lines written (All-tail (λ (p : Line). length p < 2 ^ 63) (numeral (length written)) (flat_map operator_lines written) each) in
+    again_each (operator t.metric base) (λ o. IsValidOperator t (spared o) × IsShort o) spared operator_lines written (omega (arith, all, many operator_lines written (λ o. omega arith)))
+    (λ k d within. (are k d within, operator_short (get_or written k d) (shorts k d within) (lines-each k d within)))
     (λ o good. again_operator t.metric base o fits good.0.name (record { facts = good.0.conditions.facts; sorted = good.0.conditions.sorted })
     (All-weaker (IsValidEffect t) (IsValidEffect base) (λ e fine. record { conditions = record { facts = fine.conditions.facts; sorted = fine.conditions.sorted }; value = fine.value; basic = fine.basic }) o.effects good.0.effects)
     good.0.cost good.0.unit_cost good.1))
@@ -120,9 +127,9 @@ section_again place now rest small some is = record { after = in_section place n
 regroup : (a b c d e f g h : List Line) → (a ++ b) ++ (c ++ (d ++ (e ++ (f ++ (g ++ (h ++ [])))))) ≡ a ++ b ++ c ++ d ++ e ++ f ++ g ++ h
 regroup a b c d e f g h = simp (append_assoc, append-nil)
 
-pub task_again : (t : Task) → Fits (so_far t.variables []) → IsValid t → AgainEnd task t (lines t)
+pub task_again : (t : Task) (written : List Operator) → Fits (so_far t.variables []) → IsValid t → map spared written ≡ t.operators → AgainEnd task t (lines (with_operators t written))
 unfolding task
-task_again t fits valid =
+task_again t written fits valid spares =
     let base = so_far t.variables [] in
     let m = t.metric in
     let vs = t.variables in
@@ -130,10 +137,12 @@ task_again t fits valid =
     let l3 = counted group_lines t.groups in
     let l4 = state_lines t.state in
     let l5 = goal_lines t.goal in
-    let l6 = counted operator_lines t.operators in
+    let l6 = counted operator_lines written in
     let l7 = counted rule_lines t.rules in
+    let good : All (λ o. IsValidOperator t (spared o)) written = mapped_each (IsValidOperator t) spared written (subst (All (IsValidOperator t)) (sym spares) valid.operators) in
+    let named : Again (operators m base) t.operators l6 = subst (λ os. Again (operators m base) os l6) spares (operators_again t written fits good) in
     let r7 : AgainEnd (to_rules m vs t.groups t.state t.goal t.operators) t (l7 ++ []) = then_end places.Rules (rules vs t.state) (λ rs. to_end (made m vs t.groups t.state t.goal t.operators rs)) t.rules t l7 [] (rules_again t fits valid) (ends t) in
-    let r6 : AgainEnd (to_operators m vs t.groups t.state t.goal) t (l6 ++ (l7 ++ [])) = then_end places.Operators (operators m base) (to_rules m vs t.groups t.state t.goal) t.operators t l6 (l7 ++ []) (operators_again t fits valid.operators) r7 in
+    let r6 : AgainEnd (to_operators m vs t.groups t.state t.goal) t (l6 ++ (l7 ++ [])) = then_end places.Operators (operators m base) (to_rules m vs t.groups t.state t.goal) t.operators t l6 (l7 ++ []) named r7 in
     let r5 : AgainEnd (to_goal m vs t.groups t.state) t (l5 ++ (l6 ++ (l7 ++ []))) = then_end places.Goal (goal base) (to_operators m vs t.groups t.state) t.goal t l5 (l6 ++ (l7 ++ [])) (goal_again base t.goal fits (record { facts = valid.goal.facts; sorted = valid.goal.sorted })) r6 in
     let r4 : AgainEnd (to_state m vs t.groups) t (l4 ++ (l5 ++ (l6 ++ (l7 ++ [])))) = then_end places.State (state base) (to_goal m vs t.groups) t.state t l4 (l5 ++ (l6 ++ (l7 ++ []))) (again_state base t.state fits valid.one_value (λ var within. valid.state var (omega (arith, within, valid.one_value)))) r5 in
     let r3 : AgainEnd (to_groups m vs) t (l3 ++ (l4 ++ (l5 ++ (l6 ++ (l7 ++ []))))) = then_end places.Groups (groups base) (to_state m vs) t.groups t l3 (l4 ++ (l5 ++ (l6 ++ (l7 ++ [])))) (groups_again base t.groups fits (All-weaker (IsValidGroup t) (IsValidGroup base) (λ g good. record { facts = good.facts; sorted = good.sorted; two_facts = good.two_facts }) t.groups valid.groups)) r4 in
@@ -157,19 +166,34 @@ third_short : (a b c d e f g h : List Line) → length c ≤ length (a ++ b ++ c
 third_short a b c d e f g h =
     omega (arith, length-append (a ++ b) c, length-append (a ++ b ++ c) d, length-append (a ++ b ++ c ++ d) e, length-append (a ++ b ++ c ++ d ++ e) f, length-append (a ++ b ++ c ++ d ++ e ++ f) g, length-append (a ++ b ++ c ++ d ++ e ++ f ++ g) h)
 
--- the text of a valid task is read as that task
-pub text_again : (bytes : List ℕ) (t : Task) → IsValid t → length bytes < 2 ^ 32 → bytes ≡ text_of t → (after : Unread) × (task (unread bytes) ≡ Ok (t, after))
+-- the text of a valid task, but for spaces at the end of operators' names, is read as that task
+pub text_again : (bytes : List ℕ) (t : Task) → IsValid t → length bytes < 2 ^ 32 → IsTextOf bytes t → (after : Unread) × (task (unread bytes) ≡ Ok (t, after))
 unfolding AgainEnd
 text_again bytes t valid short is =
-    let size : length bytes ≡ length (bytes_of (lines t)) = ap length is in
-    let few : length (lines t) < 2 ^ 32 = omega (arith, short, size, lines_many (lines t)) in
-    let cut : pieces_of 10 bytes ≡ lines t ++ [] ∷ [] = ap (pieces_of 10) is ∙ pieces_back (lines t) (lines_clean t valid) in
+    let shown = with_operators t is.written in
+    let good : All (λ o. IsValidOperator t (spared o)) is.written = mapped_each (IsValidOperator t) spared is.written (subst (All (IsValidOperator t)) (sym is.spares) valid.operators) in
+    let names : All (λ (o : Operator). NoFeed o.name) is.written =
+    All-weaker (λ o. IsValidOperator t (spared o)) (λ (o : Operator). NoFeed o.name) (λ o fine. name_clean o.name fine.name) is.written good in
+    let size : length bytes ≡ length (bytes_of (lines shown)) = ap length is.text in
+    let few : length (lines shown) < 2 ^ 32 = omega (arith, short, size, lines_many (lines shown)) in
+    let cut : pieces_of 10 bytes ≡ lines shown ++ [] ∷ [] = ap (pieces_of 10) is.text ∙ pieces_back (lines shown) (lines_clean shown valid.variables names) in
     let P : Line → Type 0 = λ p. length p < 2 ^ 63 in
-    let each : All P (lines t ++ [] ∷ []) = All-append P (lines t) ([] ∷ []) (lines_short (lines t) (2 ^ 63) (omega (arith, short, size))) (All-cons P [] [] (omega arith) (All-nil P)) in
-    let count : length (pieces_of 10 bytes) ≡ length (lines t ++ [] ∷ []) = ap length cut in
-    let small : IsSmall (unread bytes) = record { pieces = omega (arith, few, count, length-append (lines t) ([] ∷ [])); each = subst (All P) (sym cut) each } in
-    let third = third_short version_lines (metric_lines t.metric) (counted variable_lines (enumerate_from 0 t.variables)) (counted group_lines t.groups) (state_lines t.state) (goal_lines t.goal) (counted operator_lines t.operators) (counted rule_lines t.rules) in
+    let each : All P (lines shown ++ [] ∷ []) = All-append P (lines shown) ([] ∷ []) (lines_short (lines shown) (2 ^ 63) (omega (arith, short, size))) (All-cons P [] [] (omega arith) (All-nil P)) in
+    let count : length (pieces_of 10 bytes) ≡ length (lines shown ++ [] ∷ []) = ap length cut in
+    let small : IsSmall (unread bytes) = record { pieces = omega (arith, few, count, length-append (lines shown) ([] ∷ [])); each = subst (All P) (sym cut) each } in
+    let third = third_short version_lines (metric_lines t.metric) (counted variable_lines (enumerate_from 0 t.variables)) (counted group_lines t.groups) (state_lines t.state) (goal_lines t.goal) (counted operator_lines is.written) (counted rule_lines t.rules) in
     let sizes = variables_small t.variables (omega (arith, few, third)) in
     let fits : Fits (so_far t.variables []) = record { variables = sizes.0; facts = sizes.1 } in
-    let r = task_again t fits valid (unread bytes) small cut in
+    let r = task_again t is.written fits valid is.spares (unread bytes) small cut in
     (r.after, r.is)
+
+-- no name of a valid task has a space at its end
+all_spared : (t : Task) (os : List Operator) → All (IsValidOperator t) os → map spared os ≡ os
+all_spared t [] are = refl
+all_spared t (o ∷ os) are =
+    let first = less_is o.name (All-head (IsValidOperator t) o os are).name in
+    let rest = all_spared t os (All-tail (IsValidOperator t) o os are) in
+    λ i. record { name = first i; conditions = o.conditions; effects = o.effects; cost = o.cost } ∷ rest i
+
+pub own_text : (t : Task) → IsValid t → IsTextOf (text_of t) t
+own_text t valid = record { written = t.operators; spares = all_spared t t.operators valid.operators; text = refl }

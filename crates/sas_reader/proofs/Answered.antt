@@ -1,5 +1,5 @@
 -- What an answer that the text gives says.
-use Rattle.std.proofs.Common.{◌≡◌, ◌<◌, ◌^◌, ℕ, length, List, Some, None, Result, Ok, Err, refl, sym, ap, ◌∙◌}
+use Rattle.std.proofs.Common.{◌≡◌, ◌<◌, ◌^◌, ◌↔◌, ℕ, length, List, Some, None, Result, Ok, Err, refl, sym, ap, ◌∙◌}
 use Rattle.std.specs.Prelude.{IsOk, IfOk, OnOk}
 use Rattle.std.proofs.lemmas.Option.{none-some, same_Some}
 use Rattle.sas_task.specs.Task.{Task}
@@ -7,9 +7,8 @@ use Rattle.sas_lines.specs.declared.fault.SasFault.{SasFault}
 use Rattle.sas_lines.specs.declared.fault.ReadTaskEnd.{ReadTaskEnd}
 use Rattle.sas_lines.specs.declared.fault.ReadTaskEnd.TheVariants as ends
 use Rattle.sas_lines.specs.Answers.{IfFault, UnlessNoMemory, Tells}
-use Rattle.sas_lines.specs.Forms.{unread}
-use Rattle.sas_reader.specs.Text.{task, read_of, reading_of, fault_of, line_fault, IsTextOf}
-use Rattle.sas_task.specs.Output.{text_of}
+use Rattle.sas_lines.specs.Forms.{Reading, unread}
+use Rattle.sas_reader.specs.Text.{task, read_of, reading_of, fault_of, line_fault, IsTextOf, HasTask}
 use Rattle.sas_task.specs.Valid.{IsValid}
 use Rattle.sas_sections.proofs.Kept.{read_same}
 use Rattle.sas_reader.proofs.AgainRest.{text_again}
@@ -42,7 +41,7 @@ told_fault bytes (Ok t) told fault is = absurd (none-some fault (sym (ap fault_o
 told_fault bytes (Err (ends.Fault other)) told fault is = ap (λ f. Err (ends.Fault f)) (same_Some other fault (sym (ap fault_of told) ∙ is))
 told_fault bytes (Err ends.NoMemory) told fault is = tt
 
-pub told_again : (bytes : List ℕ) (r : Result Task ReadTaskEnd) → length bytes < 2 ^ 32 → Tells r (task (unread bytes)) → (t : Task) → IsValid t → bytes ≡ text_of t → UnlessNoMemory r (r ≡ Ok t)
+pub told_again : (bytes : List ℕ) (r : Result Task ReadTaskEnd) → length bytes < 2 ^ 32 → Tells r (task (unread bytes)) → (t : Task) → IsValid t → IsTextOf bytes t → UnlessNoMemory r (r ≡ Ok t)
 told_again bytes (Ok x) short told t valid is =
     let a = text_again bytes t valid short is in
     ap Ok (read_same x t told.0 a.0 (sym told.1 ∙ a.1)).0
@@ -51,3 +50,14 @@ told_again bytes (Err (ends.Fault fault)) short told t valid is =
     let both : Err fault ≡ Ok (t, a.0) = sym told ∙ a.1 in
     absurd cc
 told_again bytes (Err ends.NoMemory) short told t valid is = tt
+
+-- where no line breaks its rule, a task is read
+read_task_of : (bytes : List ℕ) (r : Reading Task) → task (unread bytes) ≡ r → fault_of r ≡ None → HasTask bytes
+read_task_of bytes (Ok read) is none = let told = task_read bytes read.0 read.1 is in (read.0, told.0, told.1)
+read_task_of bytes (Err fault) is none = absurd (none-some fault (sym none))
+
+pub lawful_text : (bytes : List ℕ) → length bytes < 2 ^ 32 → (line_fault bytes ≡ None ↔ HasTask bytes)
+lawful_text bytes short = (
+  λ none. read_task_of bytes (task (unread bytes)) refl none,
+  λ has. ap fault_of (text_again bytes has.0 has.1 short has.2).1,
+)

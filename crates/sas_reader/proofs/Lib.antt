@@ -2,3 +2,4 @@ mod WholeText
 mod AgainWhole
 mod AgainRest
 mod Answered
+mod FirstLines

@@ -1,15 +1,15 @@
 -- The first line of a text that breaks its rule (the planner's output format, version 3).
-use Rattle.std.specs.Prelude.{◌≡◌, ℕ, List, [], map, Option, Some, None, Result, Ok, Err}
+use Rattle.std.specs.Prelude.{◌≡◌, ℕ, ◌==◌, List, [], map, count_by, Option, Some, None, Result, Ok, Err}
 use Rattle.sas_task.specs.declared.parts.Operator.{Operator}
 use Rattle.sas_task.specs.Output.{text_of}
 use Rattle.sas_task.specs.Task.{Task}
+use Rattle.sas_task.specs.Valid.{IsValid}
 use Rattle.sas_lines.specs.declared.fault.SasFault.{SasFault}
 use Rattle.sas_lines.specs.declared.fault.SasPlace.TheVariants as places
 use Rattle.sas_lines.specs.Forms.{◌>>=◌, ◌>>◌, Form, Reading, given, section, end, unread}
 use Rattle.sas_lines.specs.Contexts.{so_far}
-use Rattle.sas_lines.specs.Words.{less_space}
 use Rattle.sas_sections.specs.Sections.{version, metric, variables, groups, state, goal}
-use Rattle.sas_sections.specs.Operators.{operators}
+use Rattle.sas_sections.specs.Operators.{operators, spared}
 use Rattle.sas_sections.specs.Rules.{rules}
 
 -- the eight sections, and no more
@@ -50,10 +50,6 @@ fault_of (Err fault) = Some fault
 abbrev pub line_fault : List ℕ → Option SasFault
 line_fault bytes = fault_of (task (unread bytes))
 
--- the operator, with one space less at the end of its name if it has one
-abbrev pub spared : Operator → Operator
-spared o = record { name = less_space o.name; conditions = o.conditions; effects = o.effects; cost = o.cost }
-
 -- the task with these operators
 abbrev pub with_operators : Task → List Operator → Task
 with_operators t operators =
@@ -64,3 +60,11 @@ pub record IsTextOf (bytes : List ℕ) (t : Task) : Type 0 where
   pub written : List Operator
   pub spares : map spared written ≡ t.operators
   pub text : bytes ≡ text_of (with_operators t written)
+
+-- the bytes are the text of some valid task
+abbrev pub HasTask : List ℕ → Type 0
+HasTask bytes = (t : Task) × IsValid t × IsTextOf bytes t
+
+-- how many whole lines the bytes have: each ends at a line feed
+abbrev pub whole_lines : List ℕ → ℕ
+whole_lines bytes = count_by (λ b. b == 10) bytes

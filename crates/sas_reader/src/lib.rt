@@ -5,6 +5,6 @@
 mod laws;
 mod task;
 
-pub use laws::texts;
+pub use laws::{first_faults, texts};
 pub use sas_lines::{ReadTaskEnd, SasFault, SasPlace};
 pub use task::read_task;

@@ -1,7 +1,6 @@
 //! The whole text.
 
 ghost use Rattle.std.specs.Prelude.{◌≡◌, ◌<◌, ◌^◌, length, Some, None, Ok, Err, IsOk, IfOk, OnOk};
-ghost use Rattle.sas_task.specs.Output.{text_of};
 ghost use Rattle.sas_task.specs.Task.{Task};
 ghost use Rattle.sas_task.specs.Valid.{IsValid};
 ghost use Rattle.sas_lines.specs.Answers.{IfFault, UnlessNoMemory, Tells};
@@ -64,8 +63,8 @@ pub fn read_task(alloc: Global, bytes: &[u8]) -> Result<SasTask, ReadTaskEnd>
     ensures fault { (fault : SasFault) → line_fault bytes.now ≡ Some fault →
         UnlessNoMemory result (result ≡ Err (ReadTaskEnd.Fault fault)) }
 
-    // The text of a task is read as that task.
-    ensures again { (t : Task) → IsValid t → bytes.now ≡ text_of t → UnlessNoMemory result (result ≡ Ok t) }
+    // The text of a valid task, but for a space at the end of some operators' names, is read as that task.
+    ensures again { (t : Task) → IsValid t → IsTextOf bytes.now t → UnlessNoMemory result (result ≡ Ok t) }
 {
     whole(alloc, bytes)
 }

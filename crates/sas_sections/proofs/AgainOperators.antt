@@ -18,7 +18,7 @@ use Rattle.sas_lines.specs.Contexts.{is_value}
 use Rattle.sas_lines.specs.Forms.{◌>>=◌, ◌>>◌, Form, passing, given, fixed, line, next_line, listed}
 use Rattle.sas_lines.specs.Numbers.{number, number_or_none, number_line}
 use Rattle.sas_lines.specs.Words.{is_name, less_space}
-use Rattle.sas_sections.specs.Operators.{Told, told_before, may_change, name, effect, cost, required_of, required, operator}
+use Rattle.sas_sections.specs.Operators.{Told, told_before, may_change, name, effect, cost, required_of, required, operator, spared}
 use Rattle.sas_sections.specs.Operators as rules
 use Rattle.sas_sections.specs.Pairs.{value, effect_conditions, conditions}
 use Rattle.sas_sections.specs.Tables.{first_of}
@@ -237,14 +237,15 @@ effects_of task o are valid short =
       short = short.conditions-short k d within;
     })
 
-less_is : (n : Line) → IsName n → less_space n ≡ n
+-- a name without a space at its end is its own
+pub less_is : (n : Line) → IsName n → less_space n ≡ n
 less_is n is = ap (λ b. cond b (take (length n - 1) n) n) (ne_eqb (get_or n (length n - 1) 0) 32 (name_parts n is).last)
 
-again_name : (n : Line) → IsName n → Again name n (n ∷ [])
+again_name : (written : Line) → IsName (less_space written) → Again name (less_space written) (written ∷ [])
 unfolding name
-again_name n is =
-    again_then next_line (λ l. passing (is_name (less_space l)) (less_space l)) n n (n ∷ []) [] (again_line n)
-    (subst (λ m. Again (passing (is_name m) m) n []) (sym (less_is n is)) (again_passing (is_name n) n (name_passes n is)))
+again_name written is =
+    again_then next_line (λ l. passing (is_name (less_space l)) (less_space l)) written (less_space written) (written ∷ []) [] (again_line written)
+    (again_passing (is_name (less_space written)) (less_space written) (name_passes (less_space written) is))
 
 again_cost : (metric : Bool) (c : ℕ) → c ≤ 2147483647 → (metric ≡ false → c ≡ 1) → Again (cost metric) c (numeral c ∷ [])
 unfolding cost
@@ -256,11 +257,13 @@ again_cost metric c small unit =
     fits true unit = refl
     fits false unit = eq-eqb c 1 (unit refl)
 
-pub again_operator : (metric : Bool) (task : Task) (o : Operator) → Fits task → IsName o.name → AreConditions task o.conditions → All (IsValidEffect task) o.effects → o.cost ≤ 2147483647 → (metric ≡ false → o.cost ≡ 1) → IsShort o → Again (operator metric task) o (operator_lines o)
+pub again_operator : (metric : Bool) (task : Task) (o : Operator) → Fits task → IsName (less_space o.name) → AreConditions task o.conditions → All (IsValidEffect task) o.effects → o.cost ≤ 2147483647 → (metric ≡ false → o.cost ≡ 1) → IsShort o → Again (operator metric task) (spared o) (operator_lines o)
 unfolding operator
-again_operator metric task o fits called are valid small unit short =
+again_operator metric task o fits named are valid small unit short =
     let n = length task.variables in
     let ps = prevail o in
+    let called : Line = less_space o.name in
+    let own : Operator = spared o in
     let told : List Told = map (λ e. (e, required_value o e.var)) o.effects in
     let made : Line → List Pair → List Told → ℕ → Operator = λ name pairs told cost. record { name = name; conditions = required n pairs told; effects = map (λ (t : Told). t.0) told; cost = cost } in
     let last : Line → List Pair → List Told → ℕ → Form Operator = λ name pairs told cost. fixed (codes "end_operator") >> given (made name pairs told cost) in
@@ -270,7 +273,7 @@ again_operator metric task o fits called are valid small unit short =
     let es-lines : List Line = flat_map (λ e. effect_line o e ∷ []) o.effects in
     let tail-lines : List Line = numeral (length o.effects) ∷ (es-lines ++ numeral o.cost ∷ codes "end_operator" ∷ []) in
     let count : length told ≡ length o.effects = length-map o.effects (λ e. (e, required_value o e.var)) in
-    let is : made o.name ps told o.cost ≡ o = λ i. record { name = o.name; conditions = required_again task o are i; effects = firsts (required_value o) o.effects i; cost = o.cost } in
+    let is : made called ps told o.cost ≡ own = λ i. record { name = called; conditions = required_again task o are i; effects = firsts (required_value o) o.effects i; cost = o.cost } in
     let good = effects_of task o are valid short in
     let read-items : Again (items ps (length o.effects)) told es-lines =
     subst (λ k. Again (items ps k) told es-lines) count
@@ -278,15 +281,15 @@ again_operator metric task o fits called are valid small unit short =
     (again_listed (λ earlier. line (effect task ps earlier)) (λ _. told_lines) told
     (λ before t more at. again_words (effect task ps before) t (numeral (length t.0.conditions)) (flat_map pair_words t.0.conditions ++ numeral t.0.var ∷ output.number_or_none t.1 ∷ numeral t.0.after ∷ []) (numeral_no_space (length t.0.conditions)) (told_no_space t)
     (again_effect task o before t fits (front_all (IsEffectOf task o) before (t ∷ more) (subst (All (IsEffectOf task o)) (sym at) good)) (in_all (IsEffectOf task o) before t more told at good))) told [] refl)) in
-    let read-end : Again (last o.name ps told o.cost) o (codes "end_operator" ∷ []) = again_next (fixed (codes "end_operator")) (given (made o.name ps told o.cost)) tt o (codes "end_operator" ∷ []) [] (again_fixed (codes "end_operator")) (subst (λ w. Again (given (made o.name ps told o.cost)) w []) is (again_given (made o.name ps told o.cost))) in
-    let read-cost : Again (costed o.name ps told) o (numeral o.cost ∷ codes "end_operator" ∷ []) = again_then (cost metric) (last o.name ps told) o.cost o (numeral o.cost ∷ []) (codes "end_operator" ∷ []) (again_cost metric o.cost small unit) read-end in
-    let read-effects : Again (items ps (length o.effects) >>= costed o.name ps) o (es-lines ++ numeral o.cost ∷ codes "end_operator" ∷ []) = again_then (items ps (length o.effects)) (costed o.name ps) told o es-lines (numeral o.cost ∷ codes "end_operator" ∷ []) read-items read-cost in
-    let read-count : Again (counted-items o.name ps) o tail-lines = again_then number_line (λ count. items ps count >>= costed o.name ps) (length o.effects) o (numeral (length o.effects) ∷ []) (es-lines ++ numeral o.cost ∷ codes "end_operator" ∷ []) (again_number (length o.effects) short.effects-short) read-effects in
-    let read-prevail : Again (conditions task >>= counted-items o.name) o (counted pair_lines ps ++ tail-lines) = again_then (conditions task) (counted-items o.name) ps o (counted pair_lines ps) tail-lines (again_conditions task ps fits (prevail_valid task o are) short.prevail-short) read-count in
-    let all : Again (operator metric task) o (codes "begin_operator" ∷ o.name ∷ (counted pair_lines ps ++ tail-lines)) =
-    again_then (fixed (codes "begin_operator") >> name) (λ name. conditions task >>= counted-items name) o.name o (codes "begin_operator" ∷ o.name ∷ []) (counted pair_lines ps ++ tail-lines)
-    (again_next (fixed (codes "begin_operator")) name tt o.name (codes "begin_operator" ∷ []) (o.name ∷ []) (again_fixed (codes "begin_operator")) (again_name o.name called)) read-prevail in
-    subst (Again (operator metric task) o) (ap (λ l. codes "begin_operator" ∷ o.name ∷ l) (regroup (counted pair_lines ps) (numeral (length o.effects) ∷ es-lines) (numeral o.cost) (codes "end_operator"))) all
+    let read-end : Again (last called ps told o.cost) own (codes "end_operator" ∷ []) = again_next (fixed (codes "end_operator")) (given (made called ps told o.cost)) tt own (codes "end_operator" ∷ []) [] (again_fixed (codes "end_operator")) (subst (λ w. Again (given (made called ps told o.cost)) w []) is (again_given (made called ps told o.cost))) in
+    let read-cost : Again (costed called ps told) own (numeral o.cost ∷ codes "end_operator" ∷ []) = again_then (cost metric) (last called ps told) o.cost own (numeral o.cost ∷ []) (codes "end_operator" ∷ []) (again_cost metric o.cost small unit) read-end in
+    let read-effects : Again (items ps (length o.effects) >>= costed called ps) own (es-lines ++ numeral o.cost ∷ codes "end_operator" ∷ []) = again_then (items ps (length o.effects)) (costed called ps) told own es-lines (numeral o.cost ∷ codes "end_operator" ∷ []) read-items read-cost in
+    let read-count : Again (counted-items called ps) own tail-lines = again_then number_line (λ count. items ps count >>= costed called ps) (length o.effects) own (numeral (length o.effects) ∷ []) (es-lines ++ numeral o.cost ∷ codes "end_operator" ∷ []) (again_number (length o.effects) short.effects-short) read-effects in
+    let read-prevail : Again (conditions task >>= counted-items called) own (counted pair_lines ps ++ tail-lines) = again_then (conditions task) (counted-items called) ps own (counted pair_lines ps) tail-lines (again_conditions task ps fits (prevail_valid task o are) short.prevail-short) read-count in
+    let all : Again (operator metric task) own (codes "begin_operator" ∷ o.name ∷ (counted pair_lines ps ++ tail-lines)) =
+    again_then (fixed (codes "begin_operator") >> name) (λ name. conditions task >>= counted-items name) called own (codes "begin_operator" ∷ o.name ∷ []) (counted pair_lines ps ++ tail-lines)
+    (again_next (fixed (codes "begin_operator")) name tt called (codes "begin_operator" ∷ []) (o.name ∷ []) (again_fixed (codes "begin_operator")) (again_name o.name named)) read-prevail in
+    subst (Again (operator metric task) own) (ap (λ l. codes "begin_operator" ∷ o.name ∷ l) (regroup (counted pair_lines ps) (numeral (length o.effects) ∷ es-lines) (numeral o.cost) (codes "end_operator"))) all
   where
     firsts : (g : ℕ → Option ℕ) (es : List Effect) → map (λ (t : Told). t.0) (map (λ e. (e, g e.var)) es) ≡ es
     firsts g [] = refl

@@ -1,13 +1,13 @@
 -- What is written is read again: pairs, conditions, mutex groups, the state and the goal.
-use Rattle.std.proofs.Common.{◌≡◌, ℕ, ◌+◌, ◌-◌, ◌^◌, ◌<◌, true, false, eqb, ltb, ◌||◌, ◌&&◌, List, [], ◌∷◌, ◌++◌, length, map, get_or, Option, Some, None, inl, inr, refl, sym, ap, ◌∙◌, subst, arith, length-append}
+use Rattle.std.proofs.Common.{◌≡◌, ℕ, ◌+◌, ◌-◌, ◌^◌, ◌<◌, true, false, eqb, ltb, ◌||◌, ◌&&◌, List, [], ◌∷◌, ◌++◌, length, map, get_or, Option, Some, None, Ok, inl, inr, refl, sym, ap, ◌∙◌, subst, append_assoc, append-nil, arith, length-append}
 use Rattle.std.specs.Prelude.{codes, slice_get, IsSomeAnd}
 use Rattle.std.specs.List.{All, AllPairs, flat_map}
 use Rattle.std.specs.List.Sorted.{IsStrictlyIncreasing}
 use Rattle.std.specs.Option.{option_map_or}
 use Rattle.std.proofs.lemmas.Bool.{lt-ltb, eq-eqb, le-ltb}
 use Rattle.std.proofs.lemmas.Option.{slice_get_within, get_or_from_slice_get}
-use Rattle.std.proofs.lemmas.List.{get_or-map, get_or_append_left, get_or-append_right, length-map}
-use Rattle.std.proofs.lemmas.List.Elements.{All-nil, All-cons}
+use Rattle.std.proofs.lemmas.List.{get_or-map, get_or_append_left, get_or-append_right, length-map, map-id}
+use Rattle.std.proofs.lemmas.List.Elements.{All-nil, All-cons, All-head, All-tail}
 use Rattle.sas_task.specs.declared.parts.Pair.{Pair}
 use Rattle.sas_task.specs.declared.parts.Variable.{Variable}
 use Rattle.sas_task.specs.declared.parts.Group.{Group}
@@ -150,12 +150,24 @@ again_group task g fits valid small =
     (λ before p more is. again_words (fact task before) p (numeral p.var) (numeral p.val ∷ []) (numeral_no_space p.var) (pair_no_space p) (again_fact task ps before more p fits valid.facts valid.sorted is)) ps [] refl))
     (again_next (fixed (codes "end_mutex_group")) (given g) tt g (codes "end_mutex_group" ∷ []) [] (again_fixed (codes "end_mutex_group")) (again_given g)))
 
+again_items : {X Y : Type 0} (one : Form Y) (P : X → Type 0) (read : X → Y) (lines : X → List Line) → ((x : X) → P x → Again one (read x) (lines x))
+    → (xs : List X) (before : List Y) → All P xs → Again (listed (λ _. one) (length xs) before) (before ++ map read xs) (flat_map lines xs)
+unfolding listed
+again_items one P read lines each [] before are = λ now rest small some at. record { after = now; is = ap (λ ys. Ok (ys, now)) (sym (append-nil before)); left = at }
+again_items one P read lines each (x ∷ xs) before are =
+    again_then one (λ y. listed (λ _. one) (length xs) (before ++ y ∷ [])) (read x) (before ++ map read (x ∷ xs)) (lines x) (flat_map lines xs) (each x (All-head P x xs are))
+    (subst (λ ys. Again (listed (λ _. one) (length xs) (before ++ read x ∷ [])) ys (flat_map lines xs)) (append_assoc before (read x ∷ []) (map read xs))
+    (again_items one P read lines each xs (before ++ read x ∷ []) (All-tail P x xs are)))
+
 -- items that are read one after the other, each for itself
-pub again_each : {X : Type 0} (one : Form X) (P : X → Type 0) (lines : X → List Line) (xs : List X) → length xs < 2 ^ 64 → All P xs → ((x : X) → P x → Again one x (lines x)) → Again (number_line >>= λ count. listed (λ _. one) count []) xs (counted lines xs)
-again_each one P lines xs small are each =
-    again_then number_line (λ count. listed (λ _. one) count []) (length xs) xs (numeral (length xs) ∷ []) (flat_map lines xs) (again_number (length xs) small)
-    (subst (Again (listed (λ _. one) (length xs) []) xs) (same_lines lines [] xs) (again_listed (λ _. one) (λ _. lines) xs (λ before x more is. each x (in_all P before x more xs is are)) xs [] refl))
+pub again_each : {X Y : Type 0} (one : Form Y) (P : X → Type 0) (read : X → Y) (lines : X → List Line) (xs : List X) → length xs < 2 ^ 64 → All P xs → ((x : X) → P x → Again one (read x) (lines x))
+    → Again (number_line >>= λ count. listed (λ _. one) count []) (map read xs) (counted lines xs)
+again_each one P read lines xs small are each =
+    again_then number_line (λ count. listed (λ _. one) count []) (length xs) (map read xs) (numeral (length xs) ∷ []) (flat_map lines xs) (again_number (length xs) small)
+    (again_items one P read lines each xs [] are)
 
 pub again_groups : (task : Task) (gs : List Group) → Fits task → length gs < 2 ^ 64 → All (λ g. IsValidGroup task g × (length g.facts < 2 ^ 64)) gs → Again (groups task) gs (counted group_lines gs)
 unfolding groups
-again_groups task gs fits small are = again_each (group task) (λ g. IsValidGroup task g × (length g.facts < 2 ^ 64)) group_lines gs small are (λ g good. again_group task g fits good.0 good.1)
+again_groups task gs fits small are =
+    subst (λ l. Again (groups task) l (counted group_lines gs)) (map-id gs)
+    (again_each (group task) (λ g. IsValidGroup task g × (length g.facts < 2 ^ 64)) (λ g. g) group_lines gs small are (λ g good. again_group task g fits good.0 good.1))

@@ -18,7 +18,7 @@ use Rattle.sas_lines.specs.Contexts.{so_far, is_below}
 use Rattle.sas_lines.specs.Forms.{◌>>=◌, ◌>>◌, Unread, Form, line, listed, fixed, passing, given}
 use Rattle.sas_lines.specs.Numbers.{number, number_line}
 use Rattle.sas_lines.specs.Words.{less_space}
-use Rattle.sas_sections.specs.Operators.{Told, name, effect, cost, required, operator, operators}
+use Rattle.sas_sections.specs.Operators.{Told, name, effect, cost, required, operator, operators, spared}
 use Rattle.sas_sections.specs.Pairs.{value, conditions}
 use Rattle.sas_sections.specs.Rules.{may_set, change, rule, rules}
 use Rattle.sas_sections.specs.Tables.{first_of, after_name}
@@ -94,7 +94,7 @@ operator_read metric task now o after clean e =
 -- operators in lines, some names with one space more
 pub record AreGood (metric : Bool) (task : Task) (start : Unread) (os : List Operator) (now : Unread) : Type 0 where
   pub written : List Operator
-  pub spared : map (λ o. named o (less_space o.name)) written ≡ os
+  pub spares : map spared written ≡ os
   pub are : All (IsGood metric task) os
   pub clean : IsClean now
   pub taken : TakesLines start (flat_map operator_lines written) now
@@ -103,23 +103,23 @@ one_more_operator : (metric : Bool) (task : Task) (start at later : Unread) (bef
     → (written : Line) × (less_space written ≡ o.name) × TakesLines at (operator_lines (named o written)) later × IsGood metric task o → AreGood metric task start (before ++ o ∷ []) later
 one_more_operator metric task start at later before o holds r = record {
   written = holds.written ++ named o r.0 ∷ [];
-  spared = map-append (λ (o : Operator). named o (less_space o.name)) holds.written (named o r.0 ∷ []) ∙ (λ i. holds.spared i ++ named o (r.1 i) ∷ []);
+  spares = map-append spared holds.written (named o r.0 ∷ []) ∙ (λ i. holds.spares i ++ named o (r.1 i) ∷ []);
   are = All-push (IsGood metric task) before o holds.are r.3;
   clean = clean_after at (operator_lines (named o r.0)) later r.2 holds.clean;
   taken = more_lines operator_lines start at later holds.written (named o r.0) holds.taken r.2;
 }
 
 pub operators_read : (metric : Bool) (task : Task) (now : Unread) (os : List Operator) (after : Unread) → IsClean now → operators metric task now ≡ Ok (os, after)
-    → (written : List Operator) × (map (λ o. named o (less_space o.name)) written ≡ os) × TakesLines now (counted operator_lines written) after × All (IsGood metric task) os
+    → (written : List Operator) × (map spared written ≡ os) × TakesLines now (counted operator_lines written) after × All (IsGood metric task) os
 unfolding operators
 operators_read metric task now os after clean e =
     let a = parts (number_line now) (λ count. listed (λ _. operator metric task) count []) os after e in
     let count = number_line_is now a.0 a.1 a.2 in
-    let start : AreGood metric task a.1 [] a.1 = record { written = []; spared = refl; are = All-nil (IsGood metric task); clean = clean_after now (numeral a.0 ∷ []) a.1 count.0 clean; taken = refl } in
+    let start : AreGood metric task a.1 [] a.1 = record { written = []; spares = refl; are = All-nil (IsGood metric task); clean = clean_after now (numeral a.0 ∷ []) a.1 count.0 clean; taken = refl } in
     let all = kept (λ _. operator metric task) (AreGood metric task a.1) (λ before at o later holds e. one_more_operator metric task a.1 at later before o holds (operator_read metric task at o later holds.clean e)) a.0 [] a.1 os after start a.3 in
-    let same : length all.0.written ≡ length os = sym (length-map all.0.written (λ (o : Operator). named o (less_space o.name))) ∙ ap length all.0.spared in
+    let same : length all.0.written ≡ length os = sym (length-map all.0.written spared) ∙ ap length all.0.spares in
     let len : a.0 ≡ length all.0.written = omega (arith, all.1, same) in
-    (all.0.written, all.0.spared, subst (λ n. TakesLines now (numeral n ∷ flat_map operator_lines all.0.written) after) len (then_lines now a.1 after (numeral a.0 ∷ []) (flat_map operator_lines all.0.written) count.0 all.0.taken), all.0.are)
+    (all.0.written, all.0.spares, subst (λ n. TakesLines now (numeral n ∷ flat_map operator_lines all.0.written) after) len (then_lines now a.1 after (numeral a.0 ∷ []) (flat_map operator_lines all.0.written) count.0 all.0.taken), all.0.are)
 
 below_holds : (task : Task) (var : ℕ) (p : Pair) → is_below task var p ≡ true → IsBelow task var p
 below_holds task var p is = from (layer_of task p.var) (layer_of task var) is

@@ -18,3 +18,4 @@ pub mod AgainOperators
 pub mod AgainRules
 pub mod AgainText
 pub mod WrittenLines
+pub mod FirstLines

@@ -1,10 +1,11 @@
 -- No line that is written has a line feed.
-use Rattle.std.proofs.Common.{◌≡◌, ◌≢◌, ℕ, zero, suc, ◌+◌, Bool, true, false, not, eqb, List, [], ◌∷◌, ◌++◌, length, map, get_or, Option, Some, None, refl, sym, ap, ◌∙◌, append_assoc, arith}
+use Rattle.std.proofs.Common.{◌≡◌, ◌≢◌, ℕ, zero, suc, ◌+◌, ◌-◌, ◌<◌, Bool, true, false, not, cond, eqb, List, [], ◌∷◌, ◌++◌, length, map, get_or, take, Option, Some, None, inl, inr, refl, sym, ap, ◌∙◌, subst, append_assoc, arith}
 use Rattle.std.specs.Prelude.{codes, if◌then◌else◌}
 use Rattle.std.specs.List.{All, list_all, flat_map, enumerate_from}
 use Rattle.std.specs.Int.Digits.{digits_of}
-use Rattle.std.proofs.lemmas.Bool.{eq-eqb, ne_eqb, and_parts, false≢true}
-use Rattle.std.proofs.lemmas.List.Elements.{All-nil, All-cons, All-head, All-tail, All-append, All-map, All-weaker}
+use Rattle.std.proofs.lemmas.Bool.{cases_Bool, eq-eqb, eqb-true, ne_eqb, and_parts, false≢true}
+use Rattle.std.proofs.lemmas.List.{take_all}
+use Rattle.std.proofs.lemmas.List.Elements.{All-nil, All-cons, All-head, All-tail, All-append, All-map, All-more, All-weaker}
 use Rattle.std.proofs.lemmas.List.Splits.{slice_split_at}
 use Rattle.sas_task.specs.declared.parts.Pair.{Pair}
 use Rattle.sas_task.specs.declared.parts.Variable.{Variable}
@@ -13,8 +14,9 @@ use Rattle.sas_task.specs.declared.parts.Operator.{Operator}
 use Rattle.sas_task.specs.declared.parts.Rule.{Rule}
 use Rattle.sas_task.specs.Output.{Line, numeral, number_or_none, spaced, counted, block, bytes_of, pair_words, pair_lines, version_lines, metric_lines, variable_lines, group_lines, state_lines, goal_lines, prevail, required_value, effect_line, operator_lines, rule_line, rule_lines, lines}
 use Rattle.sas_task.specs.Task.{Task}
-use Rattle.sas_task.specs.Valid.{IsValid, IsValidVariable, IsValidOperator}
+use Rattle.sas_task.specs.Valid.{IsValidVariable}
 use Rattle.sas_lines.specs.Forms.{pieces_of}
+use Rattle.sas_lines.specs.Words.{less_space}
 use Rattle.sas_sections.proofs.Lines.{NoFeed}
 use Rattle.lists.specs.Names.{IsName}
 use Rattle.lists.proofs.Names.{name_parts}
@@ -99,8 +101,29 @@ flag_clean : (m : Bool) → NoFeed (if m then codes "1" else codes "0")
 flag_clean true = letters (codes "1") refl
 flag_clean false = letters (codes "0") refl
 
-pub lines_clean : (t : Task) → IsValid t → All NoFeed (lines t)
-lines_clean t valid =
+-- a space at the end is no line feed
+space_clean : (line : Line) → NoFeed (less_space line) → NoFeed line
+space_clean line clean =
+    elim (cases_Bool (eqb (get_or line (length line - 1) 0) 32)) [
+      | inl space ↦
+          let front : NoFeed (take (length line - 1) line) = subst NoFeed (ap (λ b. cond b (take (length line - 1) line) line) space) clean in
+          let last : get_or line (length line - 1) 0 ≡ 32 = eqb-true (get_or line (length line - 1) 0) 32 space in
+          let some : 0 < length line = some_byte line last in
+          let whole : take (length line - 1 + 1) line ≡ line = take_all (length line - 1 + 1) line (omega (arith, some)) in
+          subst NoFeed whole (All-more (λ b. b ≢ 10) line (length line - 1) 0 (omega (arith, some)) front (λ feed. absurd (omega (arith, feed, last))))
+      | inr other ↦ subst NoFeed (ap (λ b. cond b (take (length line - 1) line) line) other) clean
+    ]
+  where
+    some_byte : (bytes : List ℕ) → get_or bytes (length bytes - 1) 0 ≡ 32 → 0 < length bytes
+    some_byte [] is = absurd (omega (arith, is))
+    some_byte (b ∷ bytes) is = omega arith
+
+-- nor has a name that has one space more
+pub name_clean : (name : Line) → IsName (less_space name) → NoFeed name
+name_clean name is = space_clean name (name_parts (less_space name) is).one_line
+
+pub lines_clean : (t : Task) → All IsValidVariable t.variables → All (λ (o : Operator). NoFeed o.name) t.operators → All NoFeed (lines t)
+lines_clean t variables names =
     All-append NoFeed (version_lines ++ metric_lines t.metric ++ counted variable_lines (enumerate_from 0 t.variables) ++ counted group_lines t.groups ++ state_lines t.state ++ goal_lines t.goal ++ counted operator_lines t.operators) (counted rule_lines t.rules)
     (All-append NoFeed (version_lines ++ metric_lines t.metric ++ counted variable_lines (enumerate_from 0 t.variables) ++ counted group_lines t.groups ++ state_lines t.state ++ goal_lines t.goal) (counted operator_lines t.operators)
     (All-append NoFeed (version_lines ++ metric_lines t.metric ++ counted variable_lines (enumerate_from 0 t.variables) ++ counted group_lines t.groups ++ state_lines t.state) (goal_lines t.goal)
@@ -110,11 +133,11 @@ lines_clean t valid =
     (All-append NoFeed version_lines (metric_lines t.metric)
     (in_block (codes "version") (codes "3" ∷ []) (letters (codes "begin_version") refl) (letters (codes "end_version") refl) (one (codes "3") (letters (codes "3") refl)))
     (in_block (codes "metric") ((if t.metric then codes "1" else codes "0") ∷ []) (letters (codes "begin_metric") refl) (letters (codes "end_metric") refl) (one (if t.metric then codes "1" else codes "0") (flag_clean t.metric))))
-    (counted_clean (λ (v : ℕ × Variable). IsValidVariable v.1) variable_lines (enumerate_from 0 t.variables) variable_clean (numbered_all 0 t.variables valid.variables)))
+    (counted_clean (λ (v : ℕ × Variable). IsValidVariable v.1) variable_lines (enumerate_from 0 t.variables) variable_clean (numbered_all 0 t.variables variables)))
     (counted_clean (λ _. Unit {0}) group_lines t.groups (λ g is. in_block (codes "mutex_group") (counted pair_lines g.facts) (letters (codes "begin_mutex_group") refl) (letters (codes "end_mutex_group") refl) (pairs_clean g.facts)) (any t.groups)))
     (in_block (codes "state") (map numeral t.state) (letters (codes "begin_state") refl) (letters (codes "end_state") refl) (All-map NoFeed numeral t.state (λ k d within. number_clean (get_or t.state k d)))))
     (in_block (codes "goal") (counted pair_lines t.goal) (letters (codes "begin_goal") refl) (letters (codes "end_goal") refl) (pairs_clean t.goal)))
-    (counted_clean (IsValidOperator t) operator_lines t.operators (λ o good. operator_clean o (name_parts o.name good.name).one_line) valid.operators))
+    (counted_clean (λ (o : Operator). NoFeed o.name) operator_lines t.operators operator_clean names))
     (counted_clean (λ _. Unit {0}) rule_lines t.rules (λ r is. rule_clean r) (any t.rules))
 
 -- lines without a line feed are the pieces of their text, and then nothing

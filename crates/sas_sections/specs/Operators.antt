@@ -75,3 +75,7 @@ operator metric task =
 
 unfoldable pub operators : Bool → Task → Form (List Operator)
 operators metric task = number_line >>= λ count. listed (λ _. operator metric task) count []
+
+-- the operator, with one space less at the end of its name if it has one
+abbrev pub spared : Operator → Operator
+spared o = record { name = less_space o.name; conditions = o.conditions; effects = o.effects; cost = o.cost }
