@@ -10,11 +10,12 @@ ghost use Rattle.fdr_effects.specs.Places.{values_in};
 ghost use Rattle.group_cover.specs.Cover.{IsCover};
 ghost use Rattle.fdr_encoder.specs.Operators.{operators_at};
 ghost use Rattle.fdr_encoder.specs.Encoding as parts;
+ghost use Rattle.fdr_encoder.specs.GoalForms.{goal_part_in};
 ghost use Rattle.relaxed_reach.specs.Lawful.{IsLawful};
 ghost use Rattle.relaxed_reach.specs.Layers.{AreLayers};
 ghost use Rattle.fdr_encoder.specs.Covers.{MakesVariables, IsBasicGroup};
 
-use crate::goal::{goal_pairs, goal_split, push_goal_rules, push_goal_value, push_goal_variable};
+use crate::goal::{GoalForm, goal_form};
 use crate::operators::{operators, rules};
 use crate::variables::{layer_above, start, variables};
 use fdr_effects::Index;
@@ -23,7 +24,7 @@ use fdr_effects::groups::groups;
 use group_cover::{Cover, Groups};
 use lists::List;
 use relaxed_reach::Reached;
-use sas_task::{Operator, Pair, Rule, SasTask, Variable};
+use sas_task::{Operator, Rule, SasTask, Variable};
 use std::alloc::{AllocError, Global};
 
 /// The encoding over a cover of the facts (Helmert 2009, section 6). The variable of a set of two or more facts has a
@@ -51,25 +52,25 @@ pub fn encode(
 {
     let facts = reached.facts.as_slice().len() as u64;
     let index = Index::new(alloc, facts, cover.sets.as_slice())?;
-    let members = goal_split(alloc, &index, &reached.goal)?;
+    let goal = goal_form(alloc, &index, &reached.goal)?;
     encode_over(
         alloc,
         reached,
         layers,
         &index,
         groups.groups.as_slice(),
-        members.as_slice(),
+        &goal,
     )
 }
 
-/// The encoding over the sets of the index. `members` is the split of the goal.
+/// The encoding over the sets of the index, with the goal in this form.
 fn encode_over(
     alloc: Global,
     reached: &Reached,
     layers: &[u64],
     index: &Index,
     mutexes: &[List<u64>],
-    members: &[List<Pair>],
+    goal: &GoalForm,
 ) -> Result<SasTask, AllocError>
     requires lawful { IsLawful reached.now }
     requires layers { AreLayers reached.now layers.now }
@@ -77,22 +78,22 @@ fn encode_over(
     requires apart { All IsStrictlyIncreasing index.now }
     requires groups { All (IsBasicGroup reached.now) mutexes.now }
     requires few { length reached.now.facts < 2 ^ 64 }
-    requires members { members.now ≡ parts.goal_split index.now reached.now.goal }
+    requires goal { (var layer : ℕ) → goal_part_in var layer goal.now ≡ parts.goal_part var layer (parts.goal_split index.now reached.now.goal) }
     ensures encoding { IfOk result (parts.IsEncoding index.now mutexes.now layers.now reached.now) }
     ensures valid { IfOk result IsValid }
 {
-    let variables = all_variables(alloc, reached, layers, index, members)?;
+    let variables = all_variables(alloc, reached, layers, index, goal)?;
     let groups = groups(alloc, index, mutexes)?;
-    let state = state(alloc, reached, index, members)?;
-    let goal = goal_pairs(alloc, index.variables(), members)?;
+    let state = state(alloc, reached, index, goal)?;
+    let pairs = goal.pairs(alloc, index.variables())?;
     let operators = all_operators(alloc, reached, index)?;
-    let rules = all_rules(alloc, reached, index, members)?;
+    let rules = all_rules(alloc, reached, index, goal)?;
     Ok(SasTask::from_parts(
         reached.metric,
         variables,
         groups,
         state,
-        goal,
+        pairs,
         operators,
         rules,
     ))
@@ -104,13 +105,13 @@ fn all_variables(
     reached: &Reached,
     layers: &[u64],
     index: &Index,
-    members: &[List<Pair>],
+    goal: &GoalForm,
 ) -> Result<List<Variable>, AllocError>
     requires { AreLayers reached.now layers.now }
-    ensures { (var : ℕ) → IfOk result (λ all. all ≡ map (parts.variable_over reached.now layers.now) index.now ++ (parts.goal_part var (parts.layer_above reached.now layers.now) members.now).variables) }
+    ensures { (var : ℕ) → IfOk result (λ all. all ≡ map (parts.variable_over reached.now layers.now) index.now ++ (goal_part_in var (parts.layer_above reached.now layers.now) goal.now).variables) }
 {
     let mut all = variables(alloc, reached, layers, index.sets())?;
-    push_goal_variable(alloc, &mut all, layer_above(reached, layers), members)?;
+    goal.push_variable(alloc, &mut all, layer_above(reached, layers))?;
     Ok(List::from_vec(all))
 }
 
@@ -119,10 +120,10 @@ fn state(
     alloc: Global,
     reached: &Reached,
     index: &Index,
-    members: &[List<Pair>],
+    goal: &GoalForm,
 ) -> Result<List<u64>, AllocError>
     requires { IsLawful reached.now }
-    ensures { (var layer : ℕ) → IfOk result (λ all. all ≡ values_in index.now (initial (reached_task reached.now)) ++ (parts.goal_part var layer members.now).values) }
+    ensures { (var layer : ℕ) → IfOk result (λ all. all ≡ values_in index.now (initial (reached_task reached.now)) ++ (goal_part_in var layer goal.now).values) }
 {
     let truths = flags(
         alloc,
@@ -130,7 +131,7 @@ fn state(
         reached.facts.as_slice().len(),
     )?;
     let mut all = start(alloc, truths.as_slice(), index.sets())?;
-    push_goal_value(&mut all, members)?;
+    goal.push_value(&mut all)?;
     Ok(List::from_vec(all))
 }
 
@@ -151,11 +152,11 @@ fn all_rules(
     alloc: Global,
     reached: &Reached,
     index: &Index,
-    members: &[List<Pair>],
+    goal: &GoalForm,
 ) -> Result<List<Rule>, AllocError>
-    ensures { (layer : ℕ) → IfOk result (λ all. all ≡ flat_map (parts.rules_at index.now) reached.now.axioms ++ (parts.goal_part (length index.now) layer members.now).rules) }
+    ensures { (layer : ℕ) → IfOk result (λ all. all ≡ flat_map (parts.rules_at index.now) reached.now.axioms ++ (goal_part_in (length index.now) layer goal.now).rules) }
 {
     let mut all = rules(alloc, index, reached.axioms.as_slice())?;
-    push_goal_rules(alloc, &mut all, index.variables(), members)?;
+    goal.push_rules(alloc, &mut all, index.variables())?;
     Ok(List::from_vec(all))
 }

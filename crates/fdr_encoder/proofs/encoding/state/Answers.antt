@@ -4,7 +4,7 @@ use Rattle.std.specs.List.{list_any, position_or_len}
 use Rattle.static_matcher.specs.Literals.{initial}
 use Rattle.relaxed_reach.specs.declared.types.Fact.{Fact}
 use Rattle.relaxed_reach.specs.ReachedTask.{reached_task}
-use Rattle.fdr_encoder.specs.Encoding.{goal_part}
+use Rattle.fdr_encoder.specs.GoalForms.{goal_part_in}
 use Rattle.fdr_encoder.proofs.Loops.{map_places}
 use Rattle.fdr_encoder.proofs.encoding.state.Goals as goal
 
@@ -24,4 +24,4 @@ returns c var layer =
     ∙ ap (λ (t : ℕ → Bool). map (position_or_len t) sets) same
     ∙ ap (map (position_or_len test)) c.sets.ensures
     ∙ map_places (position_or_len test) c.args.index.now [] in
-    c.from_vec.ensures ∙ c.in_ok-push_goal_value.ensures var layer ∙ ap (λ l. l ++ (goal_part var layer c.args.members.now).values) values
+    c.from_vec.ensures ∙ c.in_ok-push_value.ensures var layer ∙ ap (λ l. l ++ (goal_part_in var layer c.args.goal.now).values) values
