@@ -1,32 +1,16 @@
 -- One more turn of the loops.
-use Rattle.std.proofs.Common.{◌≡◌, ℕ, ◌+◌, ◌<◌, Bool, true, false, not, eqb, cond, ◌&&◌, List, [], ◌∷◌, ◌++◌, map, length, get_or, refl, sym, ap, ◌∙◌, arith, ◌≤◌, inl, inr, subst}
+use Rattle.std.proofs.Common.{◌≡◌, ℕ, ◌+◌, ◌<◌, Bool, true, false, not, eqb, cond, ◌&&◌, List, [], ◌∷◌, ◌++◌, map, length, get_or, refl, sym, ap, ◌∙◌, arith, subst}
 use Rattle.std.specs.Prelude.{fold}
 use Rattle.std.proofs.lemmas.List.{ext_get_or, get_or-map, length-map}
 use Rattle.std.proofs.lemmas.List.FromFn.{length-map-range_with_len, get_or-map-range_with_len}
 use Rattle.std.proofs.lemmas.List.Sums.{fold-append}
-use Rattle.std.specs.List.{filter, list_all, range_with_len, position_or_len}
-use Rattle.std.proofs.lemmas.Bool.{cases_lt, and_parts}
-use Rattle.std.proofs.lemmas.List.Sums.{position_or_len_is}
+use Rattle.std.specs.List.{filter, list_all, range_with_len}
+use Rattle.std.proofs.lemmas.Bool.{and_parts}
 use Rattle.lists.proofs.LoopSteps.{range_next}
 use Rattle.sas_task.specs.declared.parts.Pair.{Pair}
 use Rattle.sas_task.specs.declared.parts.Effect.{Effect}
 use Rattle.fdr_effects.specs.Places.{Cover, last_value}
 use Rattle.fdr_encoder.specs.Operators.{is_given, can_go, less_idle}
-
--- a search for the first number that passes
-module _ (p : ℕ → Bool) (xs : List ℕ) (i : ℕ) (before : (k : ℕ) → k < i → p (get_or xs k 0) ≡ false) where
-  pub first_here : i < length xs → p (get_or xs i 0) ≡ true → position_or_len p xs ≡ i
-  first_here within passes = position_or_len_is p xs i 0 (omega arith) before (λ h. passes)
-
-  pub first_nowhere : length xs ≤ i → position_or_len p xs ≡ length xs
-  first_nowhere past = position_or_len_is p xs (length xs) 0 (omega arith) (λ k below. before k (omega arith)) (λ h. absurd (omega arith))
-
-  pub not_yet : p (get_or xs i 0) ≡ false → (k : ℕ) → k < i + 1 → p (get_or xs k 0) ≡ false
-  not_yet fails k below =
-      elim (cases_lt k i) [
-        | inl low ↦ before k low
-        | inr high ↦ let same : k ≡ i = omega arith in ap (λ j. p (get_or xs j 0)) same ∙ fails
-      ]
 
 -- one more number of a fold
 pub fold_range_more : (f : ℕ → ℕ → ℕ) (n : ℕ) → fold f 0 (range_with_len 0 (n + 1)) ≡ f (fold f 0 (range_with_len 0 n)) n

@@ -30,13 +30,10 @@ fn new_state(alloc: Global, shown: &Chosen, task: &SasTask) -> Result<Vec<u64>, 
 fn add_start(state: &mut Vec<u64>, holder: Option<u64>) -> Result<(), AllocError>
     ensures { OnOk result (state.new.items ≡ state.old.items ++ option_map_or (λ start. start ∷ []) holder []) }
 {
-    match holder {
-        Some(start) => {
-            state.push(start)?;
-            Ok(())
-        }
-        None => Ok(()),
+    if let Some(start) = holder {
+        state.push(start)?;
     }
+    Ok(())
 }
 
 /// The values at the start, and the holder's.
@@ -89,11 +86,10 @@ fn is_busy(shown: &Chosen, operator: &Operator) -> bool
 pub fn busy_marks(alloc: Global, shown: &Chosen, task: &SasTask) -> Result<Vec<bool>, AllocError>
     ensures { IfOk result (λ marks. marks.items ≡ map (choice.is_busy (chosen shown.now)) task.now.operators) }
 {
-    let mut marks = Vec::new(alloc);
-    for i in 0..task.operators() {
-        marks.push(is_busy(shown, task.operator(i)))?;
-    }
-    Ok(marks)
+    task.operator_slice()
+        .iter()
+        .map(|operator| is_busy(shown, operator))
+        .collect(alloc)
 }
 
 /// What a restriction has beside its operators.
