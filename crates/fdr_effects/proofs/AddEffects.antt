@@ -13,7 +13,8 @@ use Rattle.sas_task.specs.declared.parts.Pair.{Pair}
 use Rattle.static_matcher.specs.declared.types.Cond.{Cond}
 use Rattle.relaxed_reach.specs.declared.types.ReachedEffect.{ReachedEffect}
 use Rattle.fdr_effects.specs.declared.rivals.Rival.{Rival}
-use Rattle.fdr_effects.specs.Places.{Cover, pair, set_of, places, stands_in}
+use Rattle.sas_task.specs.Pairs.{pair}
+use Rattle.fdr_effects.specs.Places.{Cover, set_of, places, stands_in}
 use Rattle.fdr_effects.specs.Effects.{rivals}
 use Rattle.fdr_effects.specs.Rivals.{seen, rivals_of, conditions_on, AreRivals}
 use Rattle.lists.proofs.Members.{map_member, filter_none}

@@ -7,7 +7,8 @@ use Rattle.std.proofs.lemmas.List.Kept.{IsStrictlyIncreasing-filter}
 use Rattle.sas_task.specs.declared.parts.Pair.{Pair}
 use Rattle.lists.proofs.Members.{flat_map_member, all_from_members, map_member, member_single}
 use Rattle.static_matcher.specs.declared.types.Cond.{Cond}
-use Rattle.fdr_effects.specs.Places.{Cover, pair}
+use Rattle.sas_task.specs.Pairs.{pair}
+use Rattle.fdr_effects.specs.Places.{Cover}
 use Rattle.fdr_effects.specs.Split.{is_looked_at, values_left, combinations, split}
 use Rattle.fdr_effects.specs.Marks.{on}
 use Rattle.fdr_effects.proofs.Rising.{rising_from}

@@ -16,7 +16,7 @@ use Rattle.itertools.specs.Pool.{sizes_high, pool_sizes, multi_left, ClonesEach,
 use Rattle.lists.proofs.Items.{map_flat_map, same_flat_map}
 use Rattle.lists.proofs.Members.{flat_map_member, range_member, map_member}
 use Rattle.sas_task.specs.declared.parts.Pair.{Pair}
-use Rattle.fdr_effects.specs.Places.{pair}
+use Rattle.sas_task.specs.Pairs.{pair}
 use Rattle.fdr_effects.specs.Split.{combinations}
 use Rattle.std.proofs.Math.Seq.{get_or-append_seam}
 

@@ -8,7 +8,8 @@ use Rattle.lists.proofs.Members.{no_member, member_cases, member_filter, member_
 use Rattle.sas_task.specs.declared.parts.Pair.{Pair}
 use Rattle.static_matcher.specs.declared.types.Cond.{Cond}
 use Rattle.fdr_effects.specs.Effects.{both, is_true, sets_where}
-use Rattle.fdr_effects.specs.Places.{Cover, pair, places, first_place, stands_in, last_value}
+use Rattle.sas_task.specs.Pairs.{pair}
+use Rattle.fdr_effects.specs.Places.{Cover, places, first_place, stands_in, last_value}
 use Rattle.fdr_effects.specs.Rivals.{IsRuledOut}
 use Rattle.fdr_effects.specs.Split.{split, combinations, values_left, is_left, is_looked_at}
 use Rattle.fdr_effects.proofs.Grouped.{first_listed}

@@ -19,7 +19,8 @@ use Rattle.sas_orders.specs.InOrder.{sorted}
 use Rattle.lists.proofs.Ordered.{same_ordered}
 use Rattle.sas_orders.proofs.Sorted.{sorted_member, member_sorted, sorted_ordered}
 use Rattle.lists.proofs.Members.{no_member, member_first, member_later, member_cases, member_flat_map, flat_map_member, member_range, range_member, member_map, map_member, member_filter, filter_member}
-use Rattle.fdr_effects.specs.Places.{Cover, pair, set_of, places, first_place, last_value}
+use Rattle.sas_task.specs.Pairs.{pair}
+use Rattle.fdr_effects.specs.Places.{Cover, set_of, places, first_place, last_value}
 use Rattle.fdr_effects.specs.Groups.{is_groups, group_of}
 use Rattle.fdr_effects.proofs.Sets.{has_member, member_has, place_below, at_place}
 use Rattle.fdr_effects.proofs.Placed.{place_is}

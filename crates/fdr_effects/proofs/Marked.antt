@@ -14,7 +14,8 @@ use Rattle.lists.proofs.Items.{any_flat_map, all_flat_map}
 use Rattle.sas_task.specs.declared.parts.Pair.{Pair}
 use Rattle.lists.proofs.Members.{member_first, member_range, filter_every, filter_none, flat_map_member, all_from_members, map_member, member_filter, filter_member, any_member, member_any, member_single}
 use Rattle.static_matcher.specs.declared.types.Cond.{Cond}
-use Rattle.fdr_effects.specs.Places.{Cover, pair, set_of, places, first_place, last_value}
+use Rattle.sas_task.specs.Pairs.{pair}
+use Rattle.fdr_effects.specs.Places.{Cover, set_of, places, first_place, last_value}
 use Rattle.fdr_effects.specs.Split.{is_looked_at, is_left, values_left}
 use Rattle.fdr_effects.specs.Marks.{on, leaves, pool, values_marked}
 use Rattle.fdr_effects.proofs.Grouped.{filter_map_member}

@@ -12,7 +12,8 @@ use Rattle.lists.proofs.Ordered.{pairs_head, pairs_tail}
 use Rattle.lists.proofs.Members.{no_member, member_first, member_later, member_cases}
 use Rattle.sas_task.specs.declared.parts.Pair.{Pair}
 use Rattle.static_matcher.specs.declared.types.Cond.{Cond}
-use Rattle.fdr_effects.specs.Places.{Cover, pair, places, first_place, last_value}
+use Rattle.sas_task.specs.Pairs.{pair}
+use Rattle.fdr_effects.specs.Places.{Cover, places, first_place, last_value}
 use Rattle.fdr_effects.specs.Split.{split, combinations, values_left, is_looked_at}
 use Rattle.fdr_effects.specs.Marks.{on, leaves}
 use Rattle.fdr_effects.proofs.Combined.{single_ways}

@@ -9,7 +9,8 @@ use Rattle.sas_task.specs.declared.parts.Pair.{Pair}
 use Rattle.lists.proofs.Members.{member_range, range_member, member_map, map_member, member_filter, filter_member, any_member, member_any}
 use Rattle.static_matcher.specs.declared.types.Cond.{Cond}
 use Rattle.planning.specs.Task.{State}
-use Rattle.fdr_effects.specs.Places.{Cover, pair, set_of, places, first_place, stands_in, value_in}
+use Rattle.sas_task.specs.Pairs.{pair}
+use Rattle.fdr_effects.specs.Places.{Cover, set_of, places, first_place, stands_in, value_in}
 use Rattle.relaxed_reach.specs.Exclusive.{AtMostOne}
 use Rattle.fdr_effects.proofs.Sets.{has_member, member_has, place_of_true, true_at_place}
 

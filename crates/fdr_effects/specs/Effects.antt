@@ -5,7 +5,8 @@ use Rattle.sas_task.specs.declared.parts.Pair.{Pair}
 use Rattle.sas_task.specs.declared.parts.Effect.{Effect}
 use Rattle.static_matcher.specs.declared.types.Cond.{Cond}
 use Rattle.relaxed_reach.specs.declared.types.ReachedEffect.{ReachedEffect}
-use Rattle.fdr_effects.specs.Places.{Cover, pair, places, stands_in, last_value}
+use Rattle.sas_task.specs.Pairs.{pair}
+use Rattle.fdr_effects.specs.Places.{Cover, places, stands_in, last_value}
 use Rattle.fdr_effects.specs.Split.{split}
 
 -- no literals, one positive literal, one negative literal, and the literals of both lists

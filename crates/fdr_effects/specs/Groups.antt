@@ -4,7 +4,8 @@ use Rattle.std.specs.List.{filter, flat_map, range_with_len}
 use Rattle.std.specs.Option.{option_map_or}
 use Rattle.lists.specs.Members.{is_among}
 use Rattle.sas_task.specs.declared.parts.Group.{Group}
-use Rattle.fdr_effects.specs.Places.{Cover, pair, set_of, first_place, last_value}
+use Rattle.sas_task.specs.Pairs.{pair}
+use Rattle.fdr_effects.specs.Places.{Cover, set_of, first_place, last_value}
 
 -- whether the value of the variable stands for a fact of the group, at the fact's first place
 abbrev pub is_groups : Cover → List ℕ → ℕ → ℕ → Bool

@@ -3,7 +3,8 @@ use Rattle.std.specs.Prelude.{ℕ, ◌+◌, Bool, ◌==◌, nat_eq, ◌&&◌, no
 use Rattle.std.specs.List.{list_all, filter, range_with_len, position_or_len}
 use Rattle.lists.specs.Members.{is_among}
 use Rattle.sas_task.specs.declared.parts.Pair.{Pair}
-use Rattle.fdr_effects.specs.Places.{Cover, pair, last_value}
+use Rattle.sas_task.specs.Pairs.{pair}
+use Rattle.fdr_effects.specs.Places.{Cover, last_value}
 
 -- the place of a fact in the set of a variable, where it has one
 abbrev pub place_in : ℕ → List ℕ → ℕ → List Pair

@@ -4,7 +4,8 @@ use Rattle.std.specs.List.{list_any, list_all, filter, flat_map, range_with_len}
 use Rattle.std.specs.Option.{option_map_or}
 use Rattle.sas_task.specs.declared.parts.Pair.{Pair}
 use Rattle.static_matcher.specs.declared.types.Cond.{Cond}
-use Rattle.fdr_effects.specs.Places.{Cover, pair, places, first_place, stands_in, last_value}
+use Rattle.sas_task.specs.Pairs.{pair}
+use Rattle.fdr_effects.specs.Places.{Cover, places, first_place, stands_in, last_value}
 
 -- whether the variable is looked at: it has a place of a positive literal's fact, or the first place of a negative literal's
 abbrev pub is_looked_at : Cover → Cond ℕ → ℕ → Bool

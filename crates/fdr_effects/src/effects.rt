@@ -4,7 +4,8 @@ ghost use Rattle.std.specs.Prelude.{◌≡◌, ◌++◌, true, List as Items, ma
 ghost use Rattle.std.specs.List.{list_any};
 ghost use Rattle.std.specs.List.Sorted.{IsNonDecreasingBy};
 ghost use Rattle.relaxed_reach.specs.declared.types.ReachedEffect.{ReachedEffect as Row};
-ghost use Rattle.fdr_effects.specs.Places.{pair, last_value};
+ghost use Rattle.sas_task.specs.Pairs.{pair};
+ghost use Rattle.fdr_effects.specs.Places.{last_value};
 ghost use Rattle.fdr_effects.specs.Effects as words;
 ghost use Rattle.fdr_effects.specs.Rivals.{AreRivals, IsRuledOut, conditions_on, is_no_literal};
 

@@ -1,12 +1,13 @@
 // The places of facts, found fast.
 
-ghost use Rattle.std.specs.Prelude.{◌≡◌, ◌++◌, ◌∷◌, [], ◌+◌, ◌<◌, ℕ, map, length, slice_index_or, slice_set, replicate, All, IfOk, OnOk};
+ghost use Rattle.std.specs.Prelude.{◌≡◌, ◌+◌, ◌<◌, length, All, IfOk, OnOk};
 ghost use Rattle.std.specs.List.{flat_map, filter_map};
 ghost use Rattle.std.specs.List.Sorted.{IsStrictlyIncreasing};
+ghost use Rattle.lists.specs.Rows.{Adds};
 ghost use Rattle.fdr_effects.specs.Places as cover;
 ghost use Rattle.fdr_effects.specs.Marks as marks;
 
-use lists::List;
+use lists::{List, Rows};
 use sas_task::Pair;
 use std::alloc::{AllocError, Global};
 use std::marker::Model;
@@ -15,55 +16,32 @@ use std::marker::Model;
 #[derive(Drop)]
 pub struct Index<'a> {
     sets: &'a [List<u64>],
-    of_fact: Vec<Vec<Pair>>,
+    of_fact: Rows<Pair>,
 }
 
 impl<'a> Model for Index<'a> {
-    ghost use Rattle.std.specs.Prelude.{◌≡◌, ℕ, [], map, slice_index_or};
+    ghost use Rattle.std.specs.Prelude.{◌≡◌, ℕ};
+    ghost use Rattle.lists.specs.Rows.{row_of};
     ghost use Rattle.fdr_effects.specs.Places.{Cover, places};
 
     ghost Value = { Cover };
 
     ghost view = { λ index. index.sets.now };
 
-    ghost invariant = { λ index. (fact : ℕ) → slice_index_or (map (λ row. row.items) index.of_fact.items) fact [] ≡ places index.sets.now fact };
-}
-
-/// As many empty rows.
-fn empty_rows(alloc: Global, count: u64) -> Result<Vec<Vec<Pair>>, AllocError>
-    ensures { IfOk result (λ rows. map (λ row. row.items) rows.items ≡ replicate count []) }
-{
-    let mut rows = Vec::new(alloc);
-    for _ in 0..count {
-        rows.push(Vec::new(alloc))?;
-    }
-    Ok(rows)
-}
-
-/// Adds a place to the row of a fact.
-fn push_place(rows: &mut Vec<Vec<Pair>>, fact: u64, place: Pair) -> Result<(), AllocError>
-    requires { fact < length rows.old.items }
-    ensures { OnOk result (map (λ row. row.items) rows.new.items ≡
-        slice_set (map (λ row. row.items) rows.old.items) fact (slice_index_or (map (λ row. row.items) rows.old.items) fact [] ++ place ∷ [])) }
-{
-    rows[fact as usize].push(place)?;
-    Ok(())
+    ghost invariant = { λ index. (fact : ℕ) → row_of index.of_fact fact ≡ places index.sets.now fact };
 }
 
 /// Adds the places of a variable's facts.
-fn push_set(rows: &mut Vec<Vec<Pair>>, var: u64, set: &[u64]) -> Result<(), AllocError>
-    requires facts { All (λ fact. fact < length rows.old.items) set.now }
-    requires apart { IsStrictlyIncreasing set.now }
-    ensures as_many { OnOk result (length rows.new.items ≡ length rows.old.items) }
-    ensures added { OnOk result ((fact : ℕ) → slice_index_or (map (λ row. row.items) rows.new.items) fact [] ≡
-        slice_index_or (map (λ row. row.items) rows.old.items) fact [] ++ marks.place_in var set.now fact) }
+fn push_set(rows: &mut Rows<Pair>, var: u64, set: &[u64]) -> Result<(), AllocError>
+    requires { IsStrictlyIncreasing set.now }
+    ensures { OnOk result (Adds (marks.place_in var set.now) rows.old rows.new) }
 {
     for val in 0..set.len() {
         let place = Pair {
             var,
             val: val as u64,
         };
-        push_place(rows, set[val], place)?;
+        rows.push(set[val], place)?;
     }
     Ok(())
 }
@@ -75,7 +53,7 @@ impl<'a> Index<'a> {
         requires apart { All IsStrictlyIncreasing sets.now }
         ensures { IfOk result (λ index. index ≡ sets.now) }
     {
-        let mut of_fact = empty_rows(alloc, facts)?;
+        let mut of_fact = Rows::new(alloc, facts)?;
         for var in 0..sets.len() {
             push_set(&mut of_fact, var as u64, sets[var].as_slice())?;
         }
@@ -93,10 +71,7 @@ impl<'a> Index<'a> {
     pub fn places(&self, fact: u64) -> &[Pair]
         ensures { result.now ≡ cover.places self.now fact }
     {
-        match self.of_fact.get(fact as usize) {
-            Some(places) => places.as_slice(),
-            None => &[],
-        }
+        self.of_fact.row(fact)
     }
 
     /// The first place of a fact.

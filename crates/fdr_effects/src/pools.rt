@@ -2,7 +2,7 @@
 
 ghost use Rattle.std.specs.Prelude.{◌≡◌, ◌==◌, ◌∷◌, [], ◌<◌, false, not, map, slice_index_or, All, IfOk, if◌then◌else◌};
 ghost use Rattle.std.specs.List.{filter, list_all, range_with_len};
-ghost use Rattle.fdr_effects.specs.Places.{pair};
+ghost use Rattle.sas_task.specs.Pairs.{pair};
 ghost use Rattle.fdr_effects.specs.Marks as words;
 
 use crate::flags::{flags, is_set};

@@ -3,7 +3,8 @@
 ghost use Rattle.std.specs.Prelude.{ℕ, List as Numbers, ◌≡◌, ◌++◌, [], ◌==◌, ◌||◌, ◌+◌, ◌<◌, length, map, nat_lt, All, IfOk};
 ghost use Rattle.std.specs.List.{list_any, list_all, flat_map, IsAllAdjacentAnswer};
 ghost use Rattle.std.specs.List.Sorted.{IsPermutation, IsNonDecreasingBy, IsStrictlyIncreasing};
-ghost use Rattle.fdr_effects.specs.Places.{pair, last_value};
+ghost use Rattle.sas_task.specs.Pairs.{pair};
+ghost use Rattle.fdr_effects.specs.Places.{last_value};
 ghost use Rattle.fdr_effects.specs.Marks.{values_marked};
 ghost use Rattle.std.specs.Vec.{vec_len};
 ghost use Rattle.itertools.specs.Odometer.{ways};

@@ -31,7 +31,8 @@ use Rattle.relaxed_reach.specs.declared.types.Reached.{Reached}
 use Rattle.relaxed_reach.specs.declared.types.ReachedAction.{ReachedAction}
 use Rattle.relaxed_reach.specs.declared.types.ReachedEffect.{ReachedEffect}
 use Rattle.relaxed_reach.specs.ReachedTask.{is_derived, action_row, reached_task}
-use Rattle.fdr_effects.specs.Places.{Cover, pair, set_of, first_place, last_value, value_in}
+use Rattle.sas_task.specs.Pairs.{pair}
+use Rattle.fdr_effects.specs.Places.{Cover, set_of, first_place, last_value, value_in}
 use Rattle.fdr_effects.specs.Effects.{effects_of}
 use Rattle.fdr_encoder.specs.Operators.{simplified}
 use Rattle.relaxed_reach.specs.Lawful.{IsLawfulEffect, IsLawfulAction, IsLawful}

@@ -10,7 +10,8 @@ use Rattle.lists.proofs.Members.{no_member, member_first, member_later, member_c
 use Rattle.static_matcher.specs.declared.types.Cond.{Cond}
 use Rattle.static_matcher.specs.Literals.{holds}
 use Rattle.planning.specs.Task.{State}
-use Rattle.fdr_effects.specs.Places.{Cover, pair, set_of, places, first_place, stands_in, last_value, value_in}
+use Rattle.sas_task.specs.Pairs.{pair}
+use Rattle.fdr_effects.specs.Places.{Cover, set_of, places, first_place, stands_in, last_value, value_in}
 use Rattle.fdr_effects.specs.Split.{is_looked_at, is_left, values_left, combinations, split}
 use Rattle.fdr_encoder.specs.Simulates.{Shows}
 use Rattle.fdr_effects.proofs.Placed.{AreExclusive, Stands, AllStand, place_is, place_stands, first, first_in, first_is, value_of_true, true_of_value}

@@ -24,7 +24,8 @@ use Rattle.static_matcher.specs.Literals.{initial}
 use Rattle.relaxed_reach.specs.declared.types.Reached.{Reached}
 use Rattle.relaxed_reach.specs.declared.types.ReachedAction.{ReachedAction}
 use Rattle.relaxed_reach.specs.ReachedTask.{is_derived, reached_task}
-use Rattle.fdr_effects.specs.Places.{Cover, pair, set_of, first_place, stands_in, last_value, value_in}
+use Rattle.sas_task.specs.Pairs.{pair}
+use Rattle.fdr_effects.specs.Places.{Cover, set_of, first_place, stands_in, last_value, value_in}
 use Rattle.fdr_effects.specs.Split.{is_looked_at, split}
 use Rattle.fdr_encoder.specs.Operators.{among, can_go, less_known, less_idle, effects_left, is_of_use, simplified}
 use Rattle.fdr_effects.specs.Effects.{effects_of}

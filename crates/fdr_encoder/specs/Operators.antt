@@ -5,7 +5,8 @@ use Rattle.sas_task.specs.declared.parts.Pair.{Pair}
 use Rattle.sas_task.specs.declared.parts.Effect.{Effect}
 use Rattle.sas_task.specs.declared.parts.Operator.{Operator}
 use Rattle.relaxed_reach.specs.declared.types.ReachedAction.{ReachedAction}
-use Rattle.fdr_effects.specs.Places.{Cover, pair, last_value}
+use Rattle.sas_task.specs.Pairs.{pair}
+use Rattle.fdr_effects.specs.Places.{Cover, last_value}
 use Rattle.fdr_effects.specs.Split.{split}
 use Rattle.fdr_effects.specs.Effects.{effects_of}
 

@@ -1,5 +1,6 @@
 use Rattle.std.proofs.Common.{◌++◌, append-nil, sym, ap, ◌∙◌}
-use Rattle.fdr_effects.specs.Places.{pair, last_value}
+use Rattle.sas_task.specs.Pairs.{pair}
+use Rattle.fdr_effects.specs.Places.{last_value}
 use Rattle.fdr_effects.proofs.Contradicted.{nothing_set}
 use Rattle.fdr_effects.proofs.effects.push_delete.Goals as goal
 

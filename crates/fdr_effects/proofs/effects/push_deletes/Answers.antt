@@ -2,7 +2,8 @@
 use Rattle.std.proofs.Common.{◌++◌, List, ℕ, append-nil, take_all, sym, ap, ◌∙◌}
 use Rattle.std.specs.List.{flat_map}
 use Rattle.static_matcher.specs.declared.types.Cond.{Cond}
-use Rattle.fdr_effects.specs.Places.{pair, last_value}
+use Rattle.sas_task.specs.Pairs.{pair}
+use Rattle.fdr_effects.specs.Places.{last_value}
 use Rattle.fdr_effects.specs.Effects.{both, is_true, sets_where, choices}
 use Rattle.fdr_effects.specs.Rivals.{conditions_on}
 use Rattle.fdr_effects.proofs.Loops.{no_choices}

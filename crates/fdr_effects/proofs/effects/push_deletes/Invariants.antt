@@ -1,6 +1,7 @@
 use Rattle.std.proofs.Common.{◌≡◌, ◌++◌, take}
 use Rattle.std.specs.List.{flat_map}
-use Rattle.fdr_effects.specs.Places.{pair, last_value}
+use Rattle.sas_task.specs.Pairs.{pair}
+use Rattle.fdr_effects.specs.Places.{last_value}
 use Rattle.fdr_effects.specs.Effects.{both, is_true, sets_where}
 use Rattle.fdr_effects.proofs.effects.push_deletes.Given as goal
 

@@ -2,7 +2,7 @@
 use Rattle.std.proofs.Common.{◌++◌, cond, get_or, take, take_all, append_assoc, sym, ap, ◌∙◌}
 use Rattle.std.specs.List.{flat_map}
 use Rattle.sas_task.specs.declared.parts.Pair.{Pair}
-use Rattle.fdr_effects.specs.Places.{pair}
+use Rattle.sas_task.specs.Pairs.{pair}
 use Rattle.fdr_effects.specs.Effects.{sets_where, deletes_in}
 use Rattle.fdr_effects.proofs.Loops.{flat_map_take_more}
 use Rattle.fdr_effects.proofs.effects.push_effect.Goals as goal

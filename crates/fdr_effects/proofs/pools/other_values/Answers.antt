@@ -2,7 +2,7 @@
 use Rattle.std.proofs.Common.{◌≡◌, ◌==◌, ◌<◌, [], Bool, ℕ, List, false, get_or, map, sym, ap, ◌∙◌, subst}
 use Rattle.std.specs.List.{All, filter, list_any, range_with_len}
 use Rattle.std.proofs.lemmas.Result.{IfOk-weaker}
-use Rattle.fdr_effects.specs.Places.{pair}
+use Rattle.sas_task.specs.Pairs.{pair}
 use Rattle.fdr_effects.specs.Marks.{pool}
 use Rattle.fdr_effects.proofs.Marked.{values_below, unbarred}
 use Rattle.fdr_effects.proofs.pools.other_values.Goals as goal

@@ -3,7 +3,7 @@ use Rattle.std.proofs.Common.{List, ◌++◌, map, get_or, take_all, ap, ◌∙�
 use Rattle.std.proofs.lemmas.List.{get_or_default, map-append}
 use Rattle.lists.proofs.LoopSteps.{map_turn}
 use Rattle.sas_task.specs.declared.parts.Pair.{Pair}
-use Rattle.fdr_effects.specs.Places.{pair}
+use Rattle.sas_task.specs.Pairs.{pair}
 use Rattle.fdr_effects.specs.Rivals.{seen}
 use Rattle.fdr_effects.proofs.rivals.push_places.Goals as goal
 

@@ -3,7 +3,7 @@ use Rattle.std.proofs.Common.{◌≡◌, ◌∷◌, [], ◌==◌, true, List, ma
 use Rattle.std.specs.List.{list_all, flat_map}
 use Rattle.std.proofs.lemmas.List.Folds.{list_all-map, flat_map-map}
 use Rattle.sas_task.specs.declared.parts.Pair.{Pair}
-use Rattle.fdr_effects.specs.Places.{pair}
+use Rattle.sas_task.specs.Pairs.{pair}
 use Rattle.fdr_effects.proofs.Combined.{single_ways}
 use Rattle.fdr_effects.proofs.splits.combined.Goals as goal
 

@@ -1,5 +1,5 @@
 use Rattle.std.proofs.Common.{◌≡◌, map, take}
-use Rattle.fdr_effects.specs.Places.{pair}
+use Rattle.sas_task.specs.Pairs.{pair}
 use Rattle.fdr_effects.specs.Marks.{values_marked}
 use Rattle.fdr_effects.proofs.splits.pools.Given as goal
 

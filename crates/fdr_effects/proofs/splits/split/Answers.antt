@@ -6,7 +6,8 @@ use Rattle.std.proofs.lemmas.Bool.{eqb-true}
 use Rattle.std.proofs.lemmas.List.{nil_from_length}
 use Rattle.std.proofs.lemmas.Result.{IfOk-weaker}
 use Rattle.sas_task.specs.declared.parts.Pair.{Pair}
-use Rattle.fdr_effects.specs.Places.{pair, places, first_place, last_value}
+use Rattle.sas_task.specs.Pairs.{pair}
+use Rattle.fdr_effects.specs.Places.{places, first_place, last_value}
 use Rattle.fdr_effects.specs.Split.{values_left, is_looked_at}
 use Rattle.fdr_effects.specs.Marks.{values_marked}
 use Rattle.fdr_effects.proofs.ByVariable.{members_by_variable}
