@@ -5,7 +5,7 @@ pub mod Rising
 pub mod ByVariable
 pub mod Grouped
 -- lemmas of this crate
-mod Loops
+mod NegatedChoices
 mod Looked
 mod Indexed
 mod Marked

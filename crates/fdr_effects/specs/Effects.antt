@@ -27,9 +27,9 @@ abbrev pub negations : Cond ℕ → List (Cond ℕ)
 negations literals = map is_false literals.positive ++ map is_true literals.negative
 
 -- for each choice of one literal from each list, their negations
-abbrev pub choices : List (Cond ℕ) → List (Cond ℕ)
-choices [] = no_literals ∷ []
-choices (literals ∷ lists) = flat_map (λ one. map (both one) (choices lists)) (negations literals)
+abbrev pub negated_choices : List (Cond ℕ) → List (Cond ℕ)
+negated_choices [] = no_literals ∷ []
+negated_choices (literals ∷ lists) = flat_map (λ one. map (both one) (negated_choices lists)) (negations literals)
 
 -- the conditions of the add effects of the list on any fact of the variable
 abbrev pub rivals : Cover → List ReachedEffect → ℕ → List (Cond ℕ)
@@ -42,7 +42,7 @@ sets_where cover p literals = map (λ m. record { conditions = m; var = p.var; a
 -- a delete effect sets a variable of its fact to the last value where its condition holds, its fact holds, and no add effect of the action on any fact of the variable fires
 abbrev pub deletes_in : Cover → List ReachedEffect → ReachedEffect → ℕ → List Effect
 deletes_in cover effects e var =
-    flat_map (λ choice. sets_where cover (pair var (last_value cover var)) (both e.condition (both (is_true e.fact) choice))) (choices (rivals cover effects var))
+    flat_map (λ choice. sets_where cover (pair var (last_value cover var)) (both e.condition (both (is_true e.fact) choice))) (negated_choices (rivals cover effects var))
 
 -- the effects at each place of the fact: an add effect sets the variable to the fact where its condition holds
 abbrev pub effects_at : Cover → List ReachedEffect → ReachedEffect → List Effect

@@ -13,7 +13,7 @@ use static_matcher::Cond;
 use std::alloc::{AllocError, Global};
 
 /// The numbers of both slices.
-fn joined(alloc: Global, front: &[u64], back: &[u64]) -> Result<List<u64>, AllocError>
+fn numbers_of_both(alloc: Global, front: &[u64], back: &[u64]) -> Result<List<u64>, AllocError>
     ensures { IfOk result (λ all. all ≡ front.now ++ back.now) }
 {
     let mut all = Vec::from_slice(alloc, front)?;
@@ -30,8 +30,8 @@ pub(crate) fn both(
     ensures { IfOk result (λ all. all ≡ words.both front.now back.now) }
 {
     Ok(Cond {
-        positive: joined(alloc, front.positive.as_slice(), back.positive.as_slice())?,
-        negative: joined(alloc, front.negative.as_slice(), back.negative.as_slice())?,
+        positive: numbers_of_both(alloc, front.positive.as_slice(), back.positive.as_slice())?,
+        negative: numbers_of_both(alloc, front.negative.as_slice(), back.negative.as_slice())?,
     })
 }
 
@@ -100,7 +100,7 @@ fn push_copies(
 }
 
 /// The choice with more literals.
-fn extended(choice: Cond<u64>, more: &Cond<u64>) -> Result<Cond<u64>, AllocError>
+fn choice_with(choice: Cond<u64>, more: &Cond<u64>) -> Result<Cond<u64>, AllocError>
     ensures { IfOk result (λ all. all ≡ words.both choice more.now) }
 {
     let mut all = choice;
@@ -120,13 +120,13 @@ fn push_both(
 {
     if let Some((last, others)) = ones.split_last() {
         push_copies(alloc, all, &choice, others)?;
-        all.push(extended(choice, last)?)?;
+        all.push(choice_with(choice, last)?)?;
     }
     Ok(())
 }
 
 /// Each choice with the negation of each literal.
-fn multiplied(
+fn choices_with_each(
     alloc: Global,
     choices: Vec<Cond<u64>>,
     literals: &Cond<u64>,
@@ -141,14 +141,14 @@ fn multiplied(
     Ok(all)
 }
 
-/// The choices from the conditions of the rivals on the variable.
-pub(crate) fn choices(
+/// The choices of one literal from each condition of the rivals on the variable, negated.
+pub(crate) fn negated_choices(
     alloc: Global,
     rivals: &[Rival],
     var: u64,
 ) -> Result<Vec<Cond<u64>>, AllocError>
     requires { IsNonDecreasingBy (λ r. r.var) rivals.now }
-    ensures { IfOk result (λ all. all.items ≡ words.choices (conditions_on var rivals.now)) }
+    ensures { IfOk result (λ all. all.items ≡ words.negated_choices (conditions_on var rivals.now)) }
 {
     let mut all = Vec::new(alloc);
     all.push(Cond {
@@ -156,7 +156,7 @@ pub(crate) fn choices(
         negative: List::from_vec(Vec::new(alloc)),
     })?;
     for rival in on(rivals, var) {
-        all = multiplied(alloc, all, rival.condition)?;
+        all = choices_with_each(alloc, all, rival.condition)?;
     }
     Ok(all)
 }

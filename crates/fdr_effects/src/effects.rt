@@ -9,7 +9,7 @@ ghost use Rattle.fdr_effects.specs.Places.{last_value};
 ghost use Rattle.fdr_effects.specs.Effects as words;
 ghost use Rattle.fdr_effects.specs.Rivals.{AreRivals, IsRuledOut, conditions_on, is_no_literal};
 
-use crate::choices::{both, choices, literal};
+use crate::choices::{both, literal, negated_choices};
 use crate::index::Index;
 use crate::on::on;
 use crate::rivals::{Rival, rivals};
@@ -135,7 +135,7 @@ fn push_deletes(
     if is_always_set(rivals, var) {
         return Ok(());
     }
-    let all = choices(alloc, rivals, var)?;
+    let all = negated_choices(alloc, rivals, var)?;
     for choice in all.as_slice() {
         push_delete(alloc, out, index, effect, var, choice)?;
     }

@@ -31,7 +31,7 @@ fn by_variable(marks: Vec<Pair>) -> Vec<Pair>
 }
 
 /// The variables of the marks, in order.
-fn marked(alloc: Global, wanted: &[Pair], barred: &[Pair]) -> Result<Vec<u64>, AllocError>
+fn marked_variables(alloc: Global, wanted: &[Pair], barred: &[Pair]) -> Result<Vec<u64>, AllocError>
     ensures in_order { IfOk result (λ vars. IsStrictlyIncreasing vars.items) }
     ensures marked { IfOk result (λ vars. (var : ℕ) → list_any (λ v. v == var) vars.items ≡ (list_any (λ p. p.var == var) wanted.now || list_any (λ p. p.var == var) barred.now)) }
 {
@@ -74,7 +74,7 @@ pub fn split(
         return Ok(one);
     }
     let barred = by_variable(index.first_places(alloc, literals.negative.as_slice())?);
-    let vars = marked(alloc, wanted.as_slice(), barred.as_slice())?;
+    let vars = marked_variables(alloc, wanted.as_slice(), barred.as_slice())?;
     let pools = pools(
         alloc,
         index,
@@ -82,7 +82,7 @@ pub fn split(
         barred.as_slice(),
         vars.as_slice(),
     )?;
-    combined(alloc, pools)
+    combinations(alloc, pools)
 }
 
 /// For each variable its pairs with the values that its marks leave.
@@ -148,32 +148,32 @@ fn are_single(pools: &[Vec<Pair>]) -> bool
 }
 
 /// The pairs of all pools.
-fn joined(alloc: Global, pools: &[Vec<Pair>]) -> Result<List<Pair>, AllocError>
-    ensures { IfOk result (λ joined. joined ≡ flat_map (λ pool. pool.items) pools.now) }
+fn pairs_of_all(alloc: Global, pools: &[Vec<Pair>]) -> Result<List<Pair>, AllocError>
+    ensures { IfOk result (λ all. all ≡ flat_map (λ pool. pool.items) pools.now) }
 {
-    let mut joined = Vec::with_capacity(alloc, pools.len())?;
+    let mut all = Vec::with_capacity(alloc, pools.len())?;
     for pool in pools {
-        joined.extend_from_slice(pool.as_slice())?;
+        all.extend_from_slice(pool.as_slice())?;
     }
-    Ok(List::from_vec(joined))
+    Ok(List::from_vec(all))
 }
 
 /// All ways to take one pair from each pool, the last changing fastest. Mostly there is one pair in each, and so one way.
-fn combined(alloc: Global, pools: Vec<Vec<Pair>>) -> Result<Vec<List<Pair>>, AllocError>
+fn combinations(alloc: Global, pools: Vec<Vec<Pair>>) -> Result<Vec<List<Pair>>, AllocError>
     ensures { (values : ℕ → Numbers ℕ) (vars : Numbers ℕ) →
         map (λ pool. pool.items) pools.items ≡ map (λ var. map (pair var) (values var)) vars →
         IfOk result (λ all. all.items ≡ words.combinations values vars) }
 {
     if !are_single(pools.as_slice()) {
-        return all_combined(alloc, pools);
+        return product_of(alloc, pools);
     }
-    let one = joined(alloc, pools.as_slice())?;
+    let one = pairs_of_all(alloc, pools.as_slice())?;
     let all = vec![in alloc; one]?;
     Ok(all)
 }
 
 /// All ways to take one pair from each pool, the last changing fastest.
-fn all_combined(alloc: Global, pools: Vec<Vec<Pair>>) -> Result<Vec<List<Pair>>, AllocError>
+fn product_of(alloc: Global, pools: Vec<Vec<Pair>>) -> Result<Vec<List<Pair>>, AllocError>
     ensures { (values : ℕ → Numbers ℕ) (vars : Numbers ℕ) →
         map (λ pool. pool.items) pools.items ≡ map (λ var. map (pair var) (values var)) vars →
         IfOk result (λ all. all.items ≡ words.combinations values vars) }

@@ -8,7 +8,7 @@ use Rattle.lists.proofs.Members.{no_member, member_first, member_later, member_c
 use Rattle.static_matcher.specs.declared.types.Cond.{Cond}
 use Rattle.static_matcher.specs.Literals.{holds}
 use Rattle.planning.specs.Task.{State}
-use Rattle.fdr_effects.specs.Effects.{no_literals, is_true, is_false, both, negations, choices}
+use Rattle.fdr_effects.specs.Effects.{no_literals, is_true, is_false, both, negations, negated_choices}
 use Rattle.fdr_effects.specs.Places.{Cover}
 use Rattle.fdr_effects.proofs.Placed.{Stands, AllStand}
 
@@ -73,21 +73,21 @@ module _ (full : State ℕ) where
             both_ways (full f.0) (not-true (full f.0) (all_pass (λ g. not (full g)) c.negative f.0 parts.1 f.1)) (is_true_back f.0 (subst (λ q. holds full q ≡ true) (sym f.2) on))
       ])
 
-  pub choices_on : (lists : List (Cond ℕ)) → ((c : Cond ℕ) → Contains lists c → holds full c ≡ false) → (choice : Cond ℕ) × Contains (choices lists) choice × (holds full choice ≡ true)
+  pub choices_on : (lists : List (Cond ℕ)) → ((c : Cond ℕ) → Contains lists c → holds full c ≡ false) → (choice : Cond ℕ) × Contains (negated_choices lists) choice × (holds full choice ≡ true)
   choices_on [] fail = (no_literals, member_first no_literals [], refl)
   choices_on (c ∷ lists) fail =
       let rest = choices_on lists (λ d in'. fail d (member_later c d lists in')) in
       let one = negation_on c (fail c (member_first c lists)) in (
         both one.0 rest.0,
-        member_flat_map (λ n. map (both n) (choices lists)) (negations c) one.0 (both one.0 rest.0) one.1 (member_map (both one.0) (choices lists) rest.0 rest.1),
+        member_flat_map (λ n. map (both n) (negated_choices lists)) (negations c) one.0 (both one.0 rest.0) one.1 (member_map (both one.0) (negated_choices lists) rest.0 rest.1),
         both_on one.0 rest.0 one.2 rest.2,
       )
 
-  pub choices_back : (lists : List (Cond ℕ)) (choice : Cond ℕ) → Contains (choices lists) choice → holds full choice ≡ true → (c : Cond ℕ) → Contains lists c → holds full c ≡ false
+  pub choices_back : (lists : List (Cond ℕ)) (choice : Cond ℕ) → Contains (negated_choices lists) choice → holds full choice ≡ true → (c : Cond ℕ) → Contains lists c → holds full c ≡ false
   choices_back [] choice in' on c none = absurd (no_member c none)
   choices_back (d ∷ lists) choice in' on c here =
-      let one = flat_map_member (λ n. map (both n) (choices lists)) (negations d) choice in' in
-      let rest = map_member (both one.0) (choices lists) choice one.2 in
+      let one = flat_map_member (λ n. map (both n) (negated_choices lists)) (negations d) choice in' in
+      let rest = map_member (both one.0) (negated_choices lists) choice one.2 in
       let parts = both_back one.0 rest.0 (subst (λ q. holds full q ≡ true) (sym rest.2) on) in
       elim (member_cases d c lists here) [
         | inl same ↦ subst (λ q. holds full q ≡ false) same (negation_back d one.0 one.1 parts.0)
@@ -118,11 +118,11 @@ module _ (cover : Cover) where
         | inr neg ↦ let f = map_member is_true c.negative one neg in subst (AllStand cover) f.2 (is_true_stands f.0 (on.negative f.0 f.1))
       ]
 
-  pub choices_stand : (lists : List (Cond ℕ)) → ((c : Cond ℕ) → Contains lists c → AllStand cover c) → (choice : Cond ℕ) → Contains (choices lists) choice → AllStand cover choice
+  pub choices_stand : (lists : List (Cond ℕ)) → ((c : Cond ℕ) → Contains lists c → AllStand cover c) → (choice : Cond ℕ) → Contains (negated_choices lists) choice → AllStand cover choice
   choices_stand [] on choice in' =
       subst (AllStand cover) (member_single no_literals choice in') (record { positive = λ f none. absurd (no_member f none); negative = λ f none. absurd (no_member f none) })
   choices_stand (c ∷ lists) on choice in' =
-      let one = flat_map_member (λ n. map (both n) (choices lists)) (negations c) choice in' in
-      let rest = map_member (both one.0) (choices lists) choice one.2 in
+      let one = flat_map_member (λ n. map (both n) (negated_choices lists)) (negations c) choice in' in
+      let rest = map_member (both one.0) (negated_choices lists) choice one.2 in
       subst (AllStand cover) rest.2
       (both_stand one.0 rest.0 (negations_stand c one.0 (on c (member_first c lists)) one.1) (choices_stand lists (λ d here. on d (member_later c d lists here)) rest.0 rest.1))

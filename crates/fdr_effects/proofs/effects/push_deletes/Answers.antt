@@ -4,9 +4,9 @@ use Rattle.std.specs.List.{flat_map}
 use Rattle.static_matcher.specs.declared.types.Cond.{Cond}
 use Rattle.sas_task.specs.Pairs.{pair}
 use Rattle.fdr_effects.specs.Places.{last_value}
-use Rattle.fdr_effects.specs.Effects.{both, is_true, sets_where, choices}
+use Rattle.fdr_effects.specs.Effects.{both, is_true, sets_where, negated_choices}
 use Rattle.fdr_effects.specs.Rivals.{conditions_on}
-use Rattle.fdr_effects.proofs.Loops.{no_choices}
+use Rattle.fdr_effects.proofs.NegatedChoices.{no_choices}
 use Rattle.fdr_effects.proofs.effects.push_deletes.Goals as goal
 
 pub returns-then-is_always_set : goal.returns-then-is_always_set
@@ -15,7 +15,7 @@ returns-then-is_always_set c effects are =
     let var = c.args.var in
     let out = c.args.out.now.items in
     let f = λ (choice : Cond ℕ). sets_where c.args.index.now (pair var (last_value c.args.index.now var)) (both e.condition (both (is_true e.fact) choice)) in
-    let none = ap choices (sym (are var)) ∙ no_choices (conditions_on var c.args.rivals.now) (sym c.is_always_set.ensures ∙ c.if-is_always_set.true) in
+    let none = ap negated_choices (sym (are var)) ∙ no_choices (conditions_on var c.args.rivals.now) (sym c.is_always_set.ensures ∙ c.if-is_always_set.true) in
     sym (ap (λ (cs : List (Cond ℕ)). out ++ flat_map f cs) none ∙ append-nil out)
 
 pub returns : goal.returns
@@ -24,4 +24,4 @@ returns c effects are =
     let var = c.args.var in
     let f = λ (choice : Cond ℕ). sets_where c.args.index.now (pair var (last_value c.args.index.now var)) (both e.condition (both (is_true e.fact) choice)) in
     c.loop-choice.invariant
-    ∙ ap (λ (cs : List (Cond ℕ)). c.args.out.now.items ++ flat_map f cs) (take_all c.loop-choice.choice-index c.as_slice-choice-items.result.now c.loop-choice-test.false ∙ c.as_slice-choice-items.ensures.value ∙ c.in_ok-all.ensures ∙ ap choices (are var))
+    ∙ ap (λ (cs : List (Cond ℕ)). c.args.out.now.items ++ flat_map f cs) (take_all c.loop-choice.choice-index c.as_slice-choice-items.result.now c.loop-choice-test.false ∙ c.as_slice-choice-items.ensures.value ∙ c.in_ok-all.ensures ∙ ap negated_choices (are var))

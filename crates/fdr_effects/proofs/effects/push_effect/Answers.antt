@@ -1,10 +1,11 @@
 -- Place by place.
-use Rattle.std.proofs.Common.{◌++◌, cond, get_or, take, take_all, append_assoc, sym, ap, ◌∙◌}
+use Rattle.std.proofs.Common.{◌++◌, cond, get_or, take_all, ap, ◌∙◌}
 use Rattle.std.specs.List.{flat_map}
+use Rattle.std.proofs.lemmas.List.{get_or_default}
+use Rattle.lists.proofs.LoopSteps.{flat_map_turn}
 use Rattle.sas_task.specs.declared.parts.Pair.{Pair}
 use Rattle.sas_task.specs.Pairs.{pair}
 use Rattle.fdr_effects.specs.Effects.{sets_where, deletes_in}
-use Rattle.fdr_effects.proofs.Loops.{flat_map_take_more}
 use Rattle.fdr_effects.proofs.effects.push_effect.Goals as goal
 
 pub loop-place-preserved : goal.loop-place-preserved
@@ -13,10 +14,8 @@ loop-place-preserved c effects are =
     let f = λ (p : Pair). cond e.adds (sets_where c.args.index.now p e.condition) (deletes_in c.args.index.now effects e p.var) in
     let i = c.loop-place.place-index in
     let items = c.places-place-items.result.now in
-    c.in_ok-push_at.ensures effects are
-    ∙ ap (λ l. l ++ f (get_or items i (pair 0 0))) (c.loop-place.invariant effects are)
-    ∙ append_assoc c.args.out.now.items (flat_map f (take i items)) (f (get_or items i (pair 0 0)))
-    ∙ ap (λ l. c.args.out.now.items ++ l) (sym (flat_map_take_more f items i (pair 0 0) c.loop-place-test.true))
+    let place = get_or items i (pair 0 0) in
+    flat_map_turn items i place c.loop-place-test.true (get_or_default items i (pair 0 0) place c.loop-place-test.true) f c.args.out.now.items c.loop-place.out.items c.push_at.new.out.items (c.loop-place.invariant effects are) (c.in_ok-push_at.ensures effects are)
 
 pub returns : goal.returns
 returns c effects are =

@@ -51,7 +51,7 @@ returns-clause-split c =
     ∙ ap (λ (ws : List Pair). list_any (λ p. eqb p.var var) ws || list_any (λ p. eqb p.var var) c.as_slice-5.result.now) c.as_slice-4.ensures.value
     ∙ ap (λ (bs : List Pair). list_any (λ p. eqb p.var var) wanted || list_any (λ p. eqb p.var var) bs) c.as_slice-5.ensures.value
     ∙ sym (looked_at_is cover literals wanted barred wants bars var) in
-    c.combined.ensures values (filter (is_looked_at cover literals) (range_with_len 0 (length cover))) (
+    c.combinations.ensures values (filter (is_looked_at cover literals) (range_with_len 0 (length cover))) (
     c.in_ok-pools.ensures
     ∙ ap (λ ws. of ws c.as_slice-7.result.now c.as_slice-8.result.now) c.as_slice-6.ensures.value
     ∙ ap (λ bs. of wanted bs c.as_slice-8.result.now) c.as_slice-7.ensures.value
@@ -61,7 +61,7 @@ returns-clause-split c =
 
 pub returns-clause-by_variable : goal.returns-clause-by_variable
 returns-clause-by_variable c =
-    IfOk-weaker c.combined.result _ (λ all. All (IsNonDecreasingBy (λ (p : Pair). p.var)) all.items) (λ all is.
+    IfOk-weaker c.combinations.result _ (λ all. All (IsNonDecreasingBy (λ (p : Pair). p.var)) all.items) (λ all is.
     subst (All (IsNonDecreasingBy (λ (p : Pair). p.var))) (sym is) (members_by_variable c.args.index.now c.args.literals.now)) (returns-clause-split c)
 
 pub returns-then-rise-clause-split : goal.returns-then-rise-clause-split

@@ -1,5 +1,5 @@
 -- One more effect.
-use Rattle.std.proofs.Common.{◌==◌, ◌&&◌, true, false, cond, [], ◌∷◌, take, sym, ap, ◌∙◌, subst, take_all}
+use Rattle.std.proofs.Common.{◌==◌, ◌&&◌, true, cond, [], ◌∷◌, take, sym, ap, ◌∙◌, subst, take_all}
 use Rattle.std.specs.List.{list_any}
 use Rattle.std.proofs.lemmas.List.Folds.{list_any-append}
 use Rattle.lists.proofs.LoopSteps.{take_next}

@@ -5,7 +5,7 @@ use Rattle.std.proofs.lemmas.List.Folds.{list_all-map, flat_map-map}
 use Rattle.sas_task.specs.declared.parts.Pair.{Pair}
 use Rattle.sas_task.specs.Pairs.{pair}
 use Rattle.fdr_effects.proofs.Combined.{single_ways}
-use Rattle.fdr_effects.proofs.splits.combined.Goals as goal
+use Rattle.fdr_effects.proofs.splits.combinations.Goals as goal
 
 pub returns : goal.returns
 returns c values vars same =

@@ -1,7 +1,7 @@
 use Rattle.std.proofs.Common.{◌≡◌, map}
 use Rattle.std.specs.List.{flat_map}
 use Rattle.fdr_effects.specs.Effects.{both, negations}
-use Rattle.fdr_effects.proofs.choices.multiplied.Given as goal
+use Rattle.fdr_effects.proofs.choices.choices_with_each.Given as goal
 
 abbrev pub invariant-loop-choice : goal.invariant-loop-choice
 invariant-loop-choice l = l.all.items ≡ flat_map (λ choice. map (λ one. both choice one) (negations l.literals)) l.yielded

@@ -7,7 +7,7 @@ use Rattle.std.proofs.lemmas.List.Concat.{flat_map-append}
 use Rattle.lists.proofs.Items.{map_itself}
 use Rattle.static_matcher.specs.declared.types.Cond.{Cond}
 use Rattle.fdr_effects.specs.Effects.{both, negations}
-use Rattle.fdr_effects.proofs.choices.multiplied.Goals as goal
+use Rattle.fdr_effects.proofs.choices.choices_with_each.Goals as goal
 
 pub loop-choice-preserved : goal.loop-choice-preserved
 loop-choice-preserved c =

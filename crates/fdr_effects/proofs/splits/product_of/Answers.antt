@@ -6,7 +6,7 @@ use Rattle.itertools.specs.Odometer.{ways}
 use Rattle.itertools.specs.Pool.{multi_left, sizes_high, pool_sizes, ClonesEach}
 use Rattle.lists.proofs.Members.{member_first, member_later}
 use Rattle.fdr_effects.proofs.Combined.{items, read, low, taken, taken_are, all_ways, all_fit, read_is, ways_of, one_taken}
-use Rattle.fdr_effects.proofs.splits.all_combined.Goals as goal
+use Rattle.fdr_effects.proofs.splits.product_of.Goals as goal
 
 pub loop-member-init : goal.loop-member-init
 loop-member-init c =

@@ -4,8 +4,8 @@ use Rattle.std.specs.List.{list_all}
 use Rattle.sas_task.specs.declared.parts.Pair.{Pair}
 use Rattle.sas_task.specs.declared.parts.Effect.{Effect}
 use Rattle.fdr_encoder.specs.Operators.{less_idle}
-use Rattle.fdr_encoder.proofs.Loops.{apart_stay}
-use Rattle.fdr_encoder.proofs.simplify.simplified.Goals as goal
+use Rattle.fdr_encoder.proofs.ConditionsStay.{apart_stay}
+use Rattle.fdr_encoder.proofs.simplify.simplified_effects.Goals as goal
 
 pub returns-then-are_apart : goal.returns-then-are_apart
 returns-then-are_apart c =

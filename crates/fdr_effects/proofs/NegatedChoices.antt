@@ -1,19 +1,13 @@
--- One more turn of the loops.
-use Rattle.std.proofs.Common.{◌≡◌, ℕ, ◌+◌, ◌<◌, Bool, true, false, eqb, ◌&&◌, ◌||◌, List, [], ◌∷◌, ◌++◌, map, take, length, get_or, append-nil, append_assoc, refl, sym, ap, ◌∙◌, arith}
+-- Choices of one literal from each list: one more list adds its literals at the end, and a list without literals leaves no choice.
+use Rattle.std.proofs.Common.{◌≡◌, ℕ, Bool, true, false, eqb, ◌&&◌, ◌||◌, List, [], ◌∷◌, ◌++◌, map, length, append-nil, append_assoc, refl, sym, ap, ◌∙◌, arith}
 use Rattle.std.proofs.lemmas.List.{map-append}
 use Rattle.std.proofs.lemmas.Simd.{map-map}
 use Rattle.std.specs.List.{flat_map, list_any}
 use Rattle.std.proofs.lemmas.Bool.{and_parts, eqb-true}
-use Rattle.std.proofs.lemmas.List.{take_more}
 use Rattle.std.proofs.lemmas.List.Concat.{flat_map-append}
 use Rattle.static_matcher.specs.declared.types.Cond.{Cond}
-use Rattle.fdr_effects.specs.Effects.{no_literals, is_true, is_false, both, negations, choices}
+use Rattle.fdr_effects.specs.Effects.{no_literals, is_true, is_false, both, negations, negated_choices}
 use Rattle.fdr_effects.specs.Rivals.{is_no_literal}
-
--- one more piece
-pub flat_map_take_more : {X Y : Type 0} (f : X → List Y) (xs : List X) (i : ℕ) (d : X) → i < length xs → flat_map f (take (i + 1) xs) ≡ flat_map f (take i xs) ++ f (get_or xs i d)
-flat_map_take_more f xs i d within =
-    ap (flat_map f) (take_more xs i d within) ∙ flat_map-append f (take i xs) (get_or xs i d ∷ []) ∙ ap (λ l. flat_map f (take i xs) ++ l) (append-nil (f (get_or xs i d)))
 
 -- the literals of three lists, in either grouping
 both_assoc : (a b c : Cond ℕ) → both a (both b c) ≡ both (both a b) c
@@ -51,29 +45,29 @@ module _ (ones : List (Cond ℕ)) where
   alone_with [] = refl
   alone_with (one ∷ fronts) = ap (λ c. c ∷ flat_map (λ one. map (both one) (no_literals ∷ [])) fronts) (both_none one) ∙ ap (λ l. both no_literals one ∷ l) (alone_with fronts)
 
-pub choices_more : (lists : List (Cond ℕ)) (last : Cond ℕ) → choices (lists ++ last ∷ []) ≡ flat_map (λ choice. map (λ one. both choice one) (negations last)) (choices lists)
+pub choices_more : (lists : List (Cond ℕ)) (last : Cond ℕ) → negated_choices (lists ++ last ∷ []) ≡ flat_map (λ choice. map (λ one. both choice one) (negations last)) (negated_choices lists)
 choices_more [] last = alone_with (negations last) (negations last) ∙ sym (append-nil (map (both no_literals) (negations last)))
 choices_more (l ∷ lists) last =
     ap (λ cs. flat_map (λ one. map (both one) cs) (negations l)) (choices_more lists last)
-    ∙ fronts_in (negations last) (choices lists) (negations l)
+    ∙ fronts_in (negations last) (negated_choices lists) (negations l)
 
 -- no choice where one of the lists has no literal
 no_pieces : (ones : List (Cond ℕ)) → flat_map (λ one. map (both one) []) ones ≡ []
 no_pieces [] = refl
 no_pieces (one ∷ ones) = no_pieces ones
 
-pub no_choices : (lists : List (Cond ℕ)) → list_any is_no_literal lists ≡ true → choices lists ≡ []
+pub no_choices : (lists : List (Cond ℕ)) → list_any is_no_literal lists ≡ true → negated_choices lists ≡ []
 no_choices [] some = cc
 no_choices (literals ∷ lists) some = by_test (no_choices lists) (is_no_literal literals) refl some
   where
     emptied : (positive negative : List ℕ) → (eqb (length positive) 0 && eqb (length negative) 0) ≡ true →
-        flat_map (λ one. map (both one) (choices lists)) (map is_false positive ++ map is_true negative) ≡ []
+        flat_map (λ one. map (both one) (negated_choices lists)) (map is_false positive ++ map is_true negative) ≡ []
     emptied [] [] none = refl
     emptied [] (n ∷ ns) none = let is : length (n ∷ ns) ≡ 0 = eqb-true (length (n ∷ ns)) 0 none in absurd (omega (arith, is))
     emptied (p ∷ ps) ns none =
         let is : length (p ∷ ps) ≡ 0 = eqb-true (length (p ∷ ps)) 0 (and_parts (eqb (length (p ∷ ps)) 0) (eqb (length ns) 0) none).0 in
         absurd (omega (arith, is))
 
-    by_test : (list_any is_no_literal lists ≡ true → choices lists ≡ []) → (b : Bool) → is_no_literal literals ≡ b → (b || list_any is_no_literal lists) ≡ true → choices (literals ∷ lists) ≡ []
+    by_test : (list_any is_no_literal lists ≡ true → negated_choices lists ≡ []) → (b : Bool) → is_no_literal literals ≡ b → (b || list_any is_no_literal lists) ≡ true → negated_choices (literals ∷ lists) ≡ []
     by_test rest true is some' = emptied literals.positive literals.negative is
     by_test rest false is some' = ap (λ cs. flat_map (λ one. map (both one) cs) (negations literals)) (rest some') ∙ no_pieces (negations literals)

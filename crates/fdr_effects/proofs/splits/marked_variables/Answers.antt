@@ -9,7 +9,7 @@ use Rattle.std.proofs.lemmas.Map.Keys.{IsStrictlyIncreasing-dedup}
 use Rattle.lists.proofs.Items.{any_map}
 use Rattle.sas_task.specs.declared.parts.Pair.{Pair}
 use Rattle.fdr_effects.proofs.Marked.{any_dedup}
-use Rattle.fdr_effects.proofs.splits.marked.Goals as goal
+use Rattle.fdr_effects.proofs.splits.marked_variables.Goals as goal
 
 pub returns-clause-in_order : goal.returns-clause-in_order
 returns-clause-in_order c =

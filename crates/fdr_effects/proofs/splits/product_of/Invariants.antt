@@ -2,7 +2,7 @@ use Rattle.std.proofs.Common.{◌≡◌, ◌++◌, List, ℕ, map, true}
 use Rattle.std.specs.List.{Contains}
 use Rattle.itertools.specs.Pool.{multi_left}
 use Rattle.fdr_effects.proofs.Combined.{items, read, fits}
-use Rattle.fdr_effects.proofs.splits.all_combined.Given as goal
+use Rattle.fdr_effects.proofs.splits.product_of.Given as goal
 
 abbrev pub invariant-loop-member : goal.invariant-loop-member
 invariant-loop-member l =

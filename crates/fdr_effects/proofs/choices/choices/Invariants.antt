@@ -1,6 +1,0 @@
-use Rattle.std.proofs.Common.{◌≡◌, map, take}
-use Rattle.fdr_effects.specs.Effects.{choices}
-use Rattle.fdr_effects.proofs.choices.choices.Given as goal
-
-abbrev pub invariant-loop-rival : goal.invariant-loop-rival
-invariant-loop-rival l = l.all.items ≡ choices (map (λ r. r.condition.now) (take l.rival-index l.rival-items))
