@@ -32,7 +32,7 @@ use Rattle.sas_task.proofs.Orders.{operator_total}
 use Rattle.sas_orders.proofs.Sorted.{arranged_member}
 use Rattle.sas_restriction.specs.Choice.{operator_stays}
 use Rattle.sas_restriction.specs.Restriction.{new_operator, new_operators}
-use Rattle.task_simplifier.specs.Projection.{projected, nothing_twice, project_to, values_in}
+use Rattle.task_simplifier.specs.Projection.{projected, nothing_twice, project_to, kept_in}
 use Rattle.plan_backmap.specs.Solutions.{NamesTellCosts}
 use Rattle.operator_costs.specs.Laws.{InEncodings, InRestrictions, InProjections}
 use Rattle.operator_costs.proofs.Told.{Tells, IsFrom, tell_too}
@@ -134,9 +134,9 @@ in_restrictions choice old new restricts tells =
 
 pub in_projections : InProjections
 in_projections encoded task is tells =
-    let C = projected (values_in is.kept) encoded in
+    let C = projected (kept_in is.kept) encoded in
     subst (λ (t : Task). NamesTellCosts t.operators) (sym is.same)
-    (tell_too operator_name (λ (o : Operator). o.cost) operator_name (λ (o : Operator). o.cost) encoded.operators (project_to (values_in is.kept) encoded).operators
+    (tell_too operator_name (λ (o : Operator). o.cost) operator_name (λ (o : Operator). o.cost) encoded.operators (project_to (kept_in is.kept) encoded).operators
     (λ o in'.
     let m = map_member (new_operator nothing_twice C) (filter (operator_stays C) encoded.operators) o (arranged_member operator_cmp operator_total nothing_twice.operators (new_operators nothing_twice C encoded) o in') in
     let f = filter_member (operator_stays C) encoded.operators m.0 m.1 in

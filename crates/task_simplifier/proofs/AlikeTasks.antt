@@ -15,7 +15,7 @@ use Rattle.sas_restriction.specs.Restriction.{restriction}
 use Rattle.sas_restriction.proofs.Alike.{IsBlind, one_restriction}
 use Rattle.sas_restriction.proofs.Valid.{one_after}
 use Rattle.task_simplifier.specs.Kept.{IsKept, Initial, ByEffect, ByRule, AreKept}
-use Rattle.task_simplifier.specs.Projection.{stays, nothing_twice, projected, project_to, values_in, IsProjection}
+use Rattle.task_simplifier.specs.Projection.{stays, nothing_twice, projected, project_to, kept_in, IsProjection}
 use Rattle.task_simplifier.proofs.OneProjection.{one_projection}
 
 -- ---- kept values
@@ -81,9 +81,9 @@ project_alike kept a b agree is =
 pub one_of_alike : (a b p q : Task) → RulesAgree a → AreAlike a b → IsProjection a p → IsProjection b q → p ≡ q
 one_of_alike a b p q agree is one other =
     one.same
-    ∙ project_alike (values_in one.kept) a b agree is
-    ∙ one_projection b (project_to (values_in one.kept) b) q
-    (record { kept = one.kept; count = one.count ∙ ap (λ (vs : List Variable). length vs) is.variables; are = are_kept_alike a b is (values_in one.kept) one.are; same = refl })
+    ∙ project_alike (kept_in one.kept) a b agree is
+    ∙ one_projection b (project_to (kept_in one.kept) b) q
+    (record { kept = one.kept; count = one.count ∙ ap (λ (vs : List Variable). length vs) is.variables; are = are_kept_alike a b is (kept_in one.kept) one.are; same = refl })
     other
 
 -- the rules of a valid task agree

@@ -25,7 +25,7 @@ use Rattle.names.specs.declared.arcs.Arc.{Arc}
 use Rattle.graph_search.specs.Reached.{IsReached, First, Next, AreReached}
 use Rattle.task_simplifier.specs.declared.moves.Move.{Move}
 use Rattle.task_simplifier.specs.Kept.{IsKept, Initial, ByEffect, ByRule, AreKept}
-use Rattle.task_simplifier.specs.Projection.{values_in}
+use Rattle.task_simplifier.specs.Projection.{kept_in}
 use Rattle.task_simplifier.specs.Moves.{leave, named, agree, move_to, moves_on, moves_of_effect, moves_of_operator, moves_of_rule, moves_of, arc}
 
 -- the value from which a move leads
@@ -260,7 +260,7 @@ module _ (task : Task) (var : ℕ) where
 
 -- the lists of the variables so far, with one more
 abbrev pub AllListed : Task → ℕ → List (List ℕ) → Type 0
-AllListed task count kept = (length kept ≡ count) × ((var : ℕ) → var < count → Lists task var (values_in kept var))
+AllListed task count kept = (length kept ≡ count) × ((var : ℕ) → var < count → Lists task var (kept_in kept var))
 
 pub one_more : (task : Task) (count : ℕ) (kept new : List (List ℕ)) (list : List ℕ) → new ≡ kept ++ list ∷ [] → AllListed task count kept → Lists task count list → AllListed task (count + 1) new
 one_more task count kept new list new-is before this =
@@ -273,11 +273,11 @@ one_more task count kept new list new-is before this =
         | inr past ↦
             let last : var ≡ count = omega (arith, low, past) in
             let at : get_or (kept ++ list ∷ []) count [] ≡ list = ap (λ n. get_or (kept ++ list ∷ []) n []) (sym before.0) ∙ get_or-append_seam kept list [] [] in
-            subst (λ v. Lists task v (values_in (kept ++ list ∷ []) v)) (sym last) (subst (Lists task count) (sym at) this)
+            subst (λ v. Lists task v (kept_in (kept ++ list ∷ []) v)) (sym last) (subst (Lists task count) (sym at) this)
       ],
     )
 
-pub all_kept : (task : Task) (count : ℕ) (kept : List (List ℕ)) → length task.variables ≤ count → AllListed task count kept → AreKept task (values_in kept)
+pub all_kept : (task : Task) (count : ℕ) (kept : List (List ℕ)) → length task.variables ≤ count → AllListed task count kept → AreKept task (kept_in kept)
 all_kept task count kept past all =
     record {
       sorted = λ var below. (all.1 var (omega (arith, below, past))).sorted;

@@ -5,11 +5,11 @@ use Rattle.sas_task.specs.Task.{Task}
 use Rattle.sas_restriction.specs.Listed.{Listed, chosen}
 use Rattle.sas_restriction.specs.Choice.{is_busy}
 use Rattle.task_simplifier.specs.Kept.{AreKept}
-use Rattle.task_simplifier.specs.Projection.{stays, holder, values_in}
+use Rattle.task_simplifier.specs.Projection.{stays, holder, kept_in}
 
 -- the variables that stay, of so many
 abbrev pub staying : List (List ℕ) → ℕ → List ℕ
-staying kept count = filter (stays (values_in kept)) (range_with_len 0 count)
+staying kept count = filter (stays (kept_in kept)) (range_with_len 0 count)
 
 abbrev pub listed : List ℕ → List (List ℕ) → Option ℕ → Listed
 listed vars kept start = record { vars = vars; values = kept; holder = start }
@@ -23,6 +23,6 @@ left kept task =
 pub record IsLeft (task : Task) (shown : Listed) (marks : List Bool) : Type 0 where
   pub kept : List (List ℕ)
   pub count : length kept ≡ length task.variables
-  pub are : AreKept task (values_in kept)
+  pub are : AreKept task (kept_in kept)
   pub shown_is : shown ≡ left kept task
   pub marks_are : marks ≡ map (is_busy (chosen shown)) task.operators

@@ -7,7 +7,7 @@ ghost use Rattle.sas_task.specs.Pairs.{pair};
 ghost use Rattle.sas_task.specs.Valid.{IsValid};
 ghost use Rattle.sas_task.specs.Alike.{AreAlike, RulesAgree};
 ghost use Rattle.sas_task.specs.Keeps.{Keeps, KeepsChanging};
-ghost use Rattle.task_simplifier.specs.Projection.{values_in, project_to, IsProjection};
+ghost use Rattle.task_simplifier.specs.Projection.{kept_in, project_to, IsProjection};
 ghost use Rattle.task_simplifier.specs.Kept.{IsKept};
 ghost use Rattle.task_simplifier.specs.Examples.{shut, shut_kept, shut_projected, doubled, doubled_projected};
 
@@ -33,10 +33,10 @@ pub fn orders_forgotten()
 /// kept is false: the holder is added for both.
 pub fn worked_example()
     ensures hall { (goal : List Pair) (val : ℕ) → IsKept (shut goal) 0 val → val ≡ 0 }
-    ensures projected { project_to (values_in shut_kept) (shut (pair 3 0 ∷ [])) ≡ shut_projected }
-    ensures once { project_to (values_in shut_kept) doubled ≡ doubled_projected }
-    ensures empty_goal { (project_to (values_in shut_kept) (shut (pair 0 0 ∷ []))).goal ≡ pair 3 0 ∷ [] }
-    ensures empty_goal_met { (project_to (values_in shut_kept) (shut (pair 0 0 ∷ []))).state ≡ 1 ∷ 1 ∷ 1 ∷ 0 ∷ [] }
-    ensures false_goal { (project_to (values_in shut_kept) (shut (pair 0 1 ∷ []))).goal ≡ pair 3 0 ∷ [] }
-    ensures false_goal_missed { (project_to (values_in shut_kept) (shut (pair 0 1 ∷ []))).state ≡ 1 ∷ 1 ∷ 1 ∷ 1 ∷ [] }
+    ensures projected { project_to (kept_in shut_kept) (shut (pair 3 0 ∷ [])) ≡ shut_projected }
+    ensures once { project_to (kept_in shut_kept) doubled ≡ doubled_projected }
+    ensures empty_goal { (project_to (kept_in shut_kept) (shut (pair 0 0 ∷ []))).goal ≡ pair 3 0 ∷ [] }
+    ensures empty_goal_met { (project_to (kept_in shut_kept) (shut (pair 0 0 ∷ []))).state ≡ 1 ∷ 1 ∷ 1 ∷ 0 ∷ [] }
+    ensures false_goal { (project_to (kept_in shut_kept) (shut (pair 0 1 ∷ []))).goal ≡ pair 3 0 ∷ [] }
+    ensures false_goal_missed { (project_to (kept_in shut_kept) (shut (pair 0 1 ∷ []))).state ≡ 1 ∷ 1 ∷ 1 ∷ 1 ∷ [] }
 {}
