@@ -3,7 +3,6 @@
 ghost use Rattle.std.specs.Prelude.{◌≡◌, ◌<◌, ◌++◌, ◌==◌, ◌&&◌, not, [], map, length, is_none, IfOk, OnOk};
 ghost use Rattle.std.specs.List.{list_all, list_any, range_with_len};
 ghost use Rattle.sas_task.specs.Pairs.{pair};
-ghost use Rattle.pass_possible.specs.Possible.{fact_of};
 ghost use Rattle.pass_possible.specs.Possible as possible;
 ghost use Rattle.fact_pairs.specs.Facts as words;
 
@@ -61,19 +60,6 @@ pub fn initial_facts(alloc: Global, task: &SasTask) -> Result<Vec<Pair>, AllocEr
     Ok(facts)
 }
 
-/// What the effects make true.
-pub fn facts_of(alloc: Global, effects: &[Effect]) -> Result<Vec<Pair>, AllocError>
-    ensures { IfOk result (λ facts. facts.items ≡ map fact_of effects.now) }
-{
-    effects
-        .iter()
-        .map(|effect| Pair {
-            var: effect.var,
-            val: effect.after,
-        })
-        .collect(alloc)
-}
-
 /// Whether one of the effects gives the effect's variable another value.
 fn disagrees(effect: &Effect, effects: &[Effect]) -> bool
     ensures { result ≡ list_any (λ b. (effect.now.var == b.var) && not (effect.now.after == b.after)) effects.now }
@@ -87,26 +73,6 @@ pub fn is_mixed(operator: &Operator) -> bool
 {
     let effects = operator.effects.as_slice();
     effects.iter().any(|effect| disagrees(effect, effects))
-}
-
-/// Whether some effect of the operator is on the variable.
-pub fn names(operator: &Operator, var: u64) -> bool
-    ensures { result ≡ possible.names operator.now var }
-{
-    operator
-        .effects
-        .as_slice()
-        .iter()
-        .any(|effect| effect.var == var)
-}
-
-/// All places of operators.
-pub fn all_places(alloc: Global, operators: &[Operator]) -> Result<Vec<u64>, AllocError>
-    ensures { IfOk result (λ queue. queue.items ≡ map (λ n. n) (range_with_len 0 (length operators.now))) }
-{
-    (0..operators.len() as u64)
-        .map(|place| place)
-        .collect(alloc)
 }
 
 /// Whether no effect of the operator has a condition.
@@ -150,11 +116,4 @@ pub fn is_in_goal(goal: &[Pair], var: u64, val: u64) -> bool
     ensures { result ≡ list_any (λ p. (p.var == var) && (p.val == val)) goal.now }
 {
     goal.iter().any(|pair| pair.var == var && pair.val == val)
-}
-
-/// All variables, by their numbers.
-pub fn variables(alloc: Global, task: &SasTask) -> Result<Vec<u64>, AllocError>
-    ensures { IfOk result (λ vars. vars.items ≡ map (λ n. n) (range_with_len 0 (length task.now.variables))) }
-{
-    (0..task.variables()).map(|var| var).collect(alloc)
 }

@@ -5,7 +5,5 @@ mod facts;
 mod marks;
 mod table;
 
-pub use facts::{
-    all_places, facts_of, initial_facts, is_in_goal, is_mixed, is_plain, names, variables,
-};
+pub use facts::{initial_facts, is_in_goal, is_mixed, is_plain};
 pub use table::{Table, all_marked, goes_with, wakes_at};

@@ -22,10 +22,10 @@ counted_of n v = record { operators = n; var = v }
 pub order_is : (task : Task) (turn : ℕ) (tallies : List Tally) → AreTallies task turn task.operators tallies →
     map (λ (c : Counted). c.var) (in_order counted_cmp (map (counted_by (λ var. (get_or tallies var no_tally).operators)) (range_with_len 0 (length task.variables)))) ≡ variable_order task
 order_is task turn tallies are =
-    ap (λ cs. map (λ (c : Counted). c.var) (in_order counted_cmp cs)) (same_map (counted_by (λ var. (get_or tallies var no_tally).operators)) (counted_by (changing_operators task)) (range_with_len 0 (length task.variables)) (λ v in'.
+    ap (λ cs. map (λ (c : Counted). c.var) (in_order counted_cmp cs)) (same_map (counted_by (λ var. (get_or tallies var no_tally).operators)) (counted_by (changing_operators task.operators)) (range_with_len 0 (length task.variables)) (λ v in'.
     ap (λ n. counted_of n v) (are.operators_at v no_tally (range_member (length task.variables) v (contains_among (range_with_len 0 (length task.variables)) v in')))))
-    ∙ ap (map (λ (c : Counted). c.var)) (order_mapped (counted_by (changing_operators task)) (variable_cmp task) counted_cmp (λ a b. refl) (range_with_len 0 (length task.variables)))
-    ∙ map_back (counted_by (changing_operators task)) (λ (c : Counted). c.var) (λ v. refl) (variable_order task)
+    ∙ ap (map (λ (c : Counted). c.var)) (order_mapped (counted_by (changing_operators task.operators)) (variable_cmp task) counted_cmp (λ a b. refl) (range_with_len 0 (length task.variables)))
+    ∙ map_back (counted_by (changing_operators task.operators)) (λ (c : Counted). c.var) (λ v. refl) (variable_order task)
 
 -- what the code holds of the choice
 abbrev pub all_leave : Operator → Bool

@@ -1,8 +1,8 @@
 -- Words that the private contracts of the count share. No public clause cites them.
 use Rattle.std.specs.Prelude.{◌≡◌, ℕ, ◌+◌, ◌<◌, ◌≤◌, Bool, ◌==◌, List, All, length, slice_index_or, if◌then◌else◌}
-use Rattle.std.specs.List.{list_any, count_by}
 use Rattle.sas_task.specs.declared.parts.Operator.{Operator}
 use Rattle.sas_task.specs.Task.{Task}
+use Rattle.sas_restriction.specs.Reordered.{changing_operators}
 use Rattle.order_variables.specs.declared.tallies.Tally.{Tally}
 
 -- a tally counts at most one operator a turn
@@ -19,12 +19,8 @@ pub record AreCounted (turn : ℕ) (test : ℕ → Bool) (old new : List Tally) 
   pub count : length new ≡ length old
   pub at : (var : ℕ) (d : Tally) → var < length old → slice_index_or new var d ≡ (if test var then counted_in turn (slice_index_or old var d) else slice_index_or old var d)
 
--- how many of these operators have an effect on the variable
-abbrev pub changing : List Operator → ℕ → ℕ
-changing operators var = count_by (λ o. list_any (λ e. e.var == var) o.effects) operators
-
 -- the tallies of the task's variables once these operators are counted, one a turn
 pub record AreTallies (task : Task) (turn : ℕ) (operators : List Operator) (tallies : List Tally) : Type 0 where
   pub count : length tallies ≡ length task.variables
-  pub operators_at : (var : ℕ) (d : Tally) → var < length task.variables → (slice_index_or tallies var d).operators ≡ changing operators var
+  pub operators_at : (var : ℕ) (d : Tally) → var < length task.variables → (slice_index_or tallies var d).operators ≡ changing_operators operators var
   pub fair : All (IsTally turn) tallies

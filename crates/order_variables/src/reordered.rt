@@ -5,8 +5,8 @@ ghost use Rattle.sas_restriction.specs.Reordered.{IsReordered};
 
 use crate::counted::variable_order;
 use restricted_task::restrict;
-use sas_restriction::{Once, all_marks, all_values, is_valid};
-use sas_task::SasTask;
+use sas_restriction::{Once, all_marks, all_values};
+use sas_task::{SasTask, is_valid};
 use std::alloc::{AllocError, Global};
 
 /// The task with its variables ordered by how many operators have an effect on them, fewest first, and those with as

@@ -1,10 +1,10 @@
 // How many operators change each variable.
 
 ghost use Rattle.std.specs.Prelude.{◌≡◌, ◌==◌, IfOk, All, length};
-ghost use Rattle.std.specs.List.{list_any};
+ghost use Rattle.sas_task.specs.Effects.{changes};
 ghost use Rattle.order_variables.specs.Tallies.{IsTally, AreCounted, AreTallies, counted_in};
 
-use sas_task::{Effect, SasTask};
+use sas_task::{Operator, SasTask};
 use std::alloc::{AllocError, Global};
 
 /// How many operators were found to change a variable, and the turn of the last of them. Turns count from 1.
@@ -42,11 +42,11 @@ fn count_change(tallies: &mut [Tally], turn: u64, var: u64)
 }
 
 /// Counts the changes of an operator.
-fn count_changes(tallies: &mut [Tally], turn: u64, effects: &[Effect])
+fn count_changes(tallies: &mut [Tally], turn: u64, operator: &Operator)
     requires { All (IsTally turn) tallies.old }
-    ensures { AreCounted turn (λ v. list_any (λ e. e.var == v) effects.now) tallies.old tallies.new }
+    ensures { AreCounted turn (changes operator.now) tallies.old tallies.new }
 {
-    for effect in effects {
+    for effect in operator.effects.as_slice() {
         count_change(tallies, turn, effect.var);
     }
 }
@@ -63,7 +63,7 @@ pub(crate) fn tallies(alloc: Global, task: &SasTask) -> Result<Vec<Tally>, Alloc
     let mut turn = 0;
     for operator in task.operator_slice() {
         turn += 1;
-        count_changes(tallies.as_mut_slice(), turn, operator.effects.as_slice());
+        count_changes(tallies.as_mut_slice(), turn, operator);
     }
     Ok(tallies)
 }

@@ -1,12 +1,11 @@
 -- The turns of the search: in each the operators of a queue are looked at, and where the queue is empty what is found are the possible pairs.
-use Rattle.std.proofs.Common.{◌≡◌, ℕ, ◌+◌, ◌<◌, Bool, true, false, not, cond, ◌||◌, eqb, List, [], ◌∷◌, map, fold, length, get_or, replicate, Option, Some, None, ◌⊎◌, refl, sym, ap, ◌∙◌, subst, inl, inr, arith}
+use Rattle.std.proofs.Common.{◌≡◌, ℕ, ◌+◌, ◌<◌, Bool, true, false, not, cond, ◌||◌, eqb, List, [], ◌∷◌, fold, length, get_or, replicate, Option, Some, None, ◌⊎◌, refl, sym, ap, ◌∙◌, subst, inl, inr, arith}
 use Rattle.std.specs.List.{Contains, slice_get, list_all, list_any, range_with_len}
 use Rattle.std.specs.Option.{option_map_or}
 use Rattle.std.proofs.lemmas.Bool.{cases_Bool, and_parts, and_from, or_right, cases_lt, ne_eqb, false≢true}
 use Rattle.std.proofs.lemmas.List.{length-replicate, get_or-replicate, get_or_default, get_or_past}
 use Rattle.std.proofs.lemmas.List.FromFn.{get_or-map-range_with_len, length-map-range_with_len}
 use Rattle.std.proofs.lemmas.Option.{slice_get_within, slice_get-get_or, get_or_from_slice_get, same_Some, none-some}
-use Rattle.lists.proofs.Items.{map_itself}
 use Rattle.lists.proofs.Members.{no_member, member_first, member_cases, all_pass, each_passes, any_member, member_any, map_member, member_map, filter_member, member_filter, member_range, range_member}
 use Rattle.sas_task.specs.declared.parts.Pair.{Pair}
 use Rattle.sas_task.specs.declared.parts.Operator.{Operator}
@@ -252,7 +251,7 @@ module _ (T : Task) (valid : IsValid T) where
       let le = low_high (number_in (nothing T) p) (number_in (nothing T) q) in
       false≢true (sym (ap (λ row. get_or row l false) (open_row h both-low.0) ∙ get_or-replicate (h + 1) l false false (omega (arith, le))) ∙ is)
 
-  pub begins : Between (initial_pairs T) (map (λ n. n) (range_with_len 0 (length T.operators)))
+  pub begins : Between (initial_pairs T) (range_with_len 0 (length T.operators))
   begins =
       record {
         searched = record {
@@ -269,7 +268,7 @@ module _ (T : Task) (valid : IsValid T) where
           ];
         };
         initial = λ p q is-p is-q. there p q (initial_fact p is-p) (initial_fact q is-q);
-        each = λ i o at. inl (subst (λ queue. Contains queue i) (sym (map_itself (range_with_len 0 (length T.operators)))) (member_range (length T.operators) i (slice_get_within T.operators i o at)));
+        each = λ i o at. inl (member_range (length T.operators) i (slice_get_within T.operators i o at));
       }
     where
       adds : Adds (λ p q. Contains (initial_facts T) p × Contains (initial_facts T) q) (nothing T) (initial_pairs T)

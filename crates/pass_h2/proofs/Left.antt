@@ -9,7 +9,6 @@ use Rattle.std.proofs.lemmas.Option.{slice_get_past}
 use Rattle.std.proofs.lemmas.List.{get_or_past}
 use Rattle.std.proofs.lemmas.List.FromFn.{get_or-map-range_with_len, length-map-range_with_len}
 use Rattle.std.proofs.lemmas.List.Kept.{IsStrictlyIncreasing-filter}
-use Rattle.lists.proofs.Items.{map_itself}
 use Rattle.lists.proofs.Members.{range_member, all_from_members, map_member}
 use Rattle.sas_task.specs.declared.parts.Variable.{Variable}
 use Rattle.sas_task.specs.Task.{Task}
@@ -44,14 +43,11 @@ module _ (T : Task) (pairs : Pairs) where
   abbrev with_values : List ℕ → (ℕ → List ℕ) → Choice
   with_values vars values = record { vars = vars; values = values; operators = is_possible pairs; holder = None }
 
-  module _ (vars : List ℕ) (values : List (List ℕ)) (vars-are : vars ≡ map (λ v. v) variables) (values-are : values ≡ map wanted variables) where
-    all_vars : vars ≡ variables
-    all_vars = vars-are ∙ map_itself variables
-
+  module _ (vars : List ℕ) (values : List (List ℕ)) (vars-are : vars ≡ variables) (values-are : values ≡ map wanted variables) where
     pub choice_is : (shown : Listed) → shown ≡ listed vars values → with_operators shown (is_possible pairs) ≡ possible_alone pairs T
     choice_is shown is =
         ap (λ (shown : Listed). with_operators shown (is_possible pairs)) is
-        ∙ ap (λ vars. with_operators (listed vars values) (is_possible pairs)) all_vars
+        ∙ ap (λ vars. with_operators (listed vars values) (is_possible pairs)) vars-are
         ∙ ap (λ values. with_operators (listed variables values) (is_possible pairs)) values-are
         ∙ ap (with_values variables) (fun_ext listed_at)
 
@@ -60,7 +56,7 @@ module _ (T : Task) (pairs : Pairs) where
     inside =
         subst (λ vs. All (λ v. v < length vs) vars) (sym values-are)
         (subst (λ n. All (λ v. v < n) vars) (sym (length-map-range_with_len wanted 0 (length T.variables)))
-        (subst (All (λ v. v < length T.variables)) (sym all_vars) (all_from_members (λ v. v < length T.variables) variables (λ v in'. range_member (length T.variables) v in'))))
+        (subst (All (λ v. v < length T.variables)) (sym vars-are) (all_from_members (λ v. v < length T.variables) variables (λ v in'. range_member (length T.variables) v in'))))
 
     pub rising : All IsStrictlyIncreasing values
     rising =

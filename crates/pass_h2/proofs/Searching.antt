@@ -10,7 +10,8 @@ use Rattle.sas_task.specs.declared.parts.Operator.{Operator}
 use Rattle.sas_task.specs.Task.{Task}
 use Rattle.sas_task.specs.Valid.{IsValid, IsFact}
 use Rattle.sas_task.proofs.ValidParts.{effect_law}
-use Rattle.pass_possible.specs.Possible.{is_mixed, names, fact_of, Pairs, all_pairs, is_possible, HasPossible}
+use Rattle.sas_task.specs.Effects.{changes, fact_of}
+use Rattle.pass_possible.specs.Possible.{is_mixed, Pairs, all_pairs, is_possible, HasPossible}
 use Rattle.fact_pairs.specs.Facts.{all_facts, starts}
 use Rattle.fact_pairs.specs.Finds.{Finds, number_in, found}
 use Rattle.pass_h2.specs.Search.{with_all, led_to, looked, stays_beside}
@@ -43,7 +44,7 @@ module _ (T : Task) (valid : IsValid T) where
   -- the operator leads to nothing else: where it was possible by the first, the second has its pairs
   pub record Answered (f g : Finds) (o : Operator) : Type 0 where
     pub effects : is_possible (found f) o ≡ true → (a b : Effect) → Contains o.effects a → Contains o.effects b → found g (fact_of a) (fact_of b) ≡ true
-    pub effect : is_possible (found f) o ≡ true → (e : Effect) (p : Pair) → Contains o.effects e → names o p.var ≡ false → found f p p ≡ true → list_all (λ q. found f p q) o.conditions ≡ true → found g (fact_of e) p ≡ true
+    pub effect : is_possible (found f) o ≡ true → (e : Effect) (p : Pair) → Contains o.effects e → changes o p.var ≡ false → found f p p ≡ true → list_all (λ q. found f p q) o.conditions ≡ true → found g (fact_of e) p ≡ true
 
   pub answered_within : (e f g h : Finds) (o : Operator) → ((p q : Pair) → found e p q ≡ true → found f p q ≡ true) → ((p q : Pair) → found g p q ≡ true → found h p q ≡ true) → Answered f g o → Answered e h o
   answered_within e f g h o before after a =
@@ -90,11 +91,11 @@ module _ (T : Task) (valid : IsValid T) where
     effects_found : (p q : Pair) → Contains E p → Contains E q → found mid p q ≡ true
     effects_found p q in-p in-q = all_found E E f s.shaped p q in-p in-q (low_effect p in-p) (low_effect q in-q)
 
-    beside_parts : (p : Pair) → stays_beside f o p ≡ true → (found f p p ≡ true) × (names o p.var ≡ false) × (list_all (λ q. found f p q) o.conditions ≡ true)
+    beside_parts : (p : Pair) → stays_beside f o p ≡ true → (found f p p ≡ true) × (changes o p.var ≡ false) × (list_all (λ q. found f p q) o.conditions ≡ true)
     beside_parts p is =
-        let one = and_parts (found f p p) (not (names o p.var) && list_all (λ q. found f p q) o.conditions) is in
-        let two = and_parts (not (names o p.var)) (list_all (λ q. found f p q) o.conditions) one.1 in
-        (one.0, not-true (names o p.var) two.0, two.1)
+        let one = and_parts (found f p p) (not (changes o p.var) && list_all (λ q. found f p q) o.conditions) is in
+        let two = and_parts (not (changes o p.var)) (list_all (λ q. found f p q) o.conditions) one.1 in
+        (one.0, not-true (changes o p.var) two.0, two.1)
 
     -- what an operator that is possible leads to
     module _ (is : is_possible (found f) o ≡ true) where
@@ -160,8 +161,8 @@ module _ (T : Task) (valid : IsValid T) where
                 let at = numbered f.facts f.starts p low in
                 all_found E B mid first.shaped (fact_of e) p in-E
                 (member_filter (stays_beside f o) f.facts p (listed f.facts (number_in f p) p at)
-                (and_from (found f p p) (not (names o p.var) && list_all (λ q. found f p q) o.conditions) itself
-                (and_from (not (names o p.var)) (list_all (λ q. found f p q) o.conditions) (ap not free) all)))
+                (and_from (found f p p) (not (changes o p.var) && list_all (λ q. found f p q) o.conditions) itself
+                (and_from (not (changes o p.var)) (list_all (λ q. found f p q) o.conditions) (ap not free) all)))
                 (found_low mid first.shaped (fact_of e) (fact_of e) (effects_found (fact_of e) (fact_of e) in-E in-E)).0
                 (found_low mid first.shaped p p (first.grows p p itself)).0;
           }

@@ -5,7 +5,8 @@ use Rattle.std.specs.Option.{option_map_or}
 use Rattle.sas_task.specs.declared.parts.Pair.{Pair}
 use Rattle.sas_task.specs.declared.parts.Operator.{Operator}
 use Rattle.sas_task.specs.Task.{Task}
-use Rattle.pass_possible.specs.Possible.{fact_of, names, is_possible}
+use Rattle.sas_task.specs.Effects.{changes, fact_of}
+use Rattle.pass_possible.specs.Possible.{is_possible}
 use Rattle.fact_pairs.specs.Facts.{initial_facts}
 use Rattle.fact_pairs.specs.Finds.{Finds, high, low, number_in, mark_or, found, with_mark, nothing, settled, is_woken_at}
 
@@ -24,7 +25,7 @@ with_all others finds facts = fold (λ f p. with_each p f others) finds facts
 
 -- whether the operator leaves the fact as it is, beside its conditions
 abbrev pub stays_beside : Finds → Operator → Pair → Bool
-stays_beside finds o g = found finds g g && (not (names o g.var) && list_all (λ p. found finds g p) o.conditions)
+stays_beside finds o g = found finds g g && (not (changes o g.var) && list_all (λ p. found finds g p) o.conditions)
 
 -- with the pairs that a possible operator leads to
 abbrev pub led_to : Finds → Operator → Finds

@@ -10,11 +10,11 @@ ghost use Rattle.pass_possible.specs.Pruned as pruned;
 ghost use Rattle.fact_pairs.specs.Finds.{found, nothing};
 
 use crate::search::{is_possible, mark_possible};
-use fact_pairs::{Table, is_in_goal, is_plain, variables};
+use fact_pairs::{Table, is_in_goal, is_plain};
 use lists::List;
 use restricted_task::restrict;
-use sas_restriction::{Chosen, Once, is_valid};
-use sas_task::{Operator, Pair, SasTask};
+use sas_restriction::{Chosen, Once, numbers_below};
+use sas_task::{Operator, Pair, SasTask, is_valid};
 use std::alloc::{AllocError, Global};
 
 /// Whether the value is possible or in the goal.
@@ -84,7 +84,7 @@ fn possible_marks(
 fn chosen(alloc: Global, table: &Table, task: &SasTask) -> Result<Chosen, AllocError>
     ensures { IfOk result (λ shown. with_operators shown (possible.is_possible (found table.now)) ≡ pruned.possible_alone (found table.now) task.now) }
 {
-    let vars = variables(alloc, task)?;
+    let vars = numbers_below(alloc, task.variables())?;
     let values = wanted_of_each(alloc, table, task)?;
     Chosen::new(alloc, vars, values, None)
 }

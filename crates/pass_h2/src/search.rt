@@ -7,10 +7,9 @@ ghost use Rattle.pass_possible.specs.Possible as possible;
 ghost use Rattle.fact_pairs.specs.Finds as pairs;
 ghost use Rattle.pass_h2.specs.Search as words;
 
-use fact_pairs::{
-    Table, all_marked, all_places, facts_of, goes_with, initial_facts, is_mixed, names, wakes_at,
-};
-use sas_task::{Operator, Pair, SasTask};
+use fact_pairs::{Table, all_marked, goes_with, initial_facts, is_mixed, wakes_at};
+use sas_restriction::numbers_below;
+use sas_task::{Operator, Pair, SasTask, changes, facts_set};
 use std::alloc::{AllocError, Global};
 
 /// Marks the pair, if it has a place and no mark.
@@ -53,12 +52,12 @@ pub(crate) fn is_possible(table: &Table, operator: &Operator) -> bool
     !is_mixed(operator) && all_marked(table, operator.conditions.as_slice())
 }
 
-/// Whether the fact is marked, is of a variable that no effect of the operator is on, and is marked with each condition.
+/// Whether the fact is marked, is of a variable that the operator doesn't change, and is marked with each condition.
 fn stays_beside(table: &Table, operator: &Operator, fact: &Pair) -> bool
     ensures { result ≡ words.stays_beside table.now operator.now fact.now }
 {
     table.has(fact, fact)
-        && !names(operator, fact.var)
+        && !changes(operator, fact.var)
         && goes_with(table, fact, operator.conditions.as_slice())
 }
 
@@ -78,7 +77,7 @@ fn facts_beside(alloc: Global, table: &Table, operator: &Operator) -> Result<Vec
 fn add_successors(alloc: Global, table: &mut Table, operator: &Operator) -> Result<(), AllocError>
     ensures { OnOk result (table.new ≡ words.led_to table.old operator.now) }
 {
-    let facts = facts_of(alloc, operator.effects.as_slice())?;
+    let facts = facts_set(alloc, operator.effects.as_slice())?;
     let beside = facts_beside(alloc, table, operator)?;
     add_all(table, facts.as_slice(), facts.as_slice());
     add_all(table, facts.as_slice(), beside.as_slice());
@@ -172,7 +171,7 @@ pub(crate) fn mark_possible(
 {
     mark_initial(alloc, table, task)?;
     let operators = task.operator_slice();
-    let mut queue = all_places(alloc, operators)?;
+    let mut queue = numbers_below(alloc, operators.len() as u64)?;
     while !queue.is_empty() {
         queue = turn(alloc, table, operators, queue.as_slice())?;
     }

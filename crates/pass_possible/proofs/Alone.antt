@@ -5,6 +5,7 @@ use Rattle.std.proofs.lemmas.Bool.{eq-eqb, and_parts, and_from, or_left, or_righ
 use Rattle.std.proofs.lemmas.Option.{none-some}
 use Rattle.std.proofs.lemmas.List.Elements.{All-contains}
 use Rattle.std.proofs.lemmas.List.Kept.{IsStrictlyIncreasing-filter}
+use Rattle.lists.specs.Members.{is_among}
 use Rattle.lists.proofs.Members.{no_member, each_passes, range_member, member_range, all_from_members, member_filter, filter_member, member_any}
 use Rattle.sas_task.specs.declared.parts.Pair.{Pair}
 use Rattle.sas_task.specs.declared.parts.Effect.{Effect}
@@ -72,7 +73,7 @@ module _ (T : Task) (valid : IsValid T) (is-plain : is_plain T ≡ true) (pairs 
         initial = λ v below. possible_left v (get_or T.state v 0) (valid.state v below) (closed.state (pair v (get_or T.state v 0)) (pair v (get_or T.state v 0)) (below, refl) (below, refl));
         by_rules = λ r in' stays. absurd (no_member r (subst (λ rs. Contains rs r) plain.no_rule in'));
         two_valued = tt;
-        goal_left = λ none. each_passes (λ (p : Pair). list_any (λ v. eqb v p.val) (wanted p.var)) T.goal (λ p in'. numbers.member_any p.val (wanted p.var) (goal_left p in'));
+        goal_left = λ none. each_passes (λ (p : Pair). is_among eqb (wanted p.var) p.val) T.goal (λ p in'. numbers.member_any p.val (wanted p.var) (goal_left p in'));
       }
 
   pub may : MayStand (possible_alone pairs T) T

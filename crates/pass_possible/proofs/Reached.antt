@@ -12,6 +12,7 @@ use Rattle.sas_task.specs.declared.parts.Effect.{Effect}
 use Rattle.sas_task.specs.declared.parts.Operator.{Operator}
 use Rattle.sas_task.specs.Task.{Task}
 use Rattle.sas_task.specs.Pairs.{pair}
+use Rattle.sas_task.specs.Effects.{changes, fact_of}
 use Rattle.sas_task.specs.Valid.{IsValid, IsFact}
 use Rattle.sas_task.specs.Values.{all_hold, values}
 use Rattle.sas_task.specs.Solution.{Fires, Step, IsReachable}
@@ -19,7 +20,7 @@ use Rattle.sas_task.proofs.Completion.{none_derived}
 use Rattle.sas_task.proofs.Successors.{FiringOn, firing_or_none}
 use Rattle.sas_task.proofs.States.{is_variable, successor_agrees}
 use Rattle.sas_task.proofs.ValidParts.{operator_law}
-use Rattle.pass_possible.specs.Possible.{is_plain, is_mixed, names, fact_of, Pairs, all_pairs, is_possible, HasPossible, ArePossible}
+use Rattle.pass_possible.specs.Possible.{is_plain, is_mixed, Pairs, all_pairs, is_possible, HasPossible, ArePossible}
 use Rattle.sas_task.proofs.RisingPairs.{pair_is}
 
 empty_list : {X : Type 0} (xs : List X) → eqb (length xs) 0 ≡ true → xs ≡ []
@@ -171,15 +172,15 @@ module _ (T : Task) (valid : IsValid T) (plain : Plain T) (has : Pairs) (closed 
       kept_at v below none =
           pair_is (fact s v) (fact t v) refl (sym (step.successor.keeps v (subst (λ n. v < n) (sym held.count) below) (all_from_members (λ e. Fires T s e → e.var ≢ v) o.effects none)))
 
-      unnamed : (v : ℕ) → ((e : Effect) → Contains o.effects e → Fires T s e → e.var ≢ v) → names o v ≡ false
-      unnamed v none = none_passes (λ (e : Effect). eqb e.var v) o.effects (λ e in' on. none e in' (fires s o e step.of_task in') (eqb-true e.var v on))
+      unchanged : (v : ℕ) → ((e : Effect) → Contains o.effects e → Fires T s e → e.var ≢ v) → changes o v ≡ false
+      unchanged v none = none_passes (λ (e : Effect). eqb e.var v) o.effects (λ e in' on. none e in' (fires s o e step.of_task in') (eqb-true e.var v on))
 
       -- an effect beside a fact that stays
       beside : (v w : ℕ) → w < length T.variables → FiringOn T s o.effects v → ((e : Effect) → Contains o.effects e → Fires T s e → e.var ≢ w) → has (fact t v) (fact t w) ≡ true
       beside v w in-w f none =
           subst (λ p. has p (fact t w) ≡ true) (set_to v f)
           (subst (λ q. has (fact_of f.effect) q ≡ true) (kept_at w in-w none)
-          (closed.effect o f.effect (fact s w) step.of_task step_possible f.listed (unnamed w none) (held.pairs w w in-w in-w) (beside_conditions (fact s w) in-w refl)))
+          (closed.effect o f.effect (fact s w) step.of_task step_possible f.listed (unchanged w none) (held.pairs w w in-w in-w) (beside_conditions (fact s w) in-w refl)))
 
       next_pair : (v w : ℕ) → v < length T.variables → w < length T.variables → Choice v → Choice w → has (fact t v) (fact t w) ≡ true
       next_pair v w in-v in-w (inl f) (inl g) =

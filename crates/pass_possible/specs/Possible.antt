@@ -1,10 +1,11 @@
 -- Which pairs of facts may hold together, as far as pairs show (Haslum and Geffner 2000: h2).
-use Rattle.std.specs.Prelude.{◌≡◌, ℕ, ◌<◌, Bool, false, IsTrue, ◌==◌, ◌&&◌, not, List, length, Contains, is_none, slice_index}
+use Rattle.std.specs.Prelude.{◌≡◌, ◌<◌, Bool, false, IsTrue, ◌==◌, ◌&&◌, not, List, length, Contains, is_none, slice_index}
 use Rattle.std.specs.List.{list_all, list_any}
 use Rattle.sas_task.specs.declared.parts.Pair.{Pair}
 use Rattle.sas_task.specs.declared.parts.Effect.{Effect}
 use Rattle.sas_task.specs.declared.parts.Operator.{Operator}
 use Rattle.sas_task.specs.Task.{Task}
+use Rattle.sas_task.specs.Effects.{changes, fact_of}
 
 -- no variable is derived, there is no rule, and no effect has a condition
 abbrev pub is_plain : Task → Bool
@@ -15,14 +16,6 @@ is_plain task =
 -- two effects of the operator give one variable two values: in a plain task it never has a successor
 abbrev pub is_mixed : Operator → Bool
 is_mixed o = list_any (λ a. list_any (λ b. (a.var == b.var) && not (a.after == b.after)) o.effects) o.effects
-
--- some effect of the operator is on the variable
-abbrev pub names : Operator → ℕ → Bool
-names o var = list_any (λ e. e.var == var) o.effects
-
--- what the effect makes true
-abbrev pub fact_of : Effect → Pair
-fact_of e = record { var = e.var; val = e.after }
 
 -- the fact holds in the written state
 abbrev pub IsInitial : Task → Pair → Type 0
@@ -44,12 +37,12 @@ is_possible pairs o = not (is_mixed o) && all_pairs pairs o.conditions
 -- turned: with a pair the same two facts in the other order
 -- state: the pairs of facts of the written state
 -- effects: of an operator that is possible by it, the pairs of facts that its effects make true
--- effect: and each of these facts with each fact of a variable that no effect of the operator is on, where it has this one with itself and with each of the operator's conditions
+-- effect: and each of these facts with each fact of a variable that the operator doesn't change, where it has this one with itself and with each of the operator's conditions
 pub record HasPossible (task : Task) (has : Pairs) : Type 0 where
   pub turned : (p q : Pair) → IsTrue (has p q) → IsTrue (has q p)
   pub state : (p q : Pair) → IsInitial task p → IsInitial task q → IsTrue (has p q)
   pub effects : (o : Operator) (a b : Effect) → Contains task.operators o → IsTrue (is_possible has o) → Contains o.effects a → Contains o.effects b → IsTrue (has (fact_of a) (fact_of b))
-  pub effect : (o : Operator) (e : Effect) (g : Pair) → Contains task.operators o → IsTrue (is_possible has o) → Contains o.effects e → names o g.var ≡ false → IsTrue (has g g) → IsTrue (list_all (λ p. has g p) o.conditions) → IsTrue (has (fact_of e) g)
+  pub effect : (o : Operator) (e : Effect) (g : Pair) → Contains task.operators o → IsTrue (is_possible has o) → Contains o.effects e → changes o g.var ≡ false → IsTrue (has g g) → IsTrue (list_all (λ p. has g p) o.conditions) → IsTrue (has (fact_of e) g)
 
 -- these are the possible pairs: the least such set
 pub record ArePossible (task : Task) (pairs : Pairs) : Type 0 where

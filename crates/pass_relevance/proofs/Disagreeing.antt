@@ -7,6 +7,7 @@ use Rattle.std.proofs.lemmas.List.Elements.{Contains-get_or}
 use Rattle.lists.proofs.Members.{no_member, member_first, member_single, member_map, map_member, member_flat_map, flat_map_member, member_range, range_member}
 use Rattle.sas_task.specs.declared.parts.Pair.{Pair}
 use Rattle.sas_task.specs.declared.parts.Effect.{Effect}
+use Rattle.sas_task.specs.Effects.{fact_of}
 use Rattle.sas_task.specs.Orders.{pair_cmp}
 use Rattle.sas_task.specs.Valid.{ComesBefore}
 use Rattle.sas_task.proofs.Orders.{pair_total}
@@ -14,7 +15,7 @@ use Rattle.sas_orders.proofs.Sorted.{member_sorted, sorted_member}
 use Rattle.sas_restriction.proofs.Exact.{pair_exact}
 use Rattle.sas_restriction.proofs.Valid.{sorted_pairs}
 use Rattle.names.specs.declared.arcs.Arc.{Arc}
-use Rattle.pass_relevance.specs.Influences.{arc, sets, written, arcs_of_two, pair_at, disagreements}
+use Rattle.pass_relevance.specs.Influences.{arc, written, arcs_of_two, pair_at, disagreements}
 
 no_later : (p q : Pair) → ComesBefore p q → p.var ≤ q.var
 no_later p q (inl less) = omega (arith, less)
@@ -32,17 +33,17 @@ module _ (node : ℕ) (effects : List Effect) where
   at_place = arcs_of_two node (written effects)
 
   before : (i j : ℕ) → i < j → j < length pairs → ComesBefore (pair_at pairs i) (pair_at pairs j)
-  before i j lt low = sorted_pairs (map sets effects) i j (record { var = 0; val = 0 }) lt low
+  before i j lt low = sorted_pairs (map fact_of effects) i j (record { var = 0; val = 0 }) lt low
 
   -- the effect that writes the pair at a place
-  writer : (i : ℕ) → i < length pairs → (e : Effect) × Contains effects e × (sets e ≡ pair_at pairs i)
-  writer i low = map_member sets effects (pair_at pairs i) (sorted_member pair_cmp pair_total (map sets effects) (pair_at pairs i) (Contains-get_or pairs i (record { var = 0; val = 0 }) low))
+  writer : (i : ℕ) → i < length pairs → (e : Effect) × Contains effects e × (fact_of e ≡ pair_at pairs i)
+  writer i low = map_member fact_of effects (pair_at pairs i) (sorted_member pair_cmp pair_total (map fact_of effects) (pair_at pairs i) (Contains-get_or pairs i (record { var = 0; val = 0 }) low))
 
   -- the place of what an effect writes
-  place_of : (e : Effect) → Contains effects e → (i : ℕ) × (i < length pairs) × (pair_at pairs i ≡ sets e)
+  place_of : (e : Effect) → Contains effects e → (i : ℕ) × (i < length pairs) × (pair_at pairs i ≡ fact_of e)
   place_of e in' =
-      let there = member_sorted pair_cmp pair_total (map sets effects) (λ x y in-x in-y. pair_exact x y) (sets e) (member_map sets effects e in') in
-      (there.0, there.1, get_or_default pairs there.0 (record { var = 0; val = 0 }) (sets e) there.1 ∙ there.2)
+      let there = member_sorted pair_cmp pair_total (map fact_of effects) (λ x y in-x in-y. pair_exact x y) (fact_of e) (member_map fact_of effects e in') in
+      (there.0, there.1, get_or_default pairs there.0 (record { var = 0; val = 0 }) (fact_of e) there.1 ∙ there.2)
 
   -- two effects that give a variable different new values
   pub record Disagreeing (var : ℕ) : Type 0 where

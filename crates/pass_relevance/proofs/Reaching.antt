@@ -1,11 +1,12 @@
 -- What the arcs of a task lead to from the variables of its goal are its relevant variables, and the operators that have an effect on one of them.
-use Rattle.std.proofs.Common.{◌≡◌, ◌≢◌, ℕ, ◌+◌, ◌<◌, Bool, true, ltb, List, [], ◌++◌, map, filter, length, Option, Some, None, ◌⊎◌, refl, sym, ap, ◌∙◌, subst, inl, inr, arith}
+use Rattle.std.proofs.Common.{◌≡◌, ◌≢◌, ℕ, ◌+◌, ◌<◌, Bool, true, eqb, ltb, List, [], ◌++◌, map, filter, length, Option, Some, None, ◌⊎◌, refl, sym, ap, ◌∙◌, subst, inl, inr, arith}
 use Rattle.std.specs.List.{Contains, All, slice_get, flat_map, range_with_len}
 use Rattle.std.specs.Option.{option_map_or}
 use Rattle.std.proofs.lemmas.Bool.{lt-ltb, ltb-true}
 use Rattle.std.proofs.lemmas.Option.{same_Some, slice_get_within, slice_get-get_or}
 use Rattle.std.proofs.lemmas.List.Elements.{All-contains, Contains-append_left, Contains-append_right, Contains-append_cases}
 use Rattle.std.proofs.lemmas.List.Kept.{IsStrictlyIncreasing-filter}
+use Rattle.lists.specs.Members.{is_among}
 use Rattle.lists.proofs.Members.{no_member, member_first, member_later, member_cases, member_map, map_member, member_filter, filter_member, member_flat_map, flat_map_member, member_range, all_from_members, got_member}
 use Rattle.sas_task.specs.declared.parts.Pair.{Pair}
 use Rattle.sas_task.specs.declared.parts.Effect.{Effect}
@@ -15,7 +16,7 @@ use Rattle.sas_task.specs.Task.{Task}
 use Rattle.sas_task.specs.Valid.{IsValid, IsFact}
 use Rattle.sas_task.proofs.States.{is_variable}
 use Rattle.sas_task.proofs.ValidParts.{operator_law, effect_law, rule_law}
-use Rattle.sas_restriction.specs.Relevant.{is_among, HasInfluences, AreRelevant}
+use Rattle.sas_restriction.specs.Relevant.{HasInfluences, AreRelevant}
 use Rattle.sas_restriction.proofs.Numbers.{any_member, member_any}
 use Rattle.names.specs.declared.arcs.Arc.{Arc}
 use Rattle.graph_search.specs.Reached.{IsReached, First, Next, AreReached}
@@ -188,23 +189,23 @@ module _ (T : Task) where
       ends_low : All (λ (a : Arc). a.to < length T.variables + length T.operators) (influences T)
       ends_low = all_from_members (λ (a : Arc). a.to < length T.variables + length T.operators) (influences T) (λ a in'. end_low a.from a.to (only a in'))
 
-      among : (v : ℕ) → v < length T.variables → Reached v → is_among vars v ≡ true
+      among : (v : ℕ) → v < length T.variables → Reached v → is_among eqb vars v ≡ true
       among v below reached = member_any v vars (member_filter (λ w. ltb w (length T.variables)) found v (are.each starts_low ends_low v reached) (lt-ltb v (length T.variables) below))
 
-      reached_of : (v : ℕ) → is_among vars v ≡ true → Reached v
+      reached_of : (v : ℕ) → is_among eqb vars v ≡ true → Reached v
       reached_of v is = are.only v (filter_member (λ w. ltb w (length T.variables)) found v (any_member v vars is)).0
 
-      var_low : (v : ℕ) → is_among vars v ≡ true → v < length T.variables
+      var_low : (v : ℕ) → is_among eqb vars v ≡ true → v < length T.variables
       var_low v is = ltb-true v (length T.variables) (filter_member (λ w. ltb w (length T.variables)) found v (any_member v vars is)).1
 
       step : (from to : ℕ) → IsInfluence T from to → Reached from → Reached to
       step from to influence reached = Next (arc from to) reached (each from to influence)
 
       -- the operator is reached from the variable of an effect
-      operator_reached : (o : Operator) (e : Effect) → Contains o.effects e → is_among vars e.var ≡ true → (i : ℕ) → slice_get T.operators i ≡ Some o → Reached (length T.variables + i)
+      operator_reached : (o : Operator) (e : Effect) → Contains o.effects e → is_among eqb vars e.var ≡ true → (i : ℕ) → slice_get T.operators i ≡ Some o → Reached (length T.variables + i)
       operator_reached o e in-e is i at = step e.var (length T.variables + i) (ToOperator i o e at in-e) (reached_of e.var is)
 
-      closed : HasInfluences T (is_among vars)
+      closed : HasInfluences T (is_among eqb vars)
       closed =
           record {
             goal = λ p in'. among p.var (goal_low p in') (First p.var (member_map (λ (p : Pair). p.var) T.goal p in'));

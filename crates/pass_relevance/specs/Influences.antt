@@ -8,6 +8,7 @@ use Rattle.sas_task.specs.declared.parts.Effect.{Effect}
 use Rattle.sas_task.specs.declared.parts.Operator.{Operator}
 use Rattle.sas_task.specs.declared.parts.Rule.{Rule}
 use Rattle.sas_task.specs.Task.{Task}
+use Rattle.sas_task.specs.Effects.{fact_of}
 use Rattle.sas_task.specs.Orders.{pair_cmp}
 use Rattle.sas_orders.specs.InOrder.{sorted}
 use Rattle.names.specs.declared.arcs.Arc.{Arc}
@@ -23,12 +24,9 @@ arcs_to from pairs = map (λ p. arc from p.var) pairs
 abbrev pub arcs_of_effect : ℕ → Effect → List Arc
 arcs_of_effect node e = arc e.var node ∷ arcs_to e.var e.conditions
 
-abbrev pub sets : Effect → Pair
-sets e = record { var = e.var; val = e.after }
-
--- the variables that effects set with their new values, in order, each pair once
+-- the facts that effects make true, in order, each once
 abbrev pub written : List Effect → List Pair
-written effects = sorted pair_cmp (map sets effects)
+written effects = sorted pair_cmp (map fact_of effects)
 
 abbrev pub pair_at : List Pair → ℕ → Pair
 pair_at pairs place = slice_index_or pairs place (record { var = 0; val = 0 })

@@ -1,14 +1,14 @@
 // What influences what in a task, as arcs of a graph. Its nodes are the variables, by their numbers, and behind them the
 // operators, by their places: what is relevant where something else is stands at the end of an arc from it.
 
-ghost use Rattle.std.specs.Prelude.{◌≡◌, ◌++◌, ◌+◌, ◌<◌, map, length, IfOk, OnOk};
+ghost use Rattle.std.specs.Prelude.{◌≡◌, ◌++◌, ◌+◌, ◌<◌, length, IfOk, OnOk};
 ghost use Rattle.std.specs.List.{flat_map, range_with_len};
-ghost use Rattle.pass_relevance.specs.Influences.{arcs_to, arcs_of_effect, sets, arcs_of_two, disagreements, arcs_of_operator, arcs_at, arcs_of_rule};
+ghost use Rattle.pass_relevance.specs.Influences.{arcs_to, arcs_of_effect, arcs_of_two, disagreements, arcs_of_operator, arcs_at, arcs_of_rule};
 ghost use Rattle.pass_relevance.specs.Influences as words;
 
 use names::Arc;
 use sas_orders::arrange;
-use sas_task::{Effect, Operator, Pair, Rule, SasTask};
+use sas_task::{Effect, Operator, Pair, Rule, SasTask, facts_set};
 use std::alloc::{AllocError, Global};
 
 /// The sum, or want of memory where it isn't a `u64`: no memory has so many places.
@@ -59,24 +59,11 @@ fn add_effects(arcs: &mut Vec<Arc>, node: u64, effects: &[Effect]) -> Result<(),
     Ok(())
 }
 
-/// The variables that the effects set, with their new values.
-fn settings(alloc: Global, effects: &[Effect]) -> Result<Vec<Pair>, AllocError>
-    ensures { IfOk result (λ pairs. pairs.items ≡ map sets effects.now) }
-{
-    effects
-        .iter()
-        .map(|effect| Pair {
-            var: effect.var,
-            val: effect.after,
-        })
-        .collect(alloc)
-}
-
-/// The same in order, each pair once.
+/// The facts that the effects make true, in order, each once.
 fn written(alloc: Global, effects: &[Effect]) -> Result<Vec<Pair>, AllocError>
     ensures { IfOk result (λ pairs. pairs.items ≡ words.written effects.now) }
 {
-    arrange(true, settings(alloc, effects)?)
+    arrange(true, facts_set(alloc, effects)?)
 }
 
 /// Adds an arc from the operator to the variable of the pair at this place, if the next pair is of it too.

@@ -5,8 +5,8 @@ ghost use Rattle.sas_restriction.specs.Reduced.{HasRelevantAlone, IsReduced};
 
 use crate::search::relevant_variables;
 use restricted_task::{busy_marks, restrict};
-use sas_restriction::{Once, all_values, is_valid};
-use sas_task::SasTask;
+use sas_restriction::{Once, all_values};
+use sas_task::{SasTask, is_valid};
 use std::alloc::{AllocError, Global};
 
 /// The task with its relevant variables alone.

@@ -11,8 +11,8 @@ ghost use Rattle.sas_restriction.specs.Restriction as restriction;
 
 use lists::List;
 use sas_orders::arrange;
-use sas_restriction::{Chosen, Once, all_variables, goal, is_valid, rules_left, whole_operators};
-use sas_task::{Group, Operator, Pair, Rule, SasTask, Variable};
+use sas_restriction::{Chosen, Once, all_variables, goal, rules_left, whole_operators};
+use sas_task::{Group, Operator, Pair, Rule, SasTask, Variable, is_valid};
 use std::alloc::{AllocError, Global};
 
 /// The initial values of the variables that are shown.

@@ -1,7 +1,7 @@
 -- All values of a variable, and all variables.
 use Rattle.std.proofs.Common.{◌≡◌, ◌≢◌, ℕ, ◌+◌, ◌<◌, ◌≤◌, true, eqb, ltb, List, [], map, filter, length, get_or, Option, Some, None, sym, ap, ◌∙◌, subst, inl, inr, arith}
 use Rattle.std.specs.Prelude.{IsSomeAnd}
-use Rattle.std.specs.List.{slice_get, Contains, All, AllPairs, list_all, list_any, range_with_len}
+use Rattle.std.specs.List.{slice_get, Contains, All, AllPairs, list_all, range_with_len}
 use Rattle.std.specs.List.Sorted.{IsStrictlyIncreasing}
 use Rattle.std.specs.Option.{option_map_or}
 use Rattle.std.proofs.Math.Path.{fun_ext}
@@ -15,6 +15,7 @@ use Rattle.sas_task.specs.declared.parts.Variable.{Variable}
 use Rattle.sas_task.specs.Task.{Task}
 use Rattle.sas_task.specs.Valid.{IsValid, IsValue, IsFact}
 use Rattle.sas_task.proofs.ValidParts.{effect_law, rule_law}
+use Rattle.lists.specs.Members.{is_among}
 use Rattle.lists.proofs.Members.{member_range, range_member, each_passes, all_from_members, map_member}
 use Rattle.sas_restriction.specs.Closed.{IsClosed}
 use Rattle.sas_restriction.specs.Choice.{Choice, variable_at}
@@ -73,12 +74,12 @@ module _ (T : Task) where
       }
 
   -- a value of a variable is left, and no facts need another value
-  pub value_left : (v x : ℕ) → IsValue T v x → list_any (λ w. eqb w x) (all_values T v) ≡ true
+  pub value_left : (v x : ℕ) → IsValue T v x → is_among eqb (all_values T v) x ≡ true
   value_left v x is = member_any x (all_values T v) (value_member v x is)
 
-  pub facts_left : (ps : List Pair) → All (IsFact T) ps → list_all (λ (p : Pair). list_any (λ v. eqb v p.val) (all_values T p.var)) ps ≡ true
+  pub facts_left : (ps : List Pair) → All (IsFact T) ps → list_all (λ (p : Pair). is_among eqb (all_values T p.var) p.val) ps ≡ true
   facts_left ps facts =
-      each_passes (λ (p : Pair). list_any (λ v. eqb v p.val) (all_values T p.var)) ps (λ p in'. value_left p.var p.val (All-contains (IsFact T) ps p facts in'))
+      each_passes (λ (p : Pair). is_among eqb (all_values T p.var) p.val) ps (λ p in'. value_left p.var p.val (All-contains (IsFact T) ps p facts in'))
 
   -- a value keeps its number
   pub value_stays : (v x : ℕ) → IsValue T v x → length (filter (λ w. ltb w x) (all_values T v)) ≡ x

@@ -1,11 +1,12 @@
 -- New numbers: of values among those that are left, and of variables among those that are shown.
-use Rattle.std.proofs.Common.{◌≡◌, ◌≢◌, ℕ, suc, ◌<◌, ◌≤◌, Bool, true, false, cond, eqb, ltb, List, [], ◌∷◌, filter, length, get_or, ◌⊎◌, refl, sym, ◌∙◌, subst, inl, inr, arith}
-use Rattle.std.specs.List.{Contains, AllPairs, list_any, position_or_len}
+use Rattle.std.proofs.Common.{◌≡◌, ◌≢◌, ℕ, suc, ◌<◌, ◌≤◌, Bool, true, false, cond, eqb, ltb, List, [], ◌∷◌, filter, length, get_or, ◌⊎◌, refl, sym, ◌∙◌, inl, inr, arith}
+use Rattle.std.specs.List.{Contains, AllPairs, position_or_len}
 use Rattle.std.proofs.lemmas.Bool.{cases_lt, lt-ltb, le-ltb, ltb-true, false≢true, eq-eqb, eqb-true}
 use Rattle.std.proofs.lemmas.List.{get_or_default}
 use Rattle.std.proofs.lemmas.List.Sums.{passes_at_first, fails_before_first}
+use Rattle.lists.specs.Members.{is_among}
+use Rattle.lists.proofs.Items.{told_contains, contains_told}
 use Rattle.lists.proofs.Members.{no_member, member_cases}
-use Rattle.lists.proofs.Members as members
 
 -- how many values are below: two members have one number only if they are one
 count_le : (xs : List ℕ) (x y : ℕ) → x ≤ y → length (filter (λ v. ltb v x) xs) ≤ length (filter (λ v. ltb v y) xs)
@@ -73,24 +74,24 @@ one_member (a ∷ []) x y in-x in-y short =
 one_member (a ∷ b ∷ xs) x y in-x in-y short = absurd (omega arith)
 
 -- a number is in a list where one of the list's is the number
-pub any_member : (x : ℕ) (xs : List ℕ) → list_any (λ v. eqb v x) xs ≡ true → Contains xs x
-any_member x xs some = let found = members.any_member (λ v. eqb v x) xs some in subst (Contains xs) (eqb-true found.0 x found.2) found.1
+pub any_member : (x : ℕ) (xs : List ℕ) → is_among eqb xs x ≡ true → Contains xs x
+any_member x xs = told_contains eqb eqb-true xs x
 
-pub member_any : (x : ℕ) (xs : List ℕ) → Contains xs x → list_any (λ v. eqb v x) xs ≡ true
-member_any x xs in' = members.member_any (λ v. eqb v x) xs x in' (eq-eqb x x refl)
+pub member_any : (x : ℕ) (xs : List ℕ) → Contains xs x → is_among eqb xs x ≡ true
+member_any x xs = contains_told eqb (λ v. eq-eqb v v refl) xs x
 
 -- the place of a member
 abbrev pub place : List ℕ → ℕ → ℕ
-place xs x = position_or_len (λ v. eqb v x) xs
+place xs x = position_or_len (eqb x) xs
 
 pub place_of : (xs : List ℕ) (x : ℕ) → Contains xs x → (place xs x < length xs) × (get_or xs (place xs x) 0 ≡ x)
 place_of xs x in' =
     elim (cases_lt (place xs x) (length xs)) [
-      | inl below ↦ (below, eqb-true (get_or xs (place xs x) 0) x (passes_at_first (λ v. eqb v x) xs 0 below))
+      | inl below ↦ (below, sym (eqb-true x (get_or xs (place xs x) 0) (passes_at_first (eqb x) xs 0 below)))
       | inr past ↦
           let low : in'.0 < length xs = in'.1 in
           let before : in'.0 < place xs x = omega arith in
-          absurd (false≢true (sym (fails_before_first (λ v. eqb v x) xs in'.0 x before) ∙ eq-eqb (get_or xs in'.0 x) x in'.2))
+          absurd (false≢true (sym (fails_before_first (eqb x) xs in'.0 x before) ∙ eq-eqb x (get_or xs in'.0 x) (sym in'.2)))
     ]
 
 -- and the member at a place of a list with no repeats

@@ -1,5 +1,5 @@
 -- The task without what can't influence its goal is the restriction to its relevant variables, and may stand for it.
-use Rattle.std.proofs.Common.{◌≡◌, ◌≢◌, ℕ, ◌<◌, true, false, ◌&&◌, ltb, List, [], ◌∷◌, map, filter, length, get_or, append-nil, ◌⊎◌, refl, sym, ap, ◌∙◌, subst, inl, inr}
+use Rattle.std.proofs.Common.{◌≡◌, ◌≢◌, ℕ, ◌<◌, true, false, ◌&&◌, eqb, ltb, List, [], ◌∷◌, map, filter, length, get_or, append-nil, ◌⊎◌, refl, sym, ap, ◌∙◌, subst, inl, inr}
 use Rattle.std.specs.List.{Contains}
 use Rattle.std.proofs.lemmas.List.Elements.{All-contains}
 use Rattle.runs.specs.Systems.{IsFollowedWhere}
@@ -17,6 +17,7 @@ use Rattle.sas_task.specs.Orders.{group_cmp, effect_cmp, operator_cmp, rule_cmp}
 use Rattle.sas_task.proofs.KeepsLaws.{keeps_itself}
 use Rattle.sas_task.proofs.Orders.{operator_total}
 use Rattle.sas_task.proofs.ValidParts.{operator_law, effect_law}
+use Rattle.lists.specs.Members.{is_among}
 use Rattle.lists.proofs.Members.{map_member, filter_member}
 use Rattle.sas_orders.specs.InOrder.{sorted, in_order}
 use Rattle.sas_orders.proofs.Sorted.{sorted_member}
@@ -26,9 +27,9 @@ use Rattle.sas_restriction.specs.Restriction.{restriction, new_operator, new_gro
 use Rattle.sas_restriction.specs.Everything.{everything}
 use Rattle.sas_restriction.specs.KeepsCosts.{KeepsCosts}
 use Rattle.sas_restriction.specs.KeepsPart.{KeepsPart}
-use Rattle.sas_restriction.specs.Relevant.{is_among, AreRelevant}
+use Rattle.sas_restriction.specs.Relevant.{AreRelevant}
 use Rattle.sas_restriction.specs.Reordered.{renumbered_pairs, renumbered_effect, renumbered_rule}
-use Rattle.sas_restriction.specs.Reduced.{reduced_group, has_effect_on, reduced_operator, reduced, HasRelevantAlone, IsReduced}
+use Rattle.sas_restriction.specs.Reduced.{reduced_group, changes_some, reduced_operator, reduced, HasRelevantAlone, IsReduced}
 use Rattle.sas_restriction.proofs.AllValues.{facts_left}
 use Rattle.sas_restriction.proofs.Relevance.{one_list, relevant_below, busy_is, busy_effect, choice, may}
 use Rattle.sas_restriction.proofs.Renumbered.{agree, left_agree, an_operator, pairs_are, group_is, effect_left, effect_is, rule_left, rule_is, variable_is, start_is}
@@ -51,24 +52,24 @@ module _ (T : Task) (valid : IsValid T) (vars : List ℕ) (are : AreRelevant T v
       ap (filter (λ (g : Group). ltb 1 (length g.facts))) (agree (new_group C) (reduced_group vars) T.groups (λ g in'. group_is T valid vars g (All-contains (IsValidGroup T) T.groups g valid.groups in')))
 
   -- what an operator with an effect on a relevant variable needs is relevant
-  operator_is : (o : Operator) → Contains T.operators o → has_effect_on vars o ≡ true → new_operator some_go C o ≡ reduced_operator vars o
+  operator_is : (o : Operator) → Contains T.operators o → changes_some vars o ≡ true → new_operator some_go C o ≡ reduced_operator vars o
   operator_is o in-o busy =
       ap (λ ps. an_operator o ps (in_order effect_cmp (map (new_effect C) (filter (effect_stays C) o.effects))))
       (pairs_are T valid vars o.conditions (operator_law T valid o in-o).conditions.facts (λ p in'. let e = busy_effect T valid vars are o busy in are.closed.operators o e.0 p in-o e.1 e.2 in'))
       ∙ ap (λ es. an_operator o (renumbered_pairs vars o.conditions) (in_order effect_cmp es))
-      (left_agree (effect_stays C) (λ (e : Effect). is_among vars e.var) (new_effect C) (renumbered_effect vars) o.effects
+      (left_agree (effect_stays C) (λ (e : Effect). is_among eqb vars e.var) (new_effect C) (renumbered_effect vars) o.effects
       (λ e in-e. effect_left T valid vars e (effect_law T valid o in-o e in-e))
       (λ e in-e is. effect_is T valid vars e (effect_law T valid o in-o e in-e) (λ p in'. are.closed.effects o e p in-o in-e is in')))
 
-  operators_are : map (new_operator some_go C) (filter (operator_stays C) T.operators) ≡ map (reduced_operator vars) (filter (has_effect_on vars) T.operators)
+  operators_are : map (new_operator some_go C) (filter (operator_stays C) T.operators) ≡ map (reduced_operator vars) (filter (changes_some vars) T.operators)
   operators_are =
-      left_agree (operator_stays C) (has_effect_on vars) (new_operator some_go C) (reduced_operator vars) T.operators
+      left_agree (operator_stays C) (changes_some vars) (new_operator some_go C) (reduced_operator vars) T.operators
       (λ o in-o. ap (λ b. b && is_busy (everything T vars) o) (facts_left T o.conditions (operator_law T valid o in-o).conditions.facts) ∙ busy_is T valid vars are o in-o)
       operator_is
 
-  rules_are : map (new_rule C) (filter (rule_stays C) T.rules) ≡ map (renumbered_rule vars) (filter (λ (r : Rule). is_among vars r.var) T.rules)
+  rules_are : map (new_rule C) (filter (rule_stays C) T.rules) ≡ map (renumbered_rule vars) (filter (λ (r : Rule). is_among eqb vars r.var) T.rules)
   rules_are =
-      left_agree (rule_stays C) (λ (r : Rule). is_among vars r.var) (new_rule C) (renumbered_rule vars) T.rules
+      left_agree (rule_stays C) (λ (r : Rule). is_among eqb vars r.var) (new_rule C) (renumbered_rule vars) T.rules
       (λ r in-r. rule_left T valid vars r in-r)
       (λ r in-r is. rule_is T valid vars r in-r (λ p in'. are.closed.rules r p in-r is in'))
 
@@ -96,9 +97,9 @@ module _ (T : Task) (valid : IsValid T) (vars : List ℕ) (are : AreRelevant T v
   part_keeps = subst (Keeps T) (sym reduced_is) (keeps C T (restriction some_go C T) valid (choice T valid vars are) is_restriction (may T valid vars are))
 
   -- of a solution the operators with an effect on a relevant variable are a solution
-  pub part_solves : KeepsPart (has_effect_on vars) T (reduced vars T)
+  pub part_solves : KeepsPart (changes_some vars) T (reduced vars T)
   part_solves =
-      subst (KeepsPart (has_effect_on vars) T) (sym reduced_is) (part_follows (system T) (system (restriction some_go C T)) (has_effect_on vars) Show followed)
+      subst (KeepsPart (changes_some vars) T) (sym reduced_is) (part_follows (system T) (system (restriction some_go C T)) (changes_some vars) Show followed)
     where
       Show : List ℕ → List ℕ → Type 0
       Show = Shows C T (restriction some_go C T) valid (choice T valid vars are) is_restriction (may T valid vars are)
@@ -106,7 +107,7 @@ module _ (T : Task) (valid : IsValid T) (vars : List ℕ) (are : AreRelevant T v
       busy : IsFollowedWhere (system T) (system (restriction some_go C T)) (is_busy C) (Shows C T (restriction some_go C T) valid (choice T valid vars are) is_restriction (may T valid vars are))
       busy = followed_busy C T (restriction some_go C T) valid (choice T valid vars are) is_restriction (may T valid vars are)
 
-      followed : IsFollowedWhere (system T) (system (restriction some_go C T)) (has_effect_on vars) Show
+      followed : IsFollowedWhere (system T) (system (restriction some_go C T)) (changes_some vars) Show
       followed =
           record {
             starts = busy.starts;
@@ -134,8 +135,8 @@ reduced_keeps T T' valid is =
       | inr some ↦ let part = is.some_goal some in subst (Keeps T) (sym part.same) (part_keeps T valid part.vars part.are)
     ]
 
-pub reduced_solves : (T T' : Task) → IsValid T → (part : HasRelevantAlone T T') → KeepsPart (has_effect_on part.vars) T T'
-reduced_solves T T' valid part = subst (KeepsPart (has_effect_on part.vars) T) (sym part.same) (part_solves T valid part.vars part.are)
+pub reduced_solves : (T T' : Task) → IsValid T → (part : HasRelevantAlone T T') → KeepsPart (changes_some part.vars) T T'
+reduced_solves T T' valid part = subst (KeepsPart (changes_some part.vars) T) (sym part.same) (part_solves T valid part.vars part.are)
 
 -- operators have the names and costs of the task's
 pub reduced_costs : (T T' : Task) → IsReduced T T' → KeepsCosts T T'
@@ -147,8 +148,8 @@ reduced_costs T T' is o' in' =
   where
     of_part : HasRelevantAlone T T' → (o : Operator) × Contains T.operators o × (o.name ≡ o'.name) × (o.cost ≡ o'.cost)
     of_part part =
-        let from = map_member (reduced_operator part.vars) (filter (has_effect_on part.vars) T.operators) o' (sorted_member operator_cmp operator_total (map (reduced_operator part.vars) (filter (has_effect_on part.vars) T.operators)) o' (subst (λ (t : Task). Contains t.operators o') part.same in')) in
-        (from.0, (filter_member (has_effect_on part.vars) T.operators from.0 from.1).0, ap (λ (o : Operator). o.name) from.2, ap (λ (o : Operator). o.cost) from.2)
+        let from = map_member (reduced_operator part.vars) (filter (changes_some part.vars) T.operators) o' (sorted_member operator_cmp operator_total (map (reduced_operator part.vars) (filter (changes_some part.vars) T.operators)) o' (subst (λ (t : Task). Contains t.operators o') part.same in')) in
+        (from.0, (filter_member (changes_some part.vars) T.operators from.0 from.1).0, ap (λ (o : Operator). o.name) from.2, ap (λ (o : Operator). o.cost) from.2)
 
 -- and it is one task
 pub reduced_once : (T T' T'' : Task) → IsReduced T T' → IsReduced T T'' → T' ≡ T''

@@ -1,8 +1,9 @@
 -- What is left of a task: some of its variables, in any order, of each variable some of its values, and some of its operators.
-use Rattle.std.specs.Prelude.{◌≡◌, ◌≢◌, ℕ, Bool, ◌==◌, nat_lt, ◌&&◌, ◌<◌, List, [], ◌∷◌, map, filter, length, Option, None, All, AllPairs, Contains, IsTrue, IfSome, codes, slice_get, slice_index, slice_index_or}
+use Rattle.std.specs.Prelude.{◌≡◌, ◌≢◌, ℕ, Bool, nat_eq, nat_lt, ◌&&◌, ◌<◌, List, [], ◌∷◌, map, filter, length, Option, None, All, AllPairs, Contains, IsTrue, IfSome, codes, slice_get, slice_index, slice_index_or}
 use Rattle.std.specs.List.{list_all, list_any, position_or_len}
 use Rattle.std.specs.List.Sorted.{IsStrictlyIncreasing}
 use Rattle.std.specs.Option.{option_map_or}
+use Rattle.lists.specs.Members.{is_among}
 use Rattle.sas_task.specs.declared.parts.Pair.{Pair}
 use Rattle.sas_task.specs.declared.parts.Variable.{Variable}
 use Rattle.sas_task.specs.declared.parts.Group.{Group}
@@ -26,11 +27,11 @@ pub record Choice : Type 0 where
 
 -- whether the variable is shown
 abbrev pub is_shown : Choice → ℕ → Bool
-is_shown choice var = list_any (λ v. v == var) choice.vars
+is_shown choice var = is_among nat_eq choice.vars var
 
 -- whether the value of the variable is left
 abbrev pub is_left : Choice → ℕ → ℕ → Bool
-is_left choice var val = list_any (λ v. v == val) (choice.values var)
+is_left choice var val = is_among nat_eq (choice.values var) val
 
 -- whether each pair's value is left
 abbrev pub all_left : Choice → List Pair → Bool
@@ -38,7 +39,7 @@ all_left choice pairs = list_all (λ p. is_left choice p.var p.val) pairs
 
 -- a variable's new number: its place among those that are shown
 abbrev pub new_var : Choice → ℕ → ℕ
-new_var choice var = position_or_len (λ v. v == var) choice.vars
+new_var choice var = position_or_len (nat_eq var) choice.vars
 
 -- a value's new number: how many values of its variable are left before it
 abbrev pub new_val : Choice → ℕ → ℕ → ℕ

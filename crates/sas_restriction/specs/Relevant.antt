@@ -1,16 +1,12 @@
 -- The variables of a task that can influence its goal.
-use Rattle.std.specs.Prelude.{◌≡◌, ◌≢◌, ℕ, Bool, ◌==◌, List, Contains, IsTrue}
-use Rattle.std.specs.List.{list_any}
+use Rattle.std.specs.Prelude.{◌≡◌, ◌≢◌, ℕ, Bool, nat_eq, List, Contains, IsTrue}
 use Rattle.std.specs.List.Sorted.{IsStrictlyIncreasing}
+use Rattle.lists.specs.Members.{is_among}
 use Rattle.sas_task.specs.declared.parts.Pair.{Pair}
 use Rattle.sas_task.specs.declared.parts.Effect.{Effect}
 use Rattle.sas_task.specs.declared.parts.Operator.{Operator}
 use Rattle.sas_task.specs.declared.parts.Rule.{Rule}
 use Rattle.sas_task.specs.Task.{Task}
-
--- whether the variable is one of these
-abbrev pub is_among : List ℕ → ℕ → Bool
-is_among vars var = list_any (λ v. v == var) vars
 
 -- A set of variables has all that can influence the goal, where it has
 -- goal: the variables of the goal
@@ -28,5 +24,5 @@ pub record HasInfluences (task : Task) (has : ℕ → Bool) : Type 0 where
 -- these are the relevant variables, in order: the least such set
 pub record AreRelevant (task : Task) (vars : List ℕ) : Type 0 where
   pub sorted : IsStrictlyIncreasing vars
-  pub closed : HasInfluences task (is_among vars)
-  pub least : (has : ℕ → Bool) → HasInfluences task has → (var : ℕ) → IsTrue (is_among vars var) → IsTrue (has var)
+  pub closed : HasInfluences task (is_among nat_eq vars)
+  pub least : (has : ℕ → Bool) → HasInfluences task has → (var : ℕ) → IsTrue (is_among nat_eq vars var) → IsTrue (has var)

@@ -1,6 +1,6 @@
 -- The task with its variables ordered by how many operators have an effect on them.
-use Rattle.std.specs.Prelude.{◌≡◌, ℕ, ◌==◌, List, map, length, slice_index}
-use Rattle.std.specs.List.{list_any, count_by, position_or_len, range_with_len}
+use Rattle.std.specs.Prelude.{◌≡◌, ℕ, nat_eq, List, map, length, slice_index}
+use Rattle.std.specs.List.{count_by, position_or_len, range_with_len}
 use Rattle.std.specs.Ordering.{nat_cmp, then_cmp, on}
 use Rattle.std.specs.declared.cmp.Ordering.{Ordering}
 use Rattle.sas_task.specs.declared.parts.Pair.{Pair}
@@ -9,17 +9,18 @@ use Rattle.sas_task.specs.declared.parts.Effect.{Effect}
 use Rattle.sas_task.specs.declared.parts.Operator.{Operator}
 use Rattle.sas_task.specs.declared.parts.Rule.{Rule}
 use Rattle.sas_task.specs.Task.{Task}
+use Rattle.sas_task.specs.Effects.{changes}
 use Rattle.sas_task.specs.Orders.{pair_cmp, group_cmp, effect_cmp, operator_cmp, rule_cmp}
 use Rattle.sas_orders.specs.InOrder.{in_order, sorted}
 use Rattle.sas_restriction.specs.Choice.{variable_at}
 
--- how many operators have an effect on the variable; an operator with several of them counts once
-abbrev pub changing_operators : Task → ℕ → ℕ
-changing_operators task var = count_by (λ o. list_any (λ e. e.var == var) o.effects) task.operators
+-- how many of the operators change the variable; an operator with several effects on it counts once
+abbrev pub changing_operators : List Operator → ℕ → ℕ
+changing_operators operators var = count_by (λ o. changes o var) operators
 
 -- variables that fewer operators change come first, and of several that as many change the one with the lower number
 abbrev pub variable_cmp : Task → ℕ → ℕ → Ordering
-variable_cmp task = then_cmp (on (changing_operators task) nat_cmp) nat_cmp
+variable_cmp task = then_cmp (on (changing_operators task.operators) nat_cmp) nat_cmp
 
 -- all variables by their numbers, in this order
 abbrev pub variable_order : Task → List ℕ
@@ -27,7 +28,7 @@ variable_order task = in_order (variable_cmp task) (range_with_len 0 (length tas
 
 -- Everywhere below `order` has all variables by their old numbers, and a variable's new number is its place there.
 abbrev pub place_in : List ℕ → ℕ → ℕ
-place_in order var = position_or_len (λ v. v == var) order
+place_in order var = position_or_len (nat_eq var) order
 
 abbrev pub renumbered_pair : List ℕ → Pair → Pair
 renumbered_pair order p = record { var = place_in order p.var; val = p.val }

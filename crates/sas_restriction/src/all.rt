@@ -1,4 +1,4 @@
-// All values of each variable, and all operators.
+// All variables, all values of each variable, and all operators.
 
 ghost use Rattle.std.specs.Prelude.{◌≡◌, ◌<◌, true, map, length, All, IfOk};
 ghost use Rattle.std.specs.List.{range_with_len};
@@ -9,18 +9,11 @@ use lists::List;
 use sas_task::SasTask;
 use std::alloc::{AllocError, Global};
 
-fn counted(alloc: Global, count: u64) -> Result<Vec<u64>, AllocError>
-    ensures { IfOk result (λ numbers. numbers.items ≡ map (λ n. n) (range_with_len 0 count)) }
-{
-    (0..count).map(|number| number).collect(alloc)
-}
-
 /// The numbers below this one, in order.
-fn numbers_below(alloc: Global, count: u64) -> Result<List<u64>, AllocError>
-    ensures { IfOk result (λ numbers. numbers ≡ range_with_len 0 count) }
+pub fn numbers_below(alloc: Global, count: u64) -> Result<Vec<u64>, AllocError>
+    ensures { IfOk result (λ numbers. numbers.items ≡ range_with_len 0 count) }
 {
-    let numbers = counted(alloc, count)?;
-    Ok(List::from_vec(numbers))
+    (0..count).collect(alloc)
 }
 
 /// All values of the variable.
@@ -28,7 +21,8 @@ fn values_of(alloc: Global, task: &SasTask, var: u64) -> Result<List<u64>, Alloc
     requires { var < length task.now.variables }
     ensures { IfOk result (λ values. values ≡ everything.all_values task.now var) }
 {
-    numbers_below(alloc, task.variable(var).facts.as_slice().len() as u64)
+    let count = task.variable(var).facts.as_slice().len() as u64;
+    Ok(List::from_vec(numbers_below(alloc, count)?))
 }
 
 /// All values of each variable.

@@ -11,17 +11,8 @@ ghost use Rattle.sas_restriction.specs.MayStand.{MayStand, TellsAll};
 ghost use Rattle.sas_restriction.specs.KeepsCosts.{KeepsCosts};
 ghost use Rattle.sas_restriction.specs.Reordered.{changing_operators, variable_order, renumbered, IsReordered};
 ghost use Rattle.sas_restriction.specs.KeepsPart.{KeepsPart};
-ghost use Rattle.sas_restriction.specs.Reduced.{has_effect_on, reduced, HasRelevantAlone, IsReduced};
+ghost use Rattle.sas_restriction.specs.Reduced.{changes_some, reduced, HasRelevantAlone, IsReduced};
 ghost use Rattle.sas_restriction.specs.Examples.{room_reordered, belfry, belfry_reduced};
-
-use sas_task::SasTask;
-
-/// Every task is valid. This does nothing: its clause says so.
-pub fn is_valid(task: &SasTask)
-    ensures { IsValid task.now }
-{
-    task.metric();
-}
 
 /// A restriction of a valid task is valid. It may stand for the task where the choice meets `MayStand`, and where all
 /// variables are told too, each solution of the task whose every step changes the state is a solution of the
@@ -44,7 +35,7 @@ pub fn reordering_keeps()
 /// The room with a lamp, worked by hand. No operator changes a derived variable, so both come first, the one with the
 /// lower number ahead. An operator with two effects on a variable counts once.
 pub fn reordered_example()
-    ensures counts { changing_operators room 1 ≡ 2 }
+    ensures counts { changing_operators room.operators 1 ≡ 2 }
     ensures order { variable_order room ≡ 2 ∷ 3 ∷ 0 ∷ 1 ∷ [] }
     ensures reordered { renumbered (variable_order room) room ≡ room_reordered }
 {}
@@ -56,7 +47,7 @@ pub fn reordered_example()
 pub fn reduction_keeps()
     ensures valid { (task new : Task) → IsValid task → IsReduced task new → IsValid new }
     ensures stands { (task new : Task) → IsValid task → IsReduced task new → Keeps task new }
-    ensures relevant_steps { (task new : Task) → IsValid task → (part : HasRelevantAlone task new) → KeepsPart (has_effect_on part.vars) task new }
+    ensures relevant_steps { (task new : Task) → IsValid task → (part : HasRelevantAlone task new) → KeepsPart (changes_some part.vars) task new }
     ensures costs { (task new : Task) → IsReduced task new → KeepsCosts task new }
     ensures one { (task new other : Task) → IsReduced task new → IsReduced task other → new ≡ other }
 {}

@@ -8,7 +8,6 @@ mod chosen;
 pub mod laws;
 mod parts;
 
-pub use all::{all_marks, all_values};
+pub use all::{all_marks, all_values, numbers_below};
 pub use chosen::{Chosen, Once};
-pub use laws::is_valid;
 pub use parts::{all_variables, goal, rules_left, whole_operators};

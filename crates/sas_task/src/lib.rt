@@ -3,10 +3,12 @@
 #![tactic(auto)]
 
 mod copy;
+pub mod effects;
 pub mod laws;
 pub mod parts;
 pub mod task;
 
+pub use effects::{changes, facts_set};
 pub use lists::{List, Text};
 pub use parts::{Effect, Group, Operator, Pair, Rule, Variable};
-pub use task::SasTask;
+pub use task::{SasTask, is_valid};

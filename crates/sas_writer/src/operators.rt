@@ -4,6 +4,7 @@ ghost use Rattle.std.specs.Prelude.{◌≡◌, ◌==◌, ◌++◌, [], ◌∷◌
 ghost use Rattle.std.specs.List.{list_any};
 ghost use Rattle.std.specs.List.Sorted.{IsNonDecreasing, IsStrictlyIncreasing};
 ghost use Rattle.std.specs.Option.{option_map};
+ghost use Rattle.sas_task.specs.Effects.{changes};
 ghost use Rattle.sas_task.specs.Output.{bytes_of, counted, effect_line, operator_lines, prevail, required_value};
 
 use sas_task::{Effect, Operator, Pair, SasTask};
@@ -34,13 +35,13 @@ fn set_variables(variables: &mut Vec<u64>, effects: &[Effect]) -> Result<(), All
     Ok(())
 }
 
-/// Makes them the variables that the effects change, sorted.
-fn set_changed(changed: &mut Vec<u64>, effects: &[Effect]) -> Result<(), AllocError>
+/// Makes them the variables that the operator changes, sorted.
+fn set_changed(changed: &mut Vec<u64>, operator: &Operator) -> Result<(), AllocError>
     ensures sorted { OnOk result (IsNonDecreasing changed.new.items) }
     ensures changed { OnOk result ((var : ℕ) →
-        list_any (λ v. v == var) changed.new.items ≡ list_any (λ e. e.var == var) effects.now) }
+        list_any (λ v. v == var) changed.new.items ≡ changes operator.now var) }
 {
-    set_variables(changed, effects)?;
+    set_variables(changed, operator.effects.as_slice())?;
     changed.sort_unstable();
     Ok(())
 }
@@ -80,7 +81,7 @@ fn set_without(kept: &mut Vec<Pair>, pairs: &[Pair], sorted: &[u64]) -> Result<(
 fn find_prevail(room: &mut Room, operator: &Operator) -> Result<(), AllocError>
     ensures { OnOk result (room.new.prevail.items ≡ prevail operator.now) }
 {
-    set_changed(&mut room.changed, operator.effects.as_slice())?;
+    set_changed(&mut room.changed, operator)?;
     set_without(
         &mut room.prevail,
         operator.conditions.as_slice(),

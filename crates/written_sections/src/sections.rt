@@ -1,12 +1,12 @@
 //! The sections of the version, the metric, the variables, the mutex groups, the state and the goal, which stand in the text
 //! in this order. `docs/OUTPUT.md` has the lines of each, as the planner's output format, version 3, asks for them.
 
-ghost use Rattle.std.specs.Prelude.{◌≡◌, ◌++◌, [], ◌∷◌, codes, length, OnOk};
+ghost use Rattle.std.specs.Prelude.{◌≡◌, ◌++◌, [], ◌∷◌, codes, OnOk};
 ghost use Rattle.std.specs.List.{enumerate_from};
 ghost use Rattle.sas_task.specs.Output.{bytes_of, counted, version_lines, metric_lines, variable_lines, group_lines, state_lines, goal_lines, numeral};
 
 use crate::lines::{push_line, push_number_line, push_number_or_none_line, push_pairs};
-use sas_task::{Group, Pair, SasTask, Text, Variable};
+use sas_task::{Group, Pair, SasTask, Text, Variable, is_valid};
 use std::alloc::AllocError;
 
 /// The number of the format, which is always 3, between its two fixed words.
@@ -93,9 +93,9 @@ pub fn push_groups(out: &mut Vec<u8>, task: &SasTask) -> Result<(), AllocError>
 /// The initial state: between two fixed words a line for each variable, in their order, with its value alone. A derived variable
 /// shows its default value, from which rules take it.
 pub fn push_state(out: &mut Vec<u8>, task: &SasTask) -> Result<(), AllocError>
-    requires { length task.now.state ≡ length task.now.variables }
     ensures { OnOk result (out.new.items ≡ out.old.items ++ bytes_of (state_lines task.now.state)) }
 {
+    is_valid(task);
     push_line(out, b"begin_state")?;
     for i in 0..task.variables() {
         push_number_line(out, task.state(i))?;

@@ -4,4 +4,4 @@ use Rattle.order_variables.specs.Tallies.{AreCounted}
 use Rattle.order_variables.proofs.tallies.count_changes.Given as goal
 
 abbrev pub invariant-loop-effect : goal.invariant-loop-effect
-invariant-loop-effect l = AreCounted l.turn (λ v. list_any (λ e. eqb e.var v) (take l.effect-index l.effects)) l.fn.tallies l.tallies
+invariant-loop-effect l = AreCounted l.turn (λ v. list_any (λ e. eqb e.var v) (take l.effect-index l.operator.effects)) l.fn.tallies l.tallies

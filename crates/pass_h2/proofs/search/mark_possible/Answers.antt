@@ -1,5 +1,5 @@
 -- The operators of the queue are looked at, turn by turn, until the queue is empty.
-use Rattle.std.proofs.Common.{eqb, map, length, sym, ap, ◌∙◌, subst}
+use Rattle.std.proofs.Common.{eqb, length, sym, ap, ◌∙◌, subst}
 use Rattle.std.specs.List.{range_with_len}
 use Rattle.std.specs.Vec.{vec_len}
 use Rattle.std.proofs.lemmas.Bool.{eqb-true}
@@ -12,7 +12,7 @@ pub loop-operators-init : goal.loop-operators-init
 loop-operators-init c valid =
     let T = c.args.task.now in
     subst (λ f. Between T valid f c.in_ok-queue.queue.items) (sym c.in_ok-mark_initial.ensures)
-    (subst (Between T valid (initial_pairs T)) (sym (c.in_ok-queue.ensures ∙ ap (λ operators. map (λ n. n) (range_with_len 0 (length operators))) c.operator_slice-operators.ensures)) (begins T valid))
+    (subst (Between T valid (initial_pairs T)) (sym (c.in_ok-queue.ensures ∙ ap (λ operators. range_with_len 0 (length operators)) c.operator_slice-operators.ensures)) (begins T valid))
 
 pub loop-operators-smaller : goal.loop-operators-smaller
 loop-operators-smaller c =

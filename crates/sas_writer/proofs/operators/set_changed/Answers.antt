@@ -12,4 +12,5 @@ pub returns-clause-changed : goal.returns-clause-changed
 returns-clause-changed c var =
     sym (list_any-IsPermutation (λ v. v == var) c.set_variables.new.variables.items c.sort_unstable.new.self.items c.sort_unstable.ensures.permutation)
     ∙ ap (list_any (λ v. v == var)) c.in_ok-set_variables.ensures
-    ∙ any_map (λ v. v == var) (λ (e : Effect). e.var) c.args.effects.now
+    ∙ any_map (λ v. v == var) (λ (e : Effect). e.var) c.as_slice.result.now
+    ∙ ap (list_any (λ (e : Effect). e.var == var)) c.as_slice.ensures
