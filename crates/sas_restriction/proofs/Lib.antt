@@ -3,6 +3,7 @@ mod Places
 mod Rising
 mod Shape
 mod Completed
+mod Renumbered
 -- what a pass owes and gets, which crates above cite
 pub mod Pieces
 pub mod Assembled
@@ -17,7 +18,6 @@ pub mod Steps
 pub mod Arranged
 pub mod Told
 pub mod AllValues
-pub mod Renumbered
 pub mod Order
 pub mod Reordered
 pub mod Relevance
