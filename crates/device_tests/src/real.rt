@@ -1,10 +1,12 @@
 ghost use Rattle.std.specs.Prelude.{IsErr};
 
 use crate::reading::{Reading, are_found};
-use std::alloc::{AllocError, Global};
+use std::alloc::{AllocError, Allocator, Global};
 use std::cell::Cell;
 use std::fmt::Display;
-use std::{fs, io};
+use std::fs::{Metadata, OpenFile, OpenOptions};
+use std::io::{Read, Seek, SeekFrom, Write};
+use std::{fs, io, rt};
 use tl_device::{Files, ReadEnd, RealConsole, RealFiles, put_all, say_all};
 
 // The files of a test lie where it runs, and it removes them.
@@ -13,6 +15,8 @@ static WRITTEN: &str = "tl_device_written";
 static BESIDE: &str = "tl_device_beside";
 
 static ABSENT: &str = "tl_device_absent";
+
+static APART: &str = "tl_device_apart";
 
 /// Bytes that count up from the first one, and begin anew behind 250.
 fn counted(alloc: Global, first: u8, length: usize) -> Result<Vec<u8>, AllocError> {
@@ -25,7 +29,7 @@ fn counted(alloc: Global, first: u8, length: usize) -> Result<Vec<u8>, AllocErro
     Ok(bytes)
 }
 
-fn is_put(rt: &HostRuntime, name: &str, bytes: &[u8]) -> bool {
+fn is_put<R: rt::Files>(rt: &R, name: &str, bytes: &[u8]) -> bool {
     let mut files = RealFiles::new(rt);
     files.create_file(name).is_ok() && put_all(&mut files, bytes).is_ok()
 }
@@ -90,6 +94,145 @@ fn is_refused(rt: &HostRuntime) -> bool {
         && !is_put(rt, ".", b"x")
 }
 
+fn refused<T>() -> io::Result<T>
+    ensures { IsErr result }
+{
+    Err(io::Error::from(io::ErrorKind::Unsupported))
+}
+
+/// A file that is read and written by a second descriptor alone, as one has to be that was opened where a standard stream is
+/// closed: its first descriptor has the number of the stream.
+#[derive(Drop)]
+struct Opened<F> {
+    file: F,
+    is_second: bool,
+}
+
+impl<F: Read> Read for Opened<F> {
+    fn read(&mut self, into: &mut [u8]) -> io::Result<usize> {
+        if self.is_second {
+            self.file.read(into)
+        } else {
+            refused()
+        }
+    }
+}
+
+impl<F: Write> Write for Opened<F> {
+    fn write(&mut self, piece: &[u8]) -> io::Result<usize> {
+        if self.is_second {
+            self.file.write(piece)
+        } else {
+            refused()
+        }
+    }
+
+    fn flush(&mut self) -> io::Result<()> {
+        refused()
+    }
+}
+
+impl<F> Seek for Opened<F> {
+    fn seek(&mut self, _: SeekFrom) -> io::Result<u64> {
+        refused()
+    }
+}
+
+impl<F: OpenFile> OpenFile for Opened<F> {
+    fn metadata(&self) -> io::Result<Metadata> {
+        refused()
+    }
+
+    fn set_len(&self, _: u64) -> io::Result<()> {
+        refused()
+    }
+
+    fn sync_all(&self) -> io::Result<()> {
+        refused()
+    }
+
+    fn sync_data(&self) -> io::Result<()> {
+        refused()
+    }
+
+    fn try_clone(&self) -> io::Result<Opened<F>> {
+        Ok(Opened {
+            file: self.file.try_clone()?,
+            is_second: true,
+        })
+    }
+}
+
+/// The files of a runtime, each opened by a first descriptor. Nothing but opening works.
+#[derive(Drop)]
+struct FirstOpened<'a, R> {
+    runtime: &'a R,
+}
+
+impl<'a, R: rt::Files> rt::Files for FirstOpened<'a, R> {
+    type File = Opened<R::File>;
+
+    type Dir = R::Dir;
+
+    fn open_file(&self, how: &OpenOptions, path: &str) -> io::Result<Opened<R::File>> {
+        Ok(Opened {
+            file: self.runtime.open_file(how, path)?,
+            is_second: false,
+        })
+    }
+
+    fn open_dir(&self, _: &str) -> io::Result<R::Dir> {
+        refused()
+    }
+
+    fn metadata(&self, _: &str) -> io::Result<Metadata> {
+        refused()
+    }
+
+    fn symlink_metadata(&self, _: &str) -> io::Result<Metadata> {
+        refused()
+    }
+
+    fn copy(&self, _: &str, _: &str) -> io::Result<u64> {
+        refused()
+    }
+
+    fn rename(&self, _: &str, _: &str) -> io::Result<()> {
+        refused()
+    }
+
+    fn remove_file(&self, _: &str) -> io::Result<()> {
+        refused()
+    }
+
+    fn create_dir(&self, _: &str) -> io::Result<()> {
+        refused()
+    }
+
+    fn remove_dir(&self, _: &str) -> io::Result<()> {
+        refused()
+    }
+
+    fn remove_dir_all<B: Allocator>(&self, _: B, _: &str) -> io::Result<()> {
+        refused()
+    }
+}
+
+#[test]
+fn a_real_file_is_written_and_read_by_a_second_descriptor(rt: HostRuntime) {
+    let opened = FirstOpened { runtime: &rt };
+    let mut files = RealFiles::new(&opened);
+    assert!(rt;
+        is_put(&opened, APART, b"apart") && holds(&rt, APART, b"apart"),
+        "written"
+    );
+    assert!(rt;
+        are_found(rt.alloc(), &mut files, &[(APART, 10, Ok(b"apart"))]),
+        "read"
+    );
+    assert!(rt; is_removed(&rt, APART));
+}
+
 /// A printer that is to print a text. A call takes so many bytes at most, and fails where they aren't the next ones,
 /// or where so many were printed as there is room for.
 #[derive(Drop)]
@@ -98,12 +241,6 @@ struct Paper<'a> {
     printed: Cell<usize>,
     most: usize,
     room: usize,
-}
-
-fn refused<T>() -> io::Result<T>
-    ensures { IsErr result }
-{
-    Err(io::Error::from(io::ErrorKind::Unsupported))
 }
 
 impl<'a> Print for Paper<'a> {
