@@ -73,5 +73,6 @@ returns c =
       rule_default = λ v. other 0 1 (inl (omega arith)) (rule_of [] 2 0 1 v).default;
       rule_changes = λ v. (rule_of [] 2 1 1 v).changes refl;
       rule_below = λ v. let law : 1 < 0 = (rule_of (pair 3 0 ∷ []) 2 1 0 v).below 0 first_pair (omega arith) in absurd (omega arith);
+      rule_own_layer = λ v. let law : 0 < 0 = (rule_of (pair 2 0 ∷ []) 2 1 0 v).below 0 first_pair (omega arith) in absurd (omega arith);
       one_after = λ v. other 1 2 (inl (omega arith)) (v.one_after 0 1 (record { conditions = []; var = 0; before = 0; after = 0 }) (omega arith) (omega arith) refl);
     }
