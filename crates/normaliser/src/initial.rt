@@ -13,20 +13,10 @@ ghost use Rattle.normal_task.specs.Numbers.{function_number, object_number};
 use atom_objects::Objects;
 use lists::List;
 use normal_task::{GroundAtom, ValueRow};
-use number_lists::NumberLists;
+use number_lists::{NumberLists, key_of};
 use numbering::Numbering;
 use pddl_parser::{Atom, Init, Term};
 use std::alloc::{AllocError, Global};
-
-/// A predicate or a function with its objects, as a key.
-fn key_of(alloc: Global, number: u64, objects: &[u64]) -> Result<Vec<u64>, AllocError>
-    ensures { IfOk result (λ key. key.items ≡ number ∷ objects.now) }
-{
-    let mut key = Vec::new(alloc);
-    key.push(number)?;
-    key.extend_from_slice(objects)?;
-    Ok(key)
-}
 
 /// Adds the item, if its key is new.
 fn push_new<T: Drop>(

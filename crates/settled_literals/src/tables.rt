@@ -1,5 +1,5 @@
 // A normal task with tables for its look-ups.
-ghost use Rattle.std.specs.Prelude.{◌≡◌, ◌∷◌, ◌<◌, ℕ, List as Items, true, map, length, get_or, IfOk};
+ghost use Rattle.std.specs.Prelude.{◌≡◌, ◌<◌, ℕ, List as Items, true, map, length, get_or, IfOk};
 ghost use Rattle.normal_task.specs.Meaning.{initial, atom_of};
 ghost use Rattle.static_matcher.specs.GroundTask.{is_fixed};
 ghost use Rattle.static_matcher.specs.Index.{IsAmong};
@@ -8,7 +8,7 @@ ghost use Rattle.settled_literals.specs.Tables.{HoldsAtoms, HoldsValues, has_ato
 use crate::index::index;
 use indexmap::IndexMap;
 use normal_task::{GroundAtom, Normal, ValueRow};
-use number_lists::NumberLists;
+use number_lists::{NumberLists, key_of};
 use static_matcher::Buckets;
 use std::alloc::{AllocError, Global};
 use std::marker::Model;
@@ -34,16 +34,6 @@ impl<'a> Model for Tables<'a> {
     ghost view = { λ tables. tables.task.now };
 
     ghost invariant = { λ tables. HoldsAtoms tables.task.now.init tables.initial × HoldsValues tables.task.now.values (map (λ entry. (entry.0.items, entry.1)) tables.values.entries) × IsIndexed tables.task.now.init tables.index };
-}
-
-/// The predicate or function, and then the objects.
-fn key_of(alloc: Global, number: u64, objects: &[u64]) -> Result<Vec<u64>, AllocError>
-    ensures { IfOk result (λ key. key.items ≡ number ∷ objects.now) }
-{
-    let mut key = Vec::with_capacity(alloc, 1)?;
-    key.push(number)?;
-    key.extend_from_slice(objects)?;
-    Ok(key)
 }
 
 /// The keys of the atoms.
