@@ -1,34 +1,24 @@
 // Which derived facts the axioms' facts rest on.
 ghost use Rattle.std.specs.Prelude.{◌≡◌, ◌++◌, map, filter, IfOk, OnOk};
 ghost use Rattle.std.specs.List.{flat_map};
-ghost use Rattle.relaxed_reach.specs.ReachedTask.{is_derived as is_derived_in};
+ghost use Rattle.relaxed_reach.specs.ReachedTask.{is_derived};
 ghost use Rattle.axiom_layers.specs.Arcs.{arc_to, arcs_at, arcs_of};
 
 use names::Arc;
-use relaxed_reach::{Fact, Reached, ReachedAxiom};
+use relaxed_reach::{Reached, ReachedAxiom};
 use std::alloc::{AllocError, Global};
-
-/// Whether the fact is derived.
-fn is_derived(facts: &[Fact], fact: u64) -> bool
-    ensures { result ≡ is_derived_in facts.now fact }
-{
-    match facts.get(fact as usize) {
-        Some(fact) => fact.derived,
-        None => false,
-    }
-}
 
 /// Adds an arc to the fact from each derived fact among the literals.
 fn push_arcs(
     arcs: &mut Vec<Arc>,
-    facts: &[Fact],
+    reached: &Reached,
     fact: u64,
     literals: &[u64],
 ) -> Result<(), AllocError>
-    ensures { OnOk result (arcs.new.items ≡ arcs.old.items ++ map (arc_to fact) (filter (is_derived_in facts.now) literals.now)) }
+    ensures { OnOk result (arcs.new.items ≡ arcs.old.items ++ map (arc_to fact) (filter (is_derived reached.now.facts) literals.now)) }
 {
     for low in literals {
-        if is_derived(facts, *low) {
+        if reached.is_derived(*low) {
             arcs.push(Arc {
                 from: *low as usize,
                 to: fact as usize,
@@ -39,11 +29,15 @@ fn push_arcs(
 }
 
 /// Adds the arcs of one axiom.
-fn push_axiom(arcs: &mut Vec<Arc>, facts: &[Fact], row: &ReachedAxiom) -> Result<(), AllocError>
-    ensures { OnOk result (arcs.new.items ≡ arcs.old.items ++ arcs_at facts.now row.now) }
+fn push_axiom(
+    arcs: &mut Vec<Arc>,
+    reached: &Reached,
+    row: &ReachedAxiom,
+) -> Result<(), AllocError>
+    ensures { OnOk result (arcs.new.items ≡ arcs.old.items ++ arcs_at reached.now.facts row.now) }
 {
-    push_arcs(arcs, facts, row.fact, row.condition.positive.as_slice())?;
-    push_arcs(arcs, facts, row.fact, row.condition.negative.as_slice())
+    push_arcs(arcs, reached, row.fact, row.condition.positive.as_slice())?;
+    push_arcs(arcs, reached, row.fact, row.condition.negative.as_slice())
 }
 
 /// The arcs of all axioms, one for each derived fact in a body.
@@ -52,7 +46,7 @@ pub(crate) fn arcs(alloc: Global, reached: &Reached) -> Result<Vec<Arc>, AllocEr
 {
     let mut arcs = Vec::new(alloc);
     for row in reached.axioms.as_slice() {
-        push_axiom(&mut arcs, reached.facts.as_slice(), row)?;
+        push_axiom(&mut arcs, reached, row)?;
     }
     Ok(arcs)
 }
