@@ -64,6 +64,14 @@ pub fn contradictory_examples()
     ensures two_objects { is_contradictory p_and_q_of_one (both_objects ∷ []) [] ((x, a) ∷ (x, b) ∷ []) (x ∷ []) ≡ true }
     ensures nothing_common { is_contradictory p_and_q_of_one ((0 ∷ []) ∷ (1 ∷ []) ∷ []) [] ((x, y) ∷ []) (x ∷ []) ≡ true }
     ensures one_common { is_contradictory p_and_q_of_one ((0 ∷ []) ∷ both_objects ∷ []) [] ((x, y) ∷ []) (x ∷ []) ≡ false }
+    // Any two of the three terms share an object, but the class has none in common.
+    ensures none_of_three { is_contradictory p_and_q_of_one ((0 ∷ 1 ∷ []) ∷ (1 ∷ 2 ∷ []) ∷ (0 ∷ 2 ∷ []) ∷ []) [] ((x, y) ∷ (y, z) ∷ []) (x ∷ []) ≡ true }
+    // The terms that have classes: those of the list alone, in equalities and in atoms, and those of the instance alone.
+    ensures two_objects_by_equalities { is_contradictory p_and_q_of_one (both_objects ∷ both_objects ∷ []) (Equal true y a ∷ Equal true y b ∷ []) [] (x ∷ []) ≡ true }
+    ensures stands_in_an_atom { is_contradictory p_and_q_of_one (both_objects ∷ [] ∷ []) (p (y ∷ []) ∷ []) [] (x ∷ []) ≡ true }
+    ensures stands_in_the_instance { is_contradictory p_and_q_of_one ([] ∷ []) [] [] (x ∷ []) ≡ true }
+    // The second parameter stands nowhere: it has no class, though no object is in its range.
+    ensures stands_nowhere { is_contradictory p_and_q_of_one (both_objects ∷ [] ∷ []) (p (x ∷ []) ∷ []) [] (x ∷ []) ≡ false }
     ensures two_of_the_instance { is_contradictory p_and_q_of_one (both_objects ∷ []) (p (x ∷ []) ∷ q (x ∷ []) ∷ []) [] (x ∷ []) ≡ true }
     ensures of_two_instances { is_contradictory p_and_q_of_one (both_objects ∷ both_objects ∷ []) (p (x ∷ []) ∷ q (y ∷ []) ∷ []) [] (x ∷ []) ≡ false }
     ensures one_predicate { is_contradictory p_and_q_of_one (both_objects ∷ []) (p (x ∷ []) ∷ p (x ∷ []) ∷ []) [] (x ∷ []) ≡ false }
@@ -91,6 +99,11 @@ pub fn balanced_examples()
     ensures not_deleted { is_balanced (one_action (q [] ∷ []) (adds [] [] 0 [] ∷ adds [] [] 1 [] ∷ [])) p_and_q ≡ false }
     ensures deleted_where_it_adds { is_balanced (one_action (q [] ∷ []) (adds [] (r ∷ []) 0 [] ∷ deletes [] (r ∷ []) 1 [] ∷ [])) p_and_q ≡ true }
     ensures deleted_elsewhere { is_balanced (one_action (q [] ∷ []) (adds [] [] 0 [] ∷ deletes [] (r ∷ []) 1 [] ∷ [])) p_and_q ≡ false }
+    // A negative literal is required where the precondition has it.
+    ensures deleted_where_false { is_balanced (one_action (q [] ∷ not_r ∷ []) (adds [] [] 0 [] ∷ deletes [] (not_r ∷ []) 1 [] ∷ [])) p_and_q ≡ true }
+    // So is an inequality, with its sides in the same order.
+    ensures deleted_where_they_differ { is_balanced (action_of_two (q (x ∷ []) ∷ Equal false x y ∷ []) (adds [] [] 0 (x ∷ []) ∷ deletes [] (Equal false x y ∷ []) 1 (x ∷ []) ∷ [])) p_and_q_of_one ≡ true }
+    ensures sides_are_ordered { is_balanced (action_of_two (q (x ∷ []) ∷ Equal false x y ∷ []) (adds [] [] 0 (x ∷ []) ∷ deletes [] (Equal false y x ∷ []) 1 (x ∷ []) ∷ [])) p_and_q_of_one ≡ false }
     ensures restored { is_balanced (one_action (q [] ∷ []) (adds [] [] 0 [] ∷ deletes [] [] 1 [] ∷ adds [] [] 1 [] ∷ [])) p_and_q ≡ false }
     ensures never_restored { is_balanced (one_action (q [] ∷ r ∷ []) (adds [] [] 0 [] ∷ deletes [] [] 1 [] ∷ adds [] (not_r ∷ []) 1 [] ∷ [])) p_and_q ≡ true }
     ensures restored_where_not_new { is_balanced (one_action (q [] ∷ []) (adds [] [] 0 [] ∷ deletes [] [] 1 [] ∷ adds [] (p [] ∷ []) 1 [] ∷ [])) p_and_q ≡ true }
