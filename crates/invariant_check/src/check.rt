@@ -1,13 +1,14 @@
 // The check of a candidate, and its repairs.
-ghost use Rattle.std.specs.Prelude.{◌≡◌, ◌++◌, ◌∷◌, [], filter, Some, IfOk, OnOk};
-ghost use Rattle.std.specs.List.{position_from};
+ghost use Rattle.std.specs.Prelude.{◌≡◌, ◌++◌, ◌∷◌, [], not, nat_eq, length, filter, Some, IfOk, OnOk};
+ghost use Rattle.std.specs.List.{list_any, position_from};
+ghost use Rattle.candidate_parts.specs.Extensions.{with_part};
 ghost use Rattle.invariant_check.specs.Repairs as spec;
 
 use crate::balanced::{has_balance, is_balanced_at};
-use crate::extensions::extensions;
+use crate::extensions::{extensions, parts_beside, with_part};
 use crate::light::is_light;
 use crate::types::{AddPlace, Verdict};
-use contradictions::Candidate;
+use contradictions::{Candidate, Part};
 use lists::List;
 use normal_task::{EffectRow, Normal, Schema};
 use std::alloc::{AllocError, Global};
@@ -160,6 +161,51 @@ pub fn repairs(
 
 // ---- the verdict
 
+/// Some delete effect balances the add at the place, under the candidate with this part more.
+fn balances_with(
+    alloc: Global,
+    normal: &Normal,
+    candidate: &Candidate,
+    place: &AddPlace,
+    part: &Part,
+) -> Result<bool, AllocError>
+    ensures { IfOk result (λ answer. answer ≡ spec.balances_add normal.now place.now (with_part normal.now candidate.now part.now)) }
+{
+    let extension = with_part(alloc, normal, candidate, part)?;
+    balances_add(alloc, normal, &extension, place)
+}
+
+/// Some delete effect balances the add at the place, under the candidate with some one of the parts more.
+fn some_repairs(
+    alloc: Global,
+    normal: &Normal,
+    candidate: &Candidate,
+    place: &AddPlace,
+    parts: &[Part],
+) -> Result<bool, AllocError>
+    ensures { IfOk result (λ answer. answer ≡ list_any (λ part. spec.balances_add normal.now place.now (with_part normal.now candidate.now part)) parts.now) }
+{
+    for part in parts {
+        if balances_with(alloc, normal, candidate, place, part)? {
+            return Ok(true);
+        }
+    }
+    Ok(false)
+}
+
+/// Some candidate repairs this one: the first that does is the last that is made.
+fn has_repair(
+    alloc: Global,
+    normal: &Normal,
+    candidate: &Candidate,
+    place: &AddPlace,
+) -> Result<bool, AllocError>
+    ensures { IfOk result (λ answer. answer ≡ not (nat_eq (length (spec.repairs_at normal.now candidate.now place.now)) 0)) }
+{
+    let parts = parts_beside(alloc, normal, candidate)?;
+    some_repairs(alloc, normal, candidate, place, parts.as_slice())
+}
+
 /// The verdict where the candidate is light, and this is its first add that isn't balanced.
 fn unbalanced(
     alloc: Global,
@@ -169,10 +215,10 @@ fn unbalanced(
 ) -> Result<Verdict, AllocError>
     ensures { IfOk result (λ verdict. verdict ≡ spec.verdict_by normal.now candidate.now (Some place)) }
 {
-    if repairs_at(alloc, normal, candidate, &place)?.is_empty() {
-        Ok(Verdict::Dropped)
-    } else {
+    if has_repair(alloc, normal, candidate, &place)? {
         Ok(Verdict::Unbalanced(place))
+    } else {
+        Ok(Verdict::Dropped)
     }
 }
 

@@ -140,7 +140,7 @@ fn others(alloc: Global, normal: &Normal, candidate: &Candidate) -> Result<Vec<u
 }
 
 /// The parts that the candidate may be extended by.
-fn parts_beside(
+pub(crate) fn parts_beside(
     alloc: Global,
     normal: &Normal,
     candidate: &Candidate,
@@ -254,7 +254,7 @@ fn in_form(alloc: Global, normal: &Normal, parts: &[Part]) -> Result<Vec<Part>, 
 }
 
 /// The candidate with this part more.
-fn with_part(
+pub(crate) fn with_part(
     alloc: Global,
     normal: &Normal,
     candidate: &Candidate,
