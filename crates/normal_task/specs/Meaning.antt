@@ -3,6 +3,7 @@ use Rattle.std.specs.Prelude.{ℕ, Bool, true, false, not, ◌&&◌, nat_eq, Lis
 use Rattle.std.specs.Cmp.Lexicographic.{pointwise}
 use Rattle.std.specs.List.{list_all, list_any, flat_map}
 use Rattle.std.specs.Option.{option_map}
+pub use Rattle.lists.specs.Choices.{choices}
 use Rattle.planning.specs.Task.{PlanningTask}
 use Rattle.planning.specs.Task as planning
 use Rattle.pddl_parser.specs.Words.{Name}
@@ -48,11 +49,6 @@ object_at binding (Object object) = object
 
 abbrev pub objects_at : Binding → List Place → List ℕ
 objects_at binding places = map (object_at binding) places
-
--- every list with one item of each list
-abbrev pub choices : {A : Type 0} → List (List A) → List (List A)
-choices [] = [] ∷ []
-choices (items ∷ more) = flat_map (λ item. map (λ others. item ∷ others) (choices more)) items
 
 -- ---- conditions
 
