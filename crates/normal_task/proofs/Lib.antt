@@ -20,7 +20,7 @@ mod Costs
 mod Busy
 pub mod Checked
 mod Counts
-pub mod Written
+mod Written
 mod Asks
 pub mod Ranks
 mod NameWords
