@@ -13,4 +13,5 @@ pub use fault::{Fault, Kind, ShapePlace, TreeEnd};
 pub use laws::{has_tree, lowering, one_tree, some_member, worked_examples};
 pub use position::At;
 pub use reader::read_tree;
+pub use scanner::is_word_byte;
 pub use tree::Tree;

@@ -32,7 +32,8 @@ pub(crate) struct Scanner {
     pub(crate) in_word: bool,
 }
 
-pub(crate) fn is_word_byte(byte: u8) -> bool
+/// Whether the byte can stand in a word: a visible one of ASCII, but for parentheses and `;`.
+pub fn is_word_byte(byte: u8) -> bool
     ensures { result ≡ is_word_byte byte }
 {
     matches!(byte, 33..=126) && !matches!(byte, b'(' | b')' | b';')

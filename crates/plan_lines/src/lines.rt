@@ -7,6 +7,7 @@ ghost use Rattle.plan_lines.specs.FirstLine as cut;
 ghost use Rattle.plan_lines.specs.Lines as spec;
 
 use lists::{List, Text};
+use pddl_lexer::is_word_byte;
 use std::alloc::{AllocError, Global};
 
 /// How many bytes come before the first line feed, or before the end.
@@ -44,12 +45,6 @@ fn is_trimmed_byte(byte: u8) -> bool
     ensures { result ≡ spec.is_trimmed_byte byte }
 {
     byte == b' ' || byte == b'\t' || byte == b'\r'
-}
-
-fn is_word_byte(byte: u8) -> bool
-    ensures { result ≡ is_word_byte byte }
-{
-    matches!(byte, 33..=126) && !matches!(byte, b'(' | b')' | b';')
 }
 
 /// How many spaces, tabs and carriage returns the line begins with.
