@@ -39,6 +39,19 @@ module _ {X : Type 0} where
       subst (λ b. Adds (at_number number item) b (map items (set rows number new))) same
       (subst (Adds (at_number number item) (map items rows)) (sym changed) (pushed (map items rows) number item (subst (λ n. number < n) (sym (length-map rows items)) within)))
 
+  -- the row of one number gave up a piece at its end
+  pub taken_at : {R : Type 0} (items : R → List X) (rows : List R) (number : ℕ) (row new : R) (piece : List X) (before : List (List X)) → map items rows ≡ before → number < length rows → row ≡ get_or rows number row → items row ≡ items new ++ piece →
+      row_of before number ≡ row_of (map items (set rows number new)) number ++ piece
+  taken_at items rows number row new piece before same within at is =
+      let shorter = ap (λ view. row_of view number) (map-set items rows number new) ∙ get_or-set_same (map items rows) number (items new) [] (subst (λ n. number < n) (sym (length-map rows items)) within) in
+      ap (λ view. row_of view number) (sym same) ∙ get_or-map items rows number row [] within ∙ ap items (sym at) ∙ is ∙ ap (λ l. l ++ piece) (sym shorter)
+
+  -- and those of the others stay
+  pub others_at : {R : Type 0} (items : R → List X) (rows : List R) (number : ℕ) (new : R) (before : List (List X)) → map items rows ≡ before → (other : ℕ) → (other ≡ number → ⊥) →
+      row_of (map items (set rows number new)) other ≡ row_of before other
+  others_at items rows number new before same other apart =
+      ap (λ view. row_of view other) (map-set items rows number new) ∙ get_or-set_other (map items rows) number other (items new) [] apart ∙ ap (λ view. row_of view other) same
+
   pub nothing : (rows : List (List X)) → Adds (λ number. []) rows rows
   nothing rows = record { count = refl; row = λ number below. sym (append-nil (row_of rows number)) }
 

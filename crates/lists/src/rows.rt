@@ -1,6 +1,7 @@
-// Lists by number, which grow at their ends.
+// Lists by number, which grow and shrink at their ends.
 
-ghost use Rattle.std.specs.Prelude.{◌≡◌, ◌==◌, [], ◌∷◌, replicate, IfOk, OnOk, if◌then◌else◌};
+ghost use Rattle.std.specs.Prelude.{◌≡◌, ◌≢◌, ◌==◌, ◌++◌, [], ◌∷◌, ℕ, replicate, IfOk, IfNone, OnOk, if◌then◌else◌};
+ghost use Rattle.std.specs.Option.{option_to_list};
 ghost use Rattle.lists.specs.Rows.{row_of, Adds};
 
 use std::alloc::{AllocError, Global};
@@ -44,6 +45,20 @@ impl<T: Drop> Rows<T> {
             self.rows[place].push(item)?;
         }
         Ok(())
+    }
+
+    /// Takes the last item from the number's list, if there is one.
+    pub fn pop(&mut self, number: u64) -> Option<T>
+        ensures taken { row_of self.old number ≡ row_of self.new number ++ option_to_list result }
+        ensures none { IfNone result (row_of self.old number ≡ []) }
+        ensures others { (other : ℕ) → other ≢ number → row_of self.new other ≡ row_of self.old other }
+    {
+        let place = number as usize;
+        if place < self.rows.len() {
+            self.rows[place].pop()
+        } else {
+            None
+        }
     }
 
     /// The number's list.

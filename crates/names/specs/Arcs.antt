@@ -1,5 +1,5 @@
 -- The arcs of a graph whose nodes are numbers, by the nodes from which they lead.
-use Rattle.std.specs.Prelude.{ℕ, List, [], ◌∷◌, ◌++◌, map, filter, length, nat_eq, slice_index_or, slice_set}
+use Rattle.std.specs.Prelude.{ℕ, List, map, filter, length, nat_eq, slice_index_or}
 use Rattle.std.specs.List.{range_with_len}
 use Rattle.names.specs.declared.arcs.Arc.{Arc}
 
@@ -14,11 +14,3 @@ positions_from arcs count number = filter (λ position. nat_eq (arc_at arcs posi
 -- the same of all arcs, for each number below `count`
 abbrev pub by_source : ℕ → List Arc → List (List ℕ)
 by_source count arcs = map (positions_from arcs (length arcs)) (range_with_len 0 count)
-
--- the row of a number
-abbrev pub row_of : List (List ℕ) → ℕ → List ℕ
-row_of rows number = slice_index_or rows number []
-
--- the rows with one position more in the number's row, if there is one
-abbrev pub with_position : List (List ℕ) → ℕ → ℕ → List (List ℕ)
-with_position rows number position = slice_set rows number (row_of rows number ++ position ∷ [])

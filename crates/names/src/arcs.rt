@@ -1,8 +1,10 @@
 // The arcs of a graph whose nodes are numbers, by the nodes from which they lead.
-ghost use Rattle.std.specs.Prelude.{◌≡◌, ◌≢◌, ◌++◌, ◌∷◌, [], ℕ, map, replicate, IfOk, IfNone, OnOk};
+ghost use Rattle.std.specs.Prelude.{◌≡◌, ◌≢◌, ◌++◌, [], ℕ, IfOk, IfNone};
 ghost use Rattle.std.specs.Option.{option_to_list};
-ghost use Rattle.names.specs.Arcs.{by_source, with_position, row_of};
+ghost use Rattle.lists.specs.Rows.{row_of};
+ghost use Rattle.names.specs.Arcs.{by_source};
 
+use lists::Rows;
 use std::alloc::{AllocError, Global};
 use std::marker::Model;
 
@@ -16,36 +18,15 @@ pub struct Arc {
 /// The positions of a graph's arcs in rows, one for each number, of those that lead from it and weren't taken.
 #[derive(Drop)]
 pub struct ArcsBySource {
-    rows: Vec<Vec<usize>>,
+    rows: Rows<usize>,
 }
 
 impl Model for ArcsBySource {
-    ghost use Rattle.std.specs.Prelude.{ℕ, List, map};
+    ghost use Rattle.std.specs.Prelude.{ℕ, List};
 
     ghost Value = { List (List ℕ) };
 
-    ghost view = { λ arcs. map (λ row. row.items) arcs.rows.items };
-}
-
-/// As many empty rows.
-fn empty_rows(alloc: Global, count: usize) -> Result<Vec<Vec<usize>>, AllocError>
-    ensures { IfOk result (λ rows. map (λ row. row.items) rows.items ≡ replicate count []) }
-{
-    let mut rows = Vec::new(alloc);
-    for _ in 0..count {
-        rows.push(Vec::new(alloc))?;
-    }
-    Ok(rows)
-}
-
-/// Adds a position to the number's row, if there is one.
-fn push_at(rows: &mut Vec<Vec<usize>>, number: usize, position: usize) -> Result<(), AllocError>
-    ensures { OnOk result (map (λ row. row.items) rows.new.items ≡ with_position (map (λ row. row.items) rows.old.items) number position) }
-{
-    if number < rows.len() {
-        rows[number].push(position)?;
-    }
-    Ok(())
+    ghost view = { λ arcs. arcs.rows };
 }
 
 impl ArcsBySource {
@@ -53,9 +34,9 @@ impl ArcsBySource {
     pub fn new(alloc: Global, count: usize, arcs: &[Arc]) -> Result<ArcsBySource, AllocError>
         ensures { IfOk result (λ rows. rows ≡ by_source count arcs.now) }
     {
-        let mut rows = empty_rows(alloc, count)?;
+        let mut rows = Rows::new(alloc, count as u64)?;
         for (position, arc) in arcs.iter().enumerate() {
-            push_at(&mut rows, arc.from, position)?;
+            rows.push(arc.from as u64, position)?;
         }
         Ok(ArcsBySource { rows })
     }
@@ -66,10 +47,6 @@ impl ArcsBySource {
         ensures none { IfNone result (row_of self.old number ≡ []) }
         ensures others { (other : ℕ) → other ≢ number → row_of self.new other ≡ row_of self.old other }
     {
-        if number < self.rows.len() {
-            self.rows[number].pop()
-        } else {
-            None
-        }
+        self.rows.pop(number as u64)
     }
 }
