@@ -29,11 +29,7 @@ fn push_arcs(
 }
 
 /// Adds the arcs of one axiom.
-fn push_axiom(
-    arcs: &mut Vec<Arc>,
-    reached: &Reached,
-    row: &ReachedAxiom,
-) -> Result<(), AllocError>
+fn push_axiom(arcs: &mut Vec<Arc>, reached: &Reached, row: &ReachedAxiom) -> Result<(), AllocError>
     ensures { OnOk result (arcs.new.items ≡ arcs.old.items ++ arcs_at reached.now.facts row.now) }
 {
     push_arcs(arcs, reached, row.fact, row.condition.positive.as_slice())?;
