@@ -249,7 +249,7 @@ const SWAP: &str = "(define (domain d) (:constants hall yard) (:predicates (here
   :effect (and (here hall) (here yard) (not (gone hall)) (not (gone yard)))))";
 
 /// Lists of literals that are contradictory, and others.
-static CONTRADICTIONS: [Row<Says>; 13] = [
+static CONTRADICTIONS: [Row<Says>; 14] = [
     // The added atom is true before.
     (
         "(define (domain d) (:predicates (on)) (:action keep :precondition (on) :effect (on)))",
@@ -319,6 +319,13 @@ static CONTRADICTIONS: [Row<Says>; 13] = [
             &[("p", &[0], None), ("q", &[0], None), ("r", &[0], None)],
             Said::Accepted,
         ),
+    ),
+    // The parameter stands nowhere, so it has no class: no list is contradictory by its empty range. Nothing deletes on.
+    (
+        "(define (domain d) (:types spare) (:predicates (on))
+ (:action turn :parameters (?x - spare) :effect (on)))",
+        problem!("a"),
+        Says(&[("on", &[], None)], Said::Dropped),
     ),
     // b is of both types, and p(b) and q(b) are added where both parameters are b.
     (
