@@ -7,3 +7,4 @@ pub mod Cases
 -- lemmas of this crate
 mod MergeSteps
 mod Shared
+mod Distinct

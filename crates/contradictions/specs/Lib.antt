@@ -6,3 +6,4 @@ pub mod GivenTerms
 pub mod Renamings
 pub mod FirstFrom
 pub mod Common
+pub mod Alike

@@ -1,0 +1,20 @@
+use Rattle.std.proofs.Common.{map, sym, subst}
+use Rattle.contradictions.specs.Contradictory.{has_contradiction, standing}
+use Rattle.contradictions.specs.Alike.{AnswerAlike}
+use Rattle.contradictions.specs.Merges.{all_ranges, as_pair, have_one_leader}
+use Rattle.contradictions.proofs.Cases.{answers_too}
+use Rattle.contradictions.proofs.Distinct.{alike_contradictions}
+use Rattle.contradictions.proofs.contradictory.contradicts.Goals as goal
+
+pub returns : goal.returns
+returns c =
+    let candidate = c.args.candidate.now in
+    let ranges = all_ranges c.args.case.now.ranges in
+    let literals = c.args.case.now.literals.now in
+    let instance = c.args.case.now.instance.now in
+    let all = standing literals (map as_pair c.args.case.now.equated.now) instance in
+    let same = have_one_leader c.args.merges.now in
+    let terms = c.as_slice.result.now in
+    answers_too c.contradicts_among.result (has_contradiction same candidate ranges literals terms instance) (has_contradiction same candidate ranges literals all instance)
+    (alike_contradictions same candidate ranges literals terms all instance (subst (λ terms. AnswerAlike terms all) (sym c.as_slice.ensures.value) c.in_ok-terms.ensures))
+    c.contradicts_among.ensures
