@@ -7,10 +7,10 @@ ghost use Rattle.normal_task.specs.Parts as spec;
 ghost use Rattle.normal_rows.specs.MadeThings.{IsMadeOf};
 ghost use Rattle.action_schemas.specs.Cuts.{combined, quantified};
 
-use lists::List;
+use lists::{List, checked_sum};
 use normal_rows::{
     Made, Scope, Variable, behind_ranges, free_slots, joined_lists, one_part, paired, part_alone,
-    place_of, places_of, renumbered, scope_inside, sum, variables_of, with_fresh,
+    place_of, places_of, renumbered, scope_inside, variables_of, with_fresh,
 };
 use normal_task::{Literal, Part};
 use numbering::Numbering;
@@ -82,7 +82,7 @@ pub fn cut<'n, 'a>(
         }
         Condition::Imply(premise, conclusion, _) => {
             let first = cut(alloc, here, premise.get(), !positive, next)?;
-            let start = sum(next, first.fresh.as_slice().len() as u64)?;
+            let start = checked_sum(next, first.fresh.as_slice().len() as u64)?;
             let second = cut(alloc, here, conclusion.get(), positive, start)?;
             joined_made(alloc, !positive, here.around, first, second)
         }
@@ -111,7 +111,7 @@ fn cut_members<'n, 'a>(
 {
     let mut made = neutral(alloc, every)?;
     for member in members {
-        let start = sum(next, made.fresh.as_slice().len() as u64)?;
+        let start = checked_sum(next, made.fresh.as_slice().len() as u64)?;
         let more = cut(alloc, here, member, positive, start)?;
         made = joined_made(alloc, every, here.around, made, more)?;
     }
@@ -149,7 +149,7 @@ fn cut_some<'n, 'a>(
 ) -> Result<Made<Part>, AllocError>
     ensures { IfOk result (IsMadeOf (spec.exists_inside here.now.numbering.now.domain here.now.numbering.now.problem variables.now (spec.known here.now.numbering.now.domain here.now.numbering.now.problem inside.now) positive here.now.scope.now here.now.around next)) }
 {
-    let around = sum(here.around, variables.len() as u64)?;
+    let around = checked_sum(here.around, variables.len() as u64)?;
     let scope = scope_inside(alloc, here.numbering, variables, here.around, here.scope)?;
     let inner = Here {
         numbering: here.numbering,
@@ -197,7 +197,7 @@ fn cut_denied<'n, 'a>(
 ) -> Result<Made<Part>, AllocError>
     ensures { IfOk result (IsMadeOf (spec.denied numbering.now.domain numbering.now.problem arguments.now next (spec.exists_inside numbering.now.domain numbering.now.problem variables.now (spec.known numbering.now.domain numbering.now.problem inside.now) positive (spec.renumbered arguments.now 0 []) (length arguments.now) (suc next)))) }
 {
-    let after = sum(next, 1)?;
+    let after = checked_sum(next, 1)?;
     let scope = renumbered(alloc, arguments)?;
     let there = Here {
         numbering,
@@ -244,7 +244,7 @@ fn denied_atom(
 ) -> Result<List<Part>, AllocError>
     ensures { IfOk result (λ items. items ≡ (spec.only (Holds false (spec.fresh_number numbering.now.domain numbering.now.problem next) (map (λ slot. place.Variable slot.place) arguments.now))).items) }
 {
-    let predicate = sum(numbering.domain_predicates(), next)?;
+    let predicate = checked_sum(numbering.domain_predicates(), next)?;
     let places = variables_of(alloc, arguments)?;
     one_part(alloc, Literal::Holds(false, predicate, places))
 }

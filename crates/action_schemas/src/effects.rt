@@ -8,10 +8,10 @@ ghost use Rattle.normal_task.specs.Numbers.{ranges_of};
 ghost use Rattle.normal_task.specs.Parts as parts;
 
 use crate::conditions::{Here, cut, joined_made, neutral};
-use lists::List;
+use lists::{List, checked_sum};
 use normal_rows::{
     Change, Made, Scope, effect_rows, joined_ranges, made_behind, nothing_made, places_of,
-    scope_inside, sum,
+    scope_inside,
 };
 use normal_task::{EffectRow, ObjectRange, Part};
 use numbering::Numbering;
@@ -66,7 +66,7 @@ fn cut_required<'n, 'a>(
 {
     let mut made = neutral(alloc, true)?;
     for one in required {
-        let start = sum(next, made.fresh.as_slice().len() as u64)?;
+        let start = checked_sum(next, made.fresh.as_slice().len() as u64)?;
         let more = cut_one(alloc, numbering, one, around, start)?;
         made = joined_made(alloc, true, around, made, more)?;
     }
@@ -245,7 +245,7 @@ fn rows_for_each<'n, 'a>(
 ) -> Result<Made<EffectRow>, AllocError>
     ensures { IfOk result (IsMadeOf (spec.for_each numbering.now.domain numbering.now.problem variables.now (spec.rows_of numbering.now.domain numbering.now.problem inside.now) (cuts_of numbering.now.domain numbering.now.problem around.now.required.now) around.now.scope.now around.now.count next)) }
 {
-    let count = sum(around.count, variables.len() as u64)?;
+    let count = checked_sum(around.count, variables.len() as u64)?;
     let scope = scope_inside(alloc, numbering, variables, around.count, around.scope)?;
     let inner = Around {
         required: around.required,
@@ -269,7 +269,7 @@ fn rows_of_all<'n, 'a>(
 {
     let mut made = nothing_made(alloc);
     for member in members {
-        let start = sum(next, made.fresh.as_slice().len() as u64)?;
+        let start = checked_sum(next, made.fresh.as_slice().len() as u64)?;
         let more = rows_of(alloc, numbering, member, around, start)?;
         made = made_behind(made, more)?;
     }

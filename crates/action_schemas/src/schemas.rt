@@ -7,10 +7,10 @@ ghost use Rattle.normal_task.specs.Parts as parts;
 
 use crate::conditions::{Here, cut};
 use crate::effects::{Around, rows_of};
-use lists::{List, Text};
+use lists::{List, Text, checked_sum};
 use normal_rows::{
     Made, Scope, action_cost, joined_lists, joined_ranges, made_behind, moved_rows, nothing_made,
-    scope_of, sum,
+    scope_of,
 };
 use normal_task::{EffectRow, ObjectRange, Part, Schema};
 use numbering::Numbering;
@@ -103,7 +103,7 @@ fn schemas_in<'n, 'a>(
         around,
     };
     let parts = cut(alloc, &here, &action.precondition, true, next)?;
-    let start = sum(next, parts.fresh.as_slice().len() as u64)?;
+    let start = checked_sum(next, parts.fresh.as_slice().len() as u64)?;
     let around = Around {
         required: &[],
         scope,
@@ -140,7 +140,7 @@ pub fn schemas_of<'n, 'a>(
 {
     let mut made = nothing_made(alloc);
     for action in actions {
-        let start = sum(next, made.fresh.as_slice().len() as u64)?;
+        let start = checked_sum(next, made.fresh.as_slice().len() as u64)?;
         let more = schemas(alloc, numbering, action, start)?;
         made = made_behind(made, more)?;
     }

@@ -4,9 +4,11 @@
 
 mod list;
 mod rows;
+mod sums;
 mod text;
 
 pub use list::List;
 pub use rows::Rows;
 pub use sqlite_items::Boxed;
+pub use sums::checked_sum;
 pub use text::Text;

@@ -3,10 +3,9 @@ ghost use Rattle.std.specs.Prelude.{◌≡◌, ◌∷◌, [], reverse, unwrap_or
 ghost use Rattle.std.specs.Option.{option_map};
 ghost use Rattle.normal_task.specs.Parts as spec;
 
-use crate::numbers::sum;
 use crate::variable::Variable;
 use indexmap::IndexMap;
-use lists::List;
+use lists::{List, checked_sum};
 use normal_task::Place;
 use numbering::Numbering;
 use pddl_parser::{Term, Typed};
@@ -97,7 +96,7 @@ pub fn scope_inside<'n, 'a>(
 {
     let mut scope = outer.copy(alloc)?;
     for (index, variable) in variables.iter().enumerate() {
-        let number = sum(place, index as u64)?;
+        let number = checked_sum(place, index as u64)?;
         scope = scope.with(Variable::new(numbering, variable, number))?;
     }
     Ok(scope)

@@ -6,8 +6,8 @@ ghost use Rattle.normal_task.specs.Numbers.{predicate_number, ranges_of};
 ghost use Rattle.normal_task.specs.Parts as parts;
 
 use action_schemas::{Here, cut};
-use lists::List;
-use normal_rows::{Made, Scope, made_behind, nothing_made, push_axioms, scope_of, sum};
+use lists::{List, checked_sum};
+use normal_rows::{Made, Scope, made_behind, nothing_made, push_axioms, scope_of};
 use normal_task::{AxiomRow, Fresh, Part};
 use numbering::Numbering;
 use pddl_parser::{Derived, Head};
@@ -17,7 +17,7 @@ use std::alloc::{AllocError, Global};
 pub(crate) fn fresh_number(numbering: &Numbering<'_>, next: u64) -> Result<u64, AllocError>
     ensures { IfOk result (λ number. number ≡ parts.fresh_number numbering.now.domain numbering.now.problem next) }
 {
-    sum(numbering.domain().predicates.as_slice().len() as u64, next)
+    checked_sum(numbering.domain().predicates.as_slice().len() as u64, next)
 }
 
 /// An axiom of the predicate for each part.
@@ -102,7 +102,7 @@ pub(crate) fn axioms_of<'n, 'a>(
 {
     let mut made = nothing_made(alloc);
     for rule in rules {
-        let start = sum(next, made.fresh.as_slice().len() as u64)?;
+        let start = checked_sum(next, made.fresh.as_slice().len() as u64)?;
         let more = axiom_rows(alloc, numbering, rule, start)?;
         made = made_behind(made, more)?;
     }

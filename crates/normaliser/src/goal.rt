@@ -5,8 +5,8 @@ ghost use Rattle.normaliser.specs.WholeTask.{plain};
 ghost use Rattle.normal_task.specs.Normalised as spec;
 
 use crate::axioms::fresh_number;
-use lists::List;
-use normal_rows::{Made, copied_literals, sum};
+use lists::{List, checked_sum};
+use normal_rows::{Made, copied_literals};
 use normal_task::{Fresh, Literal, Part};
 use numbering::Numbering;
 use std::alloc::{AllocError, Global};
@@ -38,7 +38,7 @@ fn goal_atom(
 {
     let Made { items, fresh } = goal;
     let mut fresh = fresh.into_vec();
-    let number = fresh_number(numbering, sum(next, fresh.len() as u64)?)?;
+    let number = fresh_number(numbering, checked_sum(next, fresh.len() as u64)?)?;
     fresh.push(Fresh {
         arguments: List::from_vec(Vec::new(alloc)),
         parts: items,

@@ -12,8 +12,8 @@ use crate::goal::goal_of;
 use crate::initial::{stated_atoms, stated_values};
 use crate::predicates::predicate_rows;
 use action_schemas::{Here, cut, schemas_of};
-use lists::{List, Text};
-use normal_rows::{Made, Scope, joined_lists, sum};
+use lists::{List, Text, checked_sum};
+use normal_rows::{Made, Scope, joined_lists};
 use normal_task::laws::lawful;
 use normal_task::{AxiomRow, Fresh, Literal, Normal, Schema};
 use numbering::Numbering;
@@ -94,7 +94,7 @@ fn make_all(alloc: Global, numbering: &Numbering<'_>) -> Result<MadeAll, AllocEr
     let schemas = schemas_of(alloc, numbering, domain.actions.as_slice(), 0)?;
     let after_schemas = schemas.fresh.as_slice().len() as u64;
     let axioms = axioms_of(alloc, numbering, domain.axioms.as_slice(), after_schemas)?;
-    let after_axioms = sum(after_schemas, axioms.fresh.as_slice().len() as u64)?;
+    let after_axioms = checked_sum(after_schemas, axioms.fresh.as_slice().len() as u64)?;
     let goal = goal_made(alloc, numbering, after_axioms)?;
     let all = all_made(schemas, axioms, goal)?;
     Ok(all)
