@@ -6,20 +6,11 @@ ghost use Rattle.std.specs.List.{flat_map, range_with_len};
 ghost use Rattle.pass_relevance.specs.Influences.{arcs_to, arcs_of_effect, arcs_of_two, disagreements, arcs_of_operator, arcs_at, arcs_of_rule};
 ghost use Rattle.pass_relevance.specs.Influences as words;
 
+use lists::checked_sum;
 use names::Arc;
 use sas_orders::arrange;
 use sas_task::{Effect, Operator, Pair, Rule, SasTask, facts_set};
 use std::alloc::{AllocError, Global};
-
-/// The sum, or want of memory where it isn't a `u64`: no memory has so many places.
-pub(crate) fn sum(number: u64, more: u64) -> Result<u64, AllocError>
-    ensures { IfOk result (λ sum. sum ≡ number + more) }
-{
-    match number.checked_add(more) {
-        Some(sum) => Ok(sum),
-        None => Err(AllocError),
-    }
-}
 
 /// The arc between the two nodes.
 fn arc(from: u64, to: u64) -> Arc
@@ -108,7 +99,7 @@ fn add_operators(alloc: Global, arcs: &mut Vec<Arc>, task: &SasTask) -> Result<(
     ensures { OnOk result (arcs.new.items ≡ arcs.old.items ++ flat_map (arcs_at task.now) (range_with_len 0 (length task.now.operators))) }
 {
     for i in 0..task.operators() {
-        let node = sum(task.variables(), i)?;
+        let node = checked_sum(task.variables(), i)?;
         add_operator(alloc, arcs, node, task.operator(i))?;
     }
     Ok(())

@@ -4,8 +4,9 @@ ghost use Rattle.std.specs.Prelude.{◌≡◌, nat_lt, map, filter, IfOk};
 ghost use Rattle.sas_task.specs.Valid.{IsValid};
 ghost use Rattle.sas_restriction.specs.Relevant.{AreRelevant};
 
-use crate::influences::{influences, sum};
+use crate::influences::influences;
 use graph_search::reached;
+use lists::checked_sum;
 use sas_task::{Pair, SasTask};
 use std::alloc::{AllocError, Global};
 
@@ -33,7 +34,7 @@ pub(crate) fn relevant_variables(alloc: Global, task: &SasTask) -> Result<Vec<u6
     ensures { IfOk result (λ vars. AreRelevant task.now vars.items) }
 {
     let count = task.variables();
-    let nodes = sum(count, task.operators())?;
+    let nodes = checked_sum(count, task.operators())?;
     let wanted = variables_of(alloc, task.goal())?;
     let influences = influences(alloc, task)?;
     let starts = wanted.as_slice();
