@@ -1,7 +1,7 @@
 // What influences what in a task, as arcs of a graph. Its nodes are the variables, by their numbers, and behind them the
 // operators, by their places: what is relevant where something else is stands at the end of an arc from it.
 
-ghost use Rattle.std.specs.Prelude.{◌≡◌, ◌++◌, ◌<◌, length, IfOk, OnOk};
+ghost use Rattle.std.specs.Prelude.{◌≡◌, ◌++◌, ◌+◌, ◌<◌, length, IfOk, OnOk};
 ghost use Rattle.std.specs.List.{flat_map, range_with_len};
 ghost use Rattle.pass_relevance.specs.Influences.{arcs_to, arcs_of_effect, arcs_of_two, disagreements, arcs_of_operator, arcs_at, arcs_of_rule};
 ghost use Rattle.pass_relevance.specs.Influences as words;
