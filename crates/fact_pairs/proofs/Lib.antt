@@ -1,2 +1,4 @@
+mod OneBit
 mod Bits
+pub mod MarkLists
 pub mod Ranges

@@ -1,3 +1,4 @@
 pub mod Bits
 pub mod Facts
 pub mod Finds
+pub mod MarkLists

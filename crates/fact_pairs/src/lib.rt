@@ -6,4 +6,5 @@ mod marks;
 mod table;
 
 pub use facts::{initial_facts, is_in_goal, is_mixed, is_plain};
-pub use table::{Table, all_marked, goes_with, wakes_at};
+pub use marks::Marks;
+pub use table::{Table, all_marked, numbers, wakes_at};

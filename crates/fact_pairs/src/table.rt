@@ -1,10 +1,11 @@
 // Which pairs of facts are found to be possible.
 
-ghost use Rattle.std.specs.Prelude.{◌≡◌, ◌==◌, ◌||◌, true, false, [], length, replicate, slice_set, slice_index_or, IfOk, OnOk};
+ghost use Rattle.std.specs.Prelude.{◌≡◌, true, false, [], replicate, slice_set, slice_index_or, IfOk, OnOk};
 ghost use Rattle.std.specs.List.{list_all, list_any};
 ghost use Rattle.pass_possible.specs.Possible as possible;
 ghost use Rattle.fact_pairs.specs.Facts as facts_words;
 ghost use Rattle.fact_pairs.specs.Finds as words;
+ghost use Rattle.fact_pairs.specs.MarkLists as lists;
 
 use crate::facts::list_facts;
 use crate::marks::Marks;
@@ -12,13 +13,15 @@ use sas_task::{Operator, Pair, SasTask};
 use std::alloc::{AllocError, Global};
 use std::marker::Model;
 
-/// A mark for each pair of facts, a bit in the row of the greater of their numbers, and for each fact whether a pair with
-/// it was marked since the marks were settled. The rows take their memory before the first mark is set.
+/// A mark for each pair of facts, a bit in the row of each of the two, and for each fact whether it is marked with itself
+/// and whether a pair with it was marked since the marks were settled. The rows take their memory before the first mark is
+/// set.
 pub struct Table {
     facts: Vec<Pair>,
     /// For each variable how many facts come before its own.
     starts: Vec<u64>,
     rows: Vec<Marks>,
+    alone: Marks,
     touched: Marks,
 }
 
@@ -28,6 +31,7 @@ impl Drop for Table {
             facts: _,
             starts: _,
             rows: _,
+            alone: _,
             touched: _,
         } = self;
     }
@@ -38,16 +42,16 @@ impl Model for Table {
 
     ghost Value = { Finds };
 
-    ghost view = { λ t. record { facts = t.facts.items; starts = t.starts.items; rows = t.rows.items; touched = t.touched } };
+    ghost view = { λ t. record { facts = t.facts.items; starts = t.starts.items; rows = t.rows.items; alone = t.alone; touched = t.touched } };
 }
 
-/// So many rows of open marks, each with one place more than the row before.
+/// So many rows with so many places, none marked.
 fn open_rows(alloc: Global, count: usize) -> Result<Vec<Marks>, AllocError>
     ensures { IfOk result (λ rows. rows.items ≡ words.open_rows count) }
 {
     let mut rows = Vec::with_capacity(alloc, count)?;
-    for i in 0..count {
-        let row = Marks::new(alloc, i + 1)?;
+    for _ in 0..count {
+        let row = Marks::new(alloc, count)?;
         rows.push(row)?;
     }
     Ok(rows)
@@ -83,11 +87,13 @@ impl Table {
         let mut starts = Vec::new(alloc);
         list_facts(&mut facts, &mut starts, task)?;
         let rows = open_rows(alloc, facts.len())?;
+        let alone = Marks::new(alloc, facts.len())?;
         let touched = Marks::new(alloc, facts.len())?;
         Ok(Table {
             facts,
             starts,
             rows,
+            alone,
             touched,
         })
     }
@@ -106,12 +112,12 @@ impl Table {
         number(self.facts.as_slice(), self.starts.as_slice(), fact)
     }
 
-    /// What stands in the row at this place, or this where nothing does.
-    pub fn mark_or(&self, other: bool, row: u64, place: u64) -> bool
-        ensures { result ≡ words.mark_or other self.now.rows row place }
+    /// Whether the pair of facts with these numbers is marked, or this where one of them is no fact's number.
+    pub fn marked_or(&self, other: bool, i: u64, j: u64) -> bool
+        ensures { result ≡ words.marked_or other self.now i j }
     {
-        match self.rows.as_slice().get(row as usize) {
-            Some(marks) => marks.get_or(place, other),
+        match self.rows.as_slice().get(i as usize) {
+            Some(row) => row.get_or(j, other),
             None => other,
         }
     }
@@ -120,19 +126,15 @@ impl Table {
     pub fn has(&self, front: &Pair, back: &Pair) -> bool
         ensures { result ≡ words.found self.now front.now back.now }
     {
-        let (i, j) = (self.number(front), self.number(back));
-        if i < j {
-            self.mark_or(false, j, i)
-        } else {
-            self.mark_or(false, i, j)
-        }
+        self.marked_or(false, self.number(front), self.number(back))
     }
 
     /// Sets the mark at this place of the row, if there is one.
     fn set_mark(&mut self, row: u64, place: u64)
-        ensures rows { self.new.rows ≡ slice_set self.old.rows row (slice_set (slice_index_or self.old.rows row []) place true) }
+        ensures rows { self.new.rows ≡ words.with_place self.old.rows row place }
         ensures facts { self.new.facts ≡ self.old.facts }
         ensures starts { self.new.starts ≡ self.old.starts }
+        ensures alone { self.new.alone ≡ self.old.alone }
         ensures touched { self.new.touched ≡ self.old.touched }
     {
         if (row as usize) < self.rows.len() {
@@ -144,13 +146,53 @@ impl Table {
     pub fn set(&mut self, i: u64, j: u64)
         ensures { self.new ≡ words.with_mark self.old i j }
     {
-        if i < j {
-            self.set_mark(j, i);
-        } else {
-            self.set_mark(i, j);
+        self.set_mark(i, j);
+        self.set_mark(j, i);
+        if i == j {
+            self.alone.set(i);
         }
         self.touched.set(i);
         self.touched.set(j);
+    }
+
+    /// Marks of the facts that are marked with themselves.
+    pub fn alone(&self, alloc: Global) -> Result<Marks, AllocError>
+        ensures { IfOk result (λ marks. marks ≡ self.now.alone) }
+    {
+        self.alone.copy(alloc)
+    }
+
+    /// Of these marks of facts, those of facts that are marked with the one of this number.
+    pub fn marked_with(
+        &self,
+        alloc: Global,
+        marks: &Marks,
+        number: u64,
+    ) -> Result<Marks, AllocError>
+        ensures { IfOk result (λ common. common ≡ lists.common marks.now (words.row self.now number)) }
+    {
+        match self.rows.as_slice().get(number as usize) {
+            Some(row) => marks.common(alloc, row),
+            None => Marks::new(alloc, 0),
+        }
+    }
+
+    /// The numbers of the facts with these marks that aren't marked yet with the fact of this number.
+    pub fn unmarked_with(
+        &self,
+        alloc: Global,
+        marks: &Marks,
+        number: u64,
+    ) -> Result<Vec<u64>, AllocError>
+        ensures { IfOk result (λ places. places.items ≡ lists.places (lists.without marks.now (words.row self.now number))) }
+    {
+        match self.rows.as_slice().get(number as usize) {
+            Some(row) => {
+                let marks = marks.without(alloc, row)?;
+                marks.places(alloc)
+            }
+            None => Ok(Vec::new(alloc)),
+        }
     }
 
     /// No pair counts as marked of late.
@@ -174,33 +216,43 @@ impl Table {
         facts.iter().any(|fact| self.is_touched(fact))
     }
 
-    /// Whether the conditions are none, or one of them is such a fact.
-    fn touches(&self, conditions: &[Pair]) -> bool
-        ensures { result ≡ ((length conditions.now == 0) || list_any (words.is_touched self.now) conditions.now) }
-    {
-        conditions.is_empty() || self.some_touched(conditions)
-    }
-
-    /// Whether a pair that the operator needs may have been marked since the marks were settled.
+    /// Whether a pair that the operator needs may have been marked since the marks were settled: one with a condition or,
+    /// where there is none, any.
     pub fn wakes(&self, operator: &Operator) -> bool
         ensures { result ≡ words.is_woken self.now operator.now }
     {
-        self.touches(operator.conditions.as_slice()) && self.touched.has_some()
+        let conditions = operator.conditions.as_slice();
+        if conditions.is_empty() {
+            self.touched.has_some()
+        } else {
+            self.some_touched(conditions)
+        }
     }
 }
 
-/// Whether the fact is marked with each of these.
-pub fn goes_with(table: &Table, fact: &Pair, pairs: &[Pair]) -> bool
-    ensures { result ≡ list_all (λ p. words.found table.now fact.now p) pairs.now }
+/// The numbers of these facts.
+pub fn numbers(alloc: Global, table: &Table, facts: &[Pair]) -> Result<Vec<u64>, AllocError>
+    ensures { IfOk result (λ numbers. numbers.items ≡ words.numbers table.now facts.now) }
 {
-    pairs.iter().all(|pair| table.has(fact, pair))
+    facts.iter().map(|fact| table.number(fact)).collect(alloc)
+}
+
+/// Whether the fact with this number is marked with each of these facts.
+fn goes_with_facts(table: &Table, number: u64, facts: &[Pair]) -> bool
+    ensures { result ≡ list_all (λ p. words.marked_or false table.now number (words.number_in table.now p)) facts.now }
+{
+    facts
+        .iter()
+        .all(|fact| table.marked_or(false, number, table.number(fact)))
 }
 
 /// Whether all pairs of the facts are marked.
 pub fn all_marked(table: &Table, facts: &[Pair]) -> bool
     ensures { result ≡ possible.all_pairs (words.found table.now) facts.now }
 {
-    facts.iter().all(|fact| goes_with(table, fact, facts))
+    facts
+        .iter()
+        .all(|fact| goes_with_facts(table, table.number(fact), facts))
 }
 
 /// Whether a pair that the operator at this place needs may have been found of late; not where no operator stands there.

@@ -1,10 +1,9 @@
 -- The turns of the search: in each the operators of a queue are looked at, and where the queue is empty what is found are the possible pairs.
-use Rattle.std.proofs.Common.{◌≡◌, ℕ, ◌+◌, ◌<◌, Bool, true, false, not, cond, ◌||◌, eqb, List, [], ◌∷◌, fold, length, get_or, replicate, Option, Some, None, ◌⊎◌, refl, sym, ap, ◌∙◌, subst, inl, inr, arith}
+use Rattle.std.proofs.Common.{◌≡◌, ℕ, ◌+◌, ◌<◌, ◌≤◌, Bool, true, false, not, cond, eqb, List, [], ◌∷◌, fold, length, get_or, replicate, Option, Some, None, ◌⊎◌, refl, sym, ap, ◌∙◌, subst, inl, inr, arith}
 use Rattle.std.specs.List.{Contains, slice_get, list_all, list_any, range_with_len}
 use Rattle.std.specs.Option.{option_map_or}
-use Rattle.std.proofs.lemmas.Bool.{cases_Bool, and_parts, and_from, or_right, cases_lt, ne_eqb, false≢true}
+use Rattle.std.proofs.lemmas.Bool.{cases_Bool, and_parts, and_from, cases_lt, ne_eqb, false≢true}
 use Rattle.std.proofs.lemmas.List.{length-replicate, get_or-replicate, get_or_default, get_or_past}
-use Rattle.std.proofs.lemmas.List.FromFn.{get_or-map-range_with_len, length-map-range_with_len}
 use Rattle.std.proofs.lemmas.Option.{slice_get_within, slice_get-get_or, get_or_from_slice_get, same_Some, none-some}
 use Rattle.lists.proofs.Members.{no_member, member_first, member_cases, all_pass, each_passes, any_member, member_any, map_member, member_map, filter_member, member_filter, member_range, range_member}
 use Rattle.sas_task.specs.declared.parts.Pair.{Pair}
@@ -13,12 +12,11 @@ use Rattle.sas_task.specs.Task.{Task}
 use Rattle.sas_task.specs.Pairs.{pair}
 use Rattle.sas_task.specs.Valid.{IsValid, IsValue, IsFact}
 use Rattle.pass_possible.specs.Possible.{all_pairs, is_possible, is_mixed, IsInitial, ArePossible}
-use Rattle.fact_pairs.specs.Finds.{Finds, number_in, found, settled, is_touched, is_woken, is_woken_at, high, low, nothing}
+use Rattle.fact_pairs.specs.Finds.{Finds, number_in, numbers, marked_or, found, settled, is_touched, is_woken, is_woken_at, nothing}
 use Rattle.pass_h2.specs.Search.{looked, looked_at, woken, turned, initial_pairs}
-use Rattle.fact_pairs.specs.Facts.{all_facts, initial_facts}
-use Rattle.pass_h2.proofs.Numbers.{has_number}
-use Rattle.pass_h2.proofs.Rows.{low_high}
-use Rattle.pass_h2.proofs.Adding.{Shaped, Adds, Any, nothing_more, both, all_adds, all_found, found_turned, found_low, below_both, some_touched, open_count}
+use Rattle.fact_pairs.specs.Facts.{all_facts, starts, initial_facts}
+use Rattle.pass_h2.proofs.Numbers.{has_number, one_number}
+use Rattle.pass_h2.proofs.Adding.{Shaped, Adds, Any, nothing_more, both, chosen_adds, all_found, found_turned, some_touched, open_count}
 use Rattle.pass_h2.proofs.Searching.{Searched, Answered, answered_within, looks}
 
 no_mark : (n : ℕ) → list_any (λ mark. mark) (replicate n false) ≡ true → ⊥
@@ -34,6 +32,17 @@ mark_some marks i is =
       | inl low ↦ member_any (λ mark. mark) marks true (i, low, get_or_default marks i true false low ∙ is) refl
       | inr past ↦ absurd (false≢true (sym (get_or_past marks i false past) ∙ is))
     ]
+
+not_empty : (ps : List Pair) (p : Pair) → Contains ps p → eqb (length ps) 0 ≡ false
+not_empty ps p in' = ne_eqb (length ps) 0 (λ none. let low = in'.1 in absurd (omega (arith, low, none)))
+
+-- a woken operator shows that some fact is touched
+woken_some : (g : Finds) (o : Operator) → is_woken g o ≡ true → some_touched g ≡ true
+woken_some g o is = by_test (eqb (length o.conditions) 0) is
+  where
+    by_test : (b : Bool) → cond b (some_touched g) (list_any (is_touched g) o.conditions) ≡ true → some_touched g ≡ true
+    by_test true is = is
+    by_test false is = let p = any_member (is_touched g) o.conditions is in mark_some g.touched (number_in g p.0) p.2
 
 -- how many pairs are open, twice, and one more while the queue isn't empty
 abbrev waiting : List ℕ → ℕ
@@ -79,18 +88,25 @@ module _ (T : Task) (valid : IsValid T) where
 
   -- an operator that isn't woken needs no pair that is new
   module _ (f g : Finds) (s : Searched T valid f) (a : Adds Any f g) (o : Operator) (asleep : is_woken g o ≡ false) where
-    woken_by : (p : Pair) → is_touched g p ≡ true → (eqb (length o.conditions) 0 || list_any (is_touched g) o.conditions) ≡ true → ⊥
-    woken_by p touched needs = false≢true (sym asleep ∙ and_from (some_touched g) (eqb (length o.conditions) 0 || list_any (is_touched g) o.conditions) (mark_some g.touched (number_in g p) touched) needs)
+    not_touched : (p : Pair) → Contains o.conditions p → is_touched g p ≡ true → ⊥
+    not_touched p in-p touched =
+        let some = ap (λ b. cond b (some_touched g) (list_any (is_touched g) o.conditions)) (not_empty o.conditions p in-p) in
+        false≢true (sym asleep ∙ some ∙ member_any (is_touched g) o.conditions p in-p touched)
+
+    none_touched : o.conditions ≡ [] → (p : Pair) → is_touched g p ≡ true → ⊥
+    none_touched none p touched =
+        let any = ap (λ (qs : List Pair). cond (eqb (length qs) 0) (some_touched g) (list_any (is_touched g) qs)) none in
+        false≢true (sym asleep ∙ any ∙ mark_some g.touched (number_in g p) touched)
 
     old_pair : (p q : Pair) → Contains o.conditions p → found g p q ≡ true → found f p q ≡ true
     old_pair p q in-p is =
         elim (a.told p q is) [
           | inl old ↦ old
-          | inr new ↦ absurd (woken_by p new.1 (or_right (eqb (length o.conditions) 0) (list_any (is_touched g) o.conditions) (member_any (is_touched g) o.conditions p in-p new.1)))
+          | inr new ↦ absurd (not_touched p in-p new.1)
         ]
 
     old_beside : (p : Pair) → list_all (λ q. found g p q) o.conditions ≡ true → list_all (λ q. found f p q) o.conditions ≡ true
-    old_beside p all = each_passes (λ q. found f p q) o.conditions (λ q in-q. found_turned f p q ∙ old_pair q p in-q (found_turned g q p ∙ all_pass (λ q. found g p q) o.conditions q all in-q))
+    old_beside p all = each_passes (λ q. found f p q) o.conditions (λ q in-q. found_turned f s.shaped q p (old_pair q p in-q (found_turned g a.shaped p q (all_pass (λ q. found g p q) o.conditions q all in-q))))
 
     old_itself : (p : Pair) → found g p p ≡ true → list_all (λ q. found f p q) o.conditions ≡ true → found f p p ≡ true
     old_itself p is all =
@@ -100,7 +116,7 @@ module _ (T : Task) (valid : IsValid T) where
         ]
       where
         by_conditions : (qs : List Pair) → o.conditions ≡ qs → is_touched g p ≡ true → found f p p ≡ true
-        by_conditions [] e touched = absurd (woken_by p touched (ap (λ (qs : List Pair). eqb (length qs) 0 || list_any (is_touched g) qs) e))
+        by_conditions [] e touched = absurd (none_touched e p touched)
         by_conditions (q ∷ qs) e touched = s.itself p q (all_pass (λ q. found f p q) o.conditions q all (subst (λ qs. Contains qs q) (sym e) (member_first q qs)))
 
     old_possible : is_possible (found g) o ≡ true → is_possible (found f) o ≡ true
@@ -128,7 +144,14 @@ module _ (T : Task) (valid : IsValid T) where
       record {
         facts = s.facts;
         starts = s.starts;
-        shaped = record { rows = s.shaped.rows; row = s.shaped.row; touched = length-replicate (length f.facts) false };
+        shaped = record {
+          rows = s.shaped.rows;
+          row = s.shaped.row;
+          alone = s.shaped.alone;
+          touched = length-replicate (length f.facts) false;
+          turned = s.shaped.turned;
+          itself = s.shaped.itself;
+        };
         sure = s.sure;
         itself = s.itself;
       }
@@ -167,7 +190,7 @@ module _ (T : Task) (valid : IsValid T) where
       less : (i : ℕ) → Contains (woken T.operators (turned T.operators f queue)) i → open_count (turned T.operators f queue) < open_count f
       less i in' =
           let o = by_option (slice_get T.operators i) (filter_member (is_woken_at T.operators (turned T.operators f queue)) (range_with_len 0 (length T.operators)) i in').1 in
-          elim (adds.news (and_parts (some_touched (turned T.operators f queue)) (eqb (length o.0.conditions) 0 || list_any (is_touched (turned T.operators f queue)) o.0.conditions) o.1).0) [
+          elim (adds.news (woken_some (turned T.operators f queue) o.0 o.1)) [
             | inl none ↦ absurd (no_mark (length f.facts) none)
             | inr fewer ↦ fewer
           ]
@@ -200,7 +223,7 @@ module _ (T : Task) (valid : IsValid T) where
   are_possible f b =
       record {
         closed = record {
-          turned = λ p q is. found_turned f q p ∙ is;
+          turned = λ p q is. found_turned f b.searched.shaped p q is;
           state = b.initial;
           effects = λ o x y in-o is in-x in-y. (answered o in-o).effects is x y in-x in-y;
           effect = λ o e g in-o is in-e free itself all. (answered o in-o).effect is e g in-e free itself all;
@@ -231,25 +254,51 @@ module _ (T : Task) (valid : IsValid T) where
   initial_value : (p : Pair) → IsInitial T p → IsFact T p
   initial_value p is = subst (IsValue T p.var) is.1 (valid.state p.var is.0)
 
-  open_row : (i : ℕ) → i < length (all_facts T) → get_or (nothing T).rows i [] ≡ replicate (i + 1) false
-  open_row i below = let e : 0 + i ≡ i = omega arith in get_or-map-range_with_len (λ i. replicate (i + 1) false) 0 (length (all_facts T)) i i [] below e
+  abbrev count : ℕ
+  count = length (all_facts T)
+
+  open_row : (i : ℕ) → i < count → get_or (nothing T).rows i [] ≡ replicate count false
+  open_row i below = get_or-replicate count i (replicate count false) [] below
+
+  no_mark_in : (i : ℕ) → get_or (replicate count false) i false ≡ false
+  no_mark_in i =
+      elim (cases_lt i count) [
+        | inl low ↦ get_or-replicate count i false false low
+        | inr past ↦ get_or_past (replicate count false) i false (subst (λ n. n ≤ i) (sym (length-replicate count false)) past)
+      ]
+
+  none_marked : (i j : ℕ) → marked_or false (nothing T) i j ≡ false
+  none_marked i j =
+      elim (cases_lt i count) [
+        | inl low ↦ ap (λ row. get_or row j false) (open_row i low) ∙ no_mark_in j
+        | inr past ↦
+            ap (λ row. get_or row j false) (get_or_past (nothing T).rows i [] (subst (λ n. n ≤ i) (sym (length-replicate count (replicate count false))) past))
+            ∙ get_or_past [] j false (omega arith)
+      ]
 
   empty_shaped : Shaped (nothing T)
   empty_shaped =
       record {
-        rows = length-map-range_with_len (λ i. replicate (i + 1) false) 0 (length (all_facts T));
-        row = λ i below. ap length (open_row i below) ∙ length-replicate (i + 1) false;
-        touched = length-replicate (length (all_facts T)) false;
+        rows = length-replicate count (replicate count false);
+        row = λ i below. ap length (open_row i below) ∙ length-replicate count false;
+        alone = length-replicate count false;
+        touched = length-replicate count false;
+        turned = λ i j is. absurd (false≢true (sym (none_marked i j) ∙ is));
+        itself = λ i. no_mark_in i ∙ sym (none_marked i i);
       }
 
   none_found : (p q : Pair) → found (nothing T) p q ≡ true → ⊥
-  none_found p q is =
-      let at = found_low (nothing T) empty_shaped p q is in
-      let h = high (number_in (nothing T) p) (number_in (nothing T) q) in
-      let l = low (number_in (nothing T) p) (number_in (nothing T) q) in
-      let both-low = below_both (number_in (nothing T) p) (number_in (nothing T) q) (length (all_facts T)) at.0 at.1 in
-      let le = low_high (number_in (nothing T) p) (number_in (nothing T) q) in
-      false≢true (sym (ap (λ row. get_or row l false) (open_row h both-low.0) ∙ get_or-replicate (h + 1) l false false (omega (arith, le))) ∙ is)
+  none_found p q is = false≢true (sym (none_marked (number_in (nothing T) p) (number_in (nothing T) q)) ∙ is)
+
+  abbrev N : List ℕ
+  N = numbers (nothing T) (initial_facts T)
+
+  -- a fact whose number is of the written state's facts is one of these
+  state_fact : (p : Pair) → Contains N (number_in (nothing T) p) → Contains (initial_facts T) p
+  state_fact p in' =
+      let q = map_member (number_in (nothing T)) (initial_facts T) (number_in (nothing T) p) in' in
+      let low = has_number T q.0 (initial_value q.0 (is_initial q.0 q.1)) in
+      subst (Contains (initial_facts T)) (one_number (all_facts T) (starts T) q.0 p low (subst (λ n. n < length (all_facts T)) q.2 low) q.2) q.1
 
   pub begins : Between (initial_pairs T) (range_with_len 0 (length T.operators))
   begins =
@@ -272,8 +321,13 @@ module _ (T : Task) (valid : IsValid T) where
       }
     where
       adds : Adds (λ p q. Contains (initial_facts T) p × Contains (initial_facts T) q) (nothing T) (initial_pairs T)
-      adds = all_adds (λ p q. Contains (initial_facts T) p × Contains (initial_facts T) q) (initial_facts T) (initial_facts T) (nothing T) empty_shaped (λ p q in-p in-q. ((in-p, in-q), (in-q, in-p)))
+      adds =
+          chosen_adds (λ p q. Contains (initial_facts T) p × Contains (initial_facts T) q) (λ g i. N) N (nothing T) empty_shaped (λ g same i j in-i in-j p q is-p is-q.
+          let in-p = state_fact p (subst (Contains N) (sym is-p) in-i) in
+          let in-q = state_fact q (subst (Contains N) (sym is-q) in-j) in
+          ((in-p, in-q), (in-q, in-p)))
 
       there : (p q : Pair) → Contains (initial_facts T) p → Contains (initial_facts T) q → found (initial_pairs T) p q ≡ true
       there p q in-p in-q =
-          all_found (initial_facts T) (initial_facts T) (nothing T) empty_shaped p q in-p in-q (has_number T p (initial_value p (is_initial p in-p))) (has_number T q (initial_value q (is_initial q in-q)))
+          all_found p q N N (nothing T) empty_shaped (member_map (number_in (nothing T)) (initial_facts T) p in-p) (member_map (number_in (nothing T)) (initial_facts T) q in-q)
+          (has_number T p (initial_value p (is_initial p in-p))) (has_number T q (initial_value q (is_initial q in-q)))

@@ -1,8 +1,9 @@
 -- The search for the possible pairs: what is found is possible, and what was looked at leads to nothing else.
-use Rattle.std.proofs.Common.{◌≡◌, ℕ, ◌<◌, Bool, true, false, not, cond, ◌&&◌, List, map, filter, length, Some, refl, sym, ap, ◌∙◌, subst, inl, inr}
+use Rattle.std.proofs.Common.{◌≡◌, ℕ, ◌<◌, Bool, true, false, not, cond, ◌&&◌, List, map, length, get_or, ◌⊎◌, refl, sym, ap, ◌∙◌, subst, inl, inr}
 use Rattle.std.specs.List.{Contains, slice_get, list_all}
-use Rattle.std.proofs.lemmas.Bool.{and_parts, and_from, false≢true, not-true}
-use Rattle.std.proofs.lemmas.Option.{slice_get_within, get_or_from_slice_get}
+use Rattle.std.specs.Option.{option_map_or}
+use Rattle.std.proofs.lemmas.Bool.{cases_Bool, and_parts, and_from, false≢true, not-true}
+use Rattle.std.proofs.lemmas.List.{get_or_default}
 use Rattle.lists.proofs.Members.{all_pass, each_passes, map_member, member_map, filter_member, member_filter}
 use Rattle.sas_task.specs.declared.parts.Pair.{Pair}
 use Rattle.sas_task.specs.declared.parts.Effect.{Effect}
@@ -12,11 +13,13 @@ use Rattle.sas_task.specs.Valid.{IsValid, IsFact}
 use Rattle.sas_task.proofs.ValidParts.{effect_law}
 use Rattle.sas_task.specs.Effects.{changes, fact_of}
 use Rattle.pass_possible.specs.Possible.{is_mixed, Pairs, all_pairs, is_possible, HasPossible}
-use Rattle.fact_pairs.specs.Facts.{all_facts, starts}
-use Rattle.fact_pairs.specs.Finds.{Finds, number_in, found}
-use Rattle.pass_h2.specs.Search.{with_all, led_to, looked, stays_beside}
-use Rattle.pass_h2.proofs.Numbers.{has_number, numbered}
-use Rattle.pass_h2.proofs.Adding.{Shaped, Adds, Any, nothing_more, both, all_adds, all_found, found_low}
+use Rattle.fact_pairs.specs.Facts.{all_facts, starts, number}
+use Rattle.fact_pairs.specs.Finds.{Finds, number_in, numbers, row, marked_or, found}
+use Rattle.fact_pairs.specs.MarkLists.{without, places}
+use Rattle.fact_pairs.proofs.MarkLists.{without_at, marked_place, place_marked, common_of_all}
+use Rattle.pass_h2.specs.Search.{with_all, changes_fact, beside, new_beside, made, led_to, looked}
+use Rattle.pass_h2.proofs.Numbers.{has_number, numbered, one_number}
+use Rattle.pass_h2.proofs.Adding.{Shaped, Adds, Any, any_pair, same_number, nothing_more, both, chosen_adds, chosen_found, all_found, found_low}
 
 -- an operator that is possible by fewer pairs is possible by more
 pub possible_by_more : (few more : Pairs) (o : Operator) → ((p q : Pair) → few p q ≡ true → more p q ≡ true) → is_possible few o ≡ true → is_possible more o ≡ true
@@ -56,8 +59,8 @@ module _ (T : Task) (valid : IsValid T) where
 
   pub fact_low : (f : Finds) → Searched f → (p : Pair) → IsFact T p → number_in f p < length f.facts
   fact_low f s p fact =
-      subst (λ facts. number_in (record { facts = facts; starts = f.starts; rows = f.rows; touched = f.touched }) p < length facts) (sym s.facts)
-      (subst (λ from. number_in (record { facts = all_facts T; starts = from; rows = f.rows; touched = f.touched }) p < length (all_facts T)) (sym s.starts) (has_number T p fact))
+      subst (λ facts. number facts f.starts p < length facts) (sym s.facts)
+      (subst (λ starts. number (all_facts T) starts p < length (all_facts T)) (sym s.starts) (has_number T p fact))
 
   pub record Looks (f g : Finds) (o : Operator) : Type 0 where
     pub adds : Adds Any f g
@@ -65,37 +68,102 @@ module _ (T : Task) (valid : IsValid T) where
     pub answered : Answered f g o
 
   module _ (f : Finds) (s : Searched f) (o : Operator) (in-o : Contains T.operators o) where
-    abbrev E : List Pair
-    E = map fact_of o.effects
+    abbrev E : List ℕ
+    E = made f o
 
-    abbrev B : List Pair
-    B = filter (stays_beside f o) f.facts
+    -- the marks of the facts that go with the conditions
+    abbrev M : List Bool
+    M = beside f (numbers f o.conditions)
 
     abbrev mid : Finds
-    mid = with_all (map fact_of o.effects) f (map fact_of o.effects)
+    mid = with_all (made f o) f (made f o)
 
-    low_effect : (p : Pair) → Contains E p → number_in f p < length f.facts
-    low_effect p in' =
-        let e = map_member fact_of o.effects p in' in
-        subst (λ p. number_in f p < length f.facts) e.2 (fact_low f s (fact_of e.0) (effect_law T valid o in-o e.0 e.1).value)
+    low_effect : (e : Effect) → Contains o.effects e → number_in f (fact_of e) < length f.facts
+    low_effect e in' = fact_low f s (fact_of e) (effect_law T valid o in-o e in').value
+
+    -- a fact whose number is of an effect's is what the effect makes true
+    effect_made : (p : Pair) → Contains E (number_in f p) → (e : Effect) × Contains o.effects e × (fact_of e ≡ p)
+    effect_made p in' =
+        let fact = map_member (number_in f) (map fact_of o.effects) (number_in f p) in' in
+        let e = map_member fact_of o.effects fact.0 fact.1 in
+        let low = low_effect e.0 e.1 in
+        let same : number_in f (fact_of e.0) ≡ number_in f p = ap (number_in f) e.2 ∙ fact.2 in
+        (e.0, e.1, one_number f.facts f.starts (fact_of e.0) p low (subst (λ n. n < length f.facts) same low) same)
+
+    made_effect : (e : Effect) → Contains o.effects e → Contains E (number_in f (fact_of e))
+    made_effect e in' = member_map (number_in f) (map fact_of o.effects) (fact_of e) (member_map fact_of o.effects e in')
 
     first : Adds Any f mid
-    first = all_adds Any E E f s.shaped (λ p q in-p in-q. (refl, refl))
+    first = chosen_adds Any (λ g i. E) E f s.shaped (λ g same i j in-i in-j. any_pair f i j)
 
     second : Adds Any mid (led_to f o)
-    second = all_adds Any E B mid first.shaped (λ p q in-p in-q. (refl, refl))
+    second = chosen_adds Any (new_beside o M) E mid first.shaped (λ g same i j in-i in-j. any_pair mid i j)
 
     whole : Adds Any f (led_to f o)
     whole = both Any f mid (led_to f o) first second
 
-    effects_found : (p q : Pair) → Contains E p → Contains E q → found mid p q ≡ true
-    effects_found p q in-p in-q = all_found E E f s.shaped p q in-p in-q (low_effect p in-p) (low_effect q in-q)
+    -- numbers are as they were, once the effects' own pairs are marked
+    in_mid : (p : Pair) → number_in mid p ≡ number_in f p
+    in_mid p = same_number f mid first.facts first.starts p
 
-    beside_parts : (p : Pair) → stays_beside f o p ≡ true → (found f p p ≡ true) × (changes o p.var ≡ false) × (list_all (λ q. found f p q) o.conditions ≡ true)
-    beside_parts p is =
-        let one = and_parts (found f p p) (not (changes o p.var) && list_all (λ q. found f p q) o.conditions) is in
-        let two = and_parts (not (changes o p.var)) (list_all (λ q. found f p q) o.conditions) one.1 in
-        (one.0, not-true (changes o p.var) two.0, two.1)
+    low_mid : (p : Pair) → number_in f p < length f.facts → number_in mid p < length mid.facts
+    low_mid p low = subst (λ n. n < length mid.facts) (sym (in_mid p)) (subst (λ facts. number_in f p < length facts) (sym first.facts) low)
+
+    effects_found : (a b : Effect) → Contains o.effects a → Contains o.effects b → found mid (fact_of a) (fact_of b) ≡ true
+    effects_found a b in-a in-b = all_found (fact_of a) (fact_of b) E E f s.shaped (made_effect a in-a) (made_effect b in-b) (low_effect a in-a) (low_effect b in-b)
+
+    -- what stands beside: the fact is found with itself and with each condition, and no effect is on its variable
+    abbrev Beside : Pair → Type 0
+    Beside p = (found f p p ≡ true) × (changes o p.var ≡ false) × (list_all (λ q. found f p q) o.conditions ≡ true)
+
+    changes_fact_is : (g : Finds) → g.facts ≡ f.facts → (p : Pair) → number_in f p < length f.facts → changes_fact g o (number_in f p) ≡ changes o p.var
+    changes_fact_is g same p low =
+        ap (λ facts. option_map_or (λ (p : Pair). changes o p.var) (slice_get facts (number_in f p)) false) same
+        ∙ ap (λ there. option_map_or (λ (p : Pair). changes o p.var) there false) (numbered f.facts f.starts p low)
+
+    marked_beside : (i : ℕ) → get_or M i false ≡ (marked_or false f i i && list_all (λ j. marked_or false f j i) (numbers f o.conditions))
+    marked_beside i = common_of_all (row f) (numbers f o.conditions) f.alone i ∙ ap (λ b. b && list_all (λ j. marked_or false f j i) (numbers f o.conditions)) (s.shaped.itself i)
+
+    beside_parts : (g : Finds) → g.facts ≡ f.facts → (i : ℕ) (p : Pair) → Contains (new_beside o M g i) (number_in f p) → Beside p
+    beside_parts g same i p in' =
+        let n = number_in f p in
+        let kept = filter_member (λ j. not (changes_fact g o j)) (places (without M (row g i))) n in' in
+        let marked = (and_parts (get_or M n false) (not (get_or (row g i) n true)) (sym (without_at M (row g i) n) ∙ place_marked (without M (row g i)) n kept.0)).0 in
+        let parts = and_parts (marked_or false f n n) (list_all (λ j. marked_or false f j n) (numbers f o.conditions)) (sym (marked_beside n) ∙ marked) in
+        let low = (found_low f s.shaped p p parts.0).0 in (
+          parts.0,
+          sym (changes_fact_is g same p low) ∙ not-true (changes_fact g o n) kept.1,
+          each_passes (λ q. found f p q) o.conditions (λ q in-q. s.shaped.turned (number_in f q) n (all_pass (λ j. marked_or false f j n) (numbers f o.conditions) (number_in f q) parts.1 (member_map (number_in f) o.conditions q in-q))),
+        )
+
+    -- what stands beside is chosen, or is marked already
+    beside_chosen : (g : Finds) → Adds Any mid g → (i : ℕ) (p : Pair) → i < length f.facts → Beside p → Contains (new_beside o M g i) (number_in f p) ⊎ (marked_or false g i (number_in f p) ≡ true)
+    beside_chosen g a i p low-i parts = by_test (cases_Bool (get_or (row g i) (number_in f p) true))
+      where
+        low : number_in f p < length f.facts
+        low = (found_low f s.shaped p p parts.0).0
+
+        marked : get_or M (number_in f p) false ≡ true
+        marked =
+            marked_beside (number_in f p) ∙ and_from (found f p p) (list_all (λ j. marked_or false f j (number_in f p)) (numbers f o.conditions)) parts.0
+            (each_passes (λ j. marked_or false f j (number_in f p)) (numbers f o.conditions) (λ j in-j.
+            let q = map_member (number_in f) o.conditions j in-j in
+            subst (λ j. marked_or false f j (number_in f p) ≡ true) q.2 (s.shaped.turned (number_in f p) (number_in f q.0) (all_pass (λ q. found f p q) o.conditions q.0 parts.2 q.1))))
+
+        same_facts : g.facts ≡ f.facts
+        same_facts = a.facts ∙ first.facts
+
+        in_row : number_in f p < length (row g i)
+        in_row =
+            let low-g : i < length g.facts = subst (λ facts. i < length facts) (sym same_facts) low-i in
+            subst (λ n. number_in f p < n) (sym (a.shaped.row i low-g ∙ ap length same_facts)) low
+
+        by_test : (get_or (row g i) (number_in f p) true ≡ true) ⊎ (get_or (row g i) (number_in f p) true ≡ false) → Contains (new_beside o M g i) (number_in f p) ⊎ (marked_or false g i (number_in f p) ≡ true)
+        by_test (inl is) = inr (get_or_default (row g i) (number_in f p) false true in_row ∙ is)
+        by_test (inr is) =
+            inl (member_filter (λ j. not (changes_fact g o j)) (places (without M (row g i))) (number_in f p)
+            (marked_place (without M (row g i)) (number_in f p) (without_at M (row g i) (number_in f p) ∙ and_from (get_or M (number_in f p) false) (not (get_or (row g i) (number_in f p) true)) marked (ap not is)))
+            (ap not (changes_fact_is g same_facts p low ∙ parts.1)))
 
     -- what an operator that is possible leads to
     module _ (is : is_possible (found f) o ≡ true) where
@@ -103,34 +171,45 @@ module _ (T : Task) (valid : IsValid T) where
       abbrev New : Pair → Pair → Type 0
       New p q = Sure p q × (found (led_to f o) p p ≡ true)
 
-      sure_effects : (p q : Pair) → Contains E p → Contains E q → Sure p q
-      sure_effects p q in-p in-q has closed =
-          let a = map_member fact_of o.effects p in-p in
-          let b = map_member fact_of o.effects q in-q in
-          subst (λ p. has p q ≡ true) a.2 (subst (λ q. has (fact_of a.0) q ≡ true) b.2 (closed.effects o a.0 b.0 in-o (possible_by_more (found f) has o (λ p q is. s.sure p q is has closed) is) a.1 b.1))
+      possible_in : (has : Pairs) → HasPossible T has → is_possible has o ≡ true
+      possible_in has closed = possible_by_more (found f) has o (λ p q is. s.sure p q is has closed) is
 
-      sure_beside : (p q : Pair) → Contains E p → Contains B q → Sure p q
-      sure_beside p q in-p in-q has closed =
-          let a = map_member fact_of o.effects p in-p in
-          let parts = beside_parts q (filter_member (stays_beside f o) f.facts q in-q).1 in
-          subst (λ p. has p q ≡ true) a.2
-          (closed.effect o a.0 q in-o (possible_by_more (found f) has o (λ p q is. s.sure p q is has closed) is) a.1 parts.1 (s.sure q q parts.0 has closed)
-          (all_by_more (λ r. found f q r) (λ r. has q r) o.conditions (λ r is. s.sure q r is has closed) parts.2))
+      sure_effects : (a b : Effect) → Contains o.effects a → Contains o.effects b → Sure (fact_of a) (fact_of b)
+      sure_effects a b in-a in-b has closed = closed.effects o a b in-o (possible_in has closed) in-a in-b
 
-      effect_itself : (p : Pair) → Contains E p → found (led_to f o) p p ≡ true
-      effect_itself p in-p = second.grows p p (effects_found p p in-p in-p)
+      sure_beside : (e : Effect) (q : Pair) → Contains o.effects e → Beside q → Sure (fact_of e) q
+      sure_beside e q in-e parts has closed =
+          closed.effect o e q in-o (possible_in has closed) in-e parts.1 (s.sure q q parts.0 has closed)
+          (all_by_more (λ r. found f q r) (λ r. has q r) o.conditions (λ r is. s.sure q r is has closed) parts.2)
+
+      effect_itself : (e : Effect) → Contains o.effects e → found (led_to f o) (fact_of e) (fact_of e) ≡ true
+      effect_itself e in-e = second.grows (fact_of e) (fact_of e) (effects_found e e in-e in-e)
+
+      new_effects : (p q : Pair) → Contains E (number_in f p) → Contains E (number_in f q) → New p q
+      new_effects p q in-p in-q =
+          let a = effect_made p in-p in
+          let b = effect_made q in-q in
+          subst (λ p. New p q) a.2 (subst (λ q. New (fact_of a.0) q) b.2 (sure_effects a.0 b.0 a.1 b.1, effect_itself a.0 a.1))
 
       new_first : Adds New f mid
       new_first =
-          all_adds New E E f s.shaped (λ p q in-p in-q. ((sure_effects p q in-p in-q, effect_itself p in-p), (sure_effects q p in-q in-p, effect_itself q in-q)))
+          chosen_adds New (λ g i. E) E f s.shaped (λ g same i j in-i in-j p q is-p is-q.
+          let in-p = subst (Contains E) (sym is-p) in-i in
+          let in-q = subst (Contains E) (sym is-q) in-j in
+          (new_effects p q in-p in-q, new_effects q p in-q in-p))
+
+      new_pair : (p q : Pair) → Contains E (number_in f p) → Beside q → New p q × New q p
+      new_pair p q in-p parts =
+          let e = effect_made p in-p in
+          subst (λ p. New p q × New q p) e.2 (
+            (sure_beside e.0 q e.1 parts, effect_itself e.0 e.1),
+            ((λ has closed. closed.turned (fact_of e.0) q (sure_beside e.0 q e.1 parts has closed)), whole.grows q q parts.0),
+          )
 
       new_second : Adds New mid (led_to f o)
       new_second =
-          all_adds New E B mid first.shaped (λ p q in-p in-q.
-          let itself = (beside_parts q (filter_member (stays_beside f o) f.facts q in-q).1).0 in (
-            (sure_beside p q in-p in-q, effect_itself p in-p),
-            ((λ has closed. closed.turned p q (sure_beside p q in-p in-q has closed)), whole.grows q q itself),
-          ))
+          chosen_adds New (new_beside o M) E mid first.shaped (λ g same i j in-i in-j p q is-p is-q.
+          new_pair p q (subst (Contains E) (sym is-p ∙ in_mid p) in-i) (beside_parts g (same ∙ first.facts) i q (subst (Contains (new_beside o M g i)) (sym is-q ∙ in_mid q) in-j)))
 
       new_whole : Adds New f (led_to f o)
       new_whole = both New f mid (led_to f o) new_first new_second
@@ -154,21 +233,19 @@ module _ (T : Task) (valid : IsValid T) where
       answered_on : Answered f (led_to f o) o
       answered_on =
           record {
-            effects = λ is' a b in-a in-b. second.grows (fact_of a) (fact_of b) (effects_found (fact_of a) (fact_of b) (member_map fact_of o.effects a in-a) (member_map fact_of o.effects b in-b));
+            effects = λ is' a b in-a in-b. second.grows (fact_of a) (fact_of b) (effects_found a b in-a in-b);
             effect = λ is' e p in-e free itself all.
                 let low = (found_low f s.shaped p p itself).0 in
-                let in-E = member_map fact_of o.effects e in-e in
-                let at = numbered f.facts f.starts p low in
-                all_found E B mid first.shaped (fact_of e) p in-E
-                (member_filter (stays_beside f o) f.facts p (listed f.facts (number_in f p) p at)
-                (and_from (found f p p) (not (changes o p.var) && list_all (λ q. found f p q) o.conditions) itself
-                (and_from (not (changes o p.var)) (list_all (λ q. found f p q) o.conditions) (ap not free) all)))
-                (found_low mid first.shaped (fact_of e) (fact_of e) (effects_found (fact_of e) (fact_of e) in-E in-E)).0
-                (found_low mid first.shaped p p (first.grows p p itself)).0;
+                chosen_found (fact_of e) p (new_beside o M) E mid first.shaped (subst (Contains E) (sym (in_mid (fact_of e))) (made_effect e in-e)) (low_mid (fact_of e) (low_effect e in-e)) (low_mid p low)
+                (λ g a. in_later e p g a in-e (itself, free, all));
           }
         where
-          listed : (facts : List Pair) (i : ℕ) (p : Pair) → slice_get facts i ≡ Some p → Contains facts p
-          listed facts i p at = (i, slice_get_within facts i p at, get_or_from_slice_get facts i p p at)
+          in_later : (e : Effect) (p : Pair) (g : Finds) → Adds Any mid g → Contains o.effects e → Beside p → Contains (new_beside o M g (number_in g (fact_of e))) (number_in g p) ⊎ (found g (fact_of e) p ≡ true)
+          in_later e p g a in-e parts =
+              let e-in-g = same_number mid g a.facts a.starts (fact_of e) ∙ in_mid (fact_of e) in
+              let p-in-g = same_number mid g a.facts a.starts p ∙ in_mid p in
+              subst (λ n. Contains (new_beside o M g (number_in g (fact_of e))) n ⊎ (marked_or false g (number_in g (fact_of e)) n ≡ true)) (sym p-in-g)
+              (beside_chosen g a (number_in g (fact_of e)) p (subst (λ n. n < length f.facts) (sym e-in-g) (low_effect e in-e)) parts)
 
     pub looks : Looks f (looked f o) o
     looks = by_test (is_possible (found f) o) refl

@@ -1,35 +1,50 @@
 -- The search for the possible pairs. Words of private contracts: no public clause cites them.
-use Rattle.std.specs.Prelude.{ℕ, Bool, ◌&&◌, true, not, List, map, filter, fold, length, slice_get, if◌then◌else◌}
-use Rattle.std.specs.List.{list_all, range_with_len}
+use Rattle.std.specs.Prelude.{ℕ, Bool, true, false, not, List, map, filter, fold, length, slice_get, if◌then◌else◌}
+use Rattle.std.specs.List.{range_with_len}
 use Rattle.std.specs.Option.{option_map_or}
-use Rattle.sas_task.specs.declared.parts.Pair.{Pair}
 use Rattle.sas_task.specs.declared.parts.Operator.{Operator}
 use Rattle.sas_task.specs.Task.{Task}
 use Rattle.sas_task.specs.Effects.{changes, fact_of}
 use Rattle.pass_possible.specs.Possible.{is_possible}
 use Rattle.fact_pairs.specs.Facts.{initial_facts}
-use Rattle.fact_pairs.specs.Finds.{Finds, high, low, number_in, mark_or, found, with_mark, nothing, settled, is_woken_at}
+use Rattle.fact_pairs.specs.MarkLists.{common, without, places}
+use Rattle.fact_pairs.specs.Finds.{Finds, numbers, row, marked_or, found, with_mark, nothing, settled, is_woken_at}
 
--- with one pair more, if it has a place that has no mark
-abbrev pub with_pair : Finds → Pair → Pair → Finds
-with_pair finds p q =
-    if mark_or true finds.rows (high (number_in finds p) (number_in finds q)) (low (number_in finds p) (number_in finds q)) then finds else with_mark finds (number_in finds p) (number_in finds q)
+-- with one pair of numbers more, if it has a place that has no mark
+abbrev pub with_pair : Finds → ℕ → ℕ → Finds
+with_pair finds i j = if marked_or true finds i j then finds else with_mark finds i j
 
--- with a fact and each of others
-abbrev pub with_each : Pair → Finds → List Pair → Finds
-with_each p finds others = fold (λ f q. with_pair f p q) finds others
+-- with a fact and each of others, by their numbers
+abbrev pub with_each : ℕ → Finds → List ℕ → Finds
+with_each i finds others = fold (λ f j. with_pair f i j) finds others
+
+-- with each of some facts, one after the other, and the facts that are chosen for it
+abbrev pub with_chosen : (Finds → ℕ → List ℕ) → Finds → List ℕ → Finds
+with_chosen chosen finds facts = fold (λ f i. with_each i f (chosen f i)) finds facts
 
 -- with each of some facts and each of others
-abbrev pub with_all : List Pair → Finds → List Pair → Finds
-with_all others finds facts = fold (λ f p. with_each p f others) finds facts
+abbrev pub with_all : List ℕ → Finds → List ℕ → Finds
+with_all others finds facts = with_chosen (λ f i. others) finds facts
 
--- whether the operator leaves the fact as it is, beside its conditions
-abbrev pub stays_beside : Finds → Operator → Pair → Bool
-stays_beside finds o g = found finds g g && (not (changes o g.var) && list_all (λ p. found finds g p) o.conditions)
+-- whether the operator changes the variable of the fact with this number
+abbrev pub changes_fact : Finds → Operator → ℕ → Bool
+changes_fact finds o i = option_map_or (λ p. changes o p.var) (slice_get finds.facts i) false
+
+-- marks of the facts that are marked with themselves and with each of these conditions
+abbrev pub beside : Finds → List ℕ → List Bool
+beside finds conditions = fold (λ marks j. common marks (row finds j)) finds.alone conditions
+
+-- those of them that the operator leaves as they are and that aren't marked yet with this fact
+abbrev pub new_beside : Operator → List Bool → Finds → ℕ → List ℕ
+new_beside o marks finds i = filter (λ j. not (changes_fact finds o j)) (places (without marks (row finds i)))
+
+-- the facts that its effects make true
+abbrev pub made : Finds → Operator → List ℕ
+made finds o = numbers finds (map fact_of o.effects)
 
 -- with the pairs that a possible operator leads to
 abbrev pub led_to : Finds → Operator → Finds
-led_to finds o = with_all (filter (stays_beside finds o) finds.facts) (with_all (map fact_of o.effects) finds (map fact_of o.effects)) (map fact_of o.effects)
+led_to finds o = with_chosen (new_beside o (beside finds (numbers finds o.conditions))) (with_all (made finds o) finds (made finds o)) (made finds o)
 
 -- with those that an operator leads to, if it is possible
 abbrev pub looked : Finds → Operator → Finds
@@ -45,7 +60,7 @@ woken operators finds = filter (is_woken_at operators finds) (range_with_len 0 (
 
 -- with the pairs of facts of the written state
 abbrev pub initial_pairs : Task → Finds
-initial_pairs task = with_all (initial_facts task) (nothing task) (initial_facts task)
+initial_pairs task = with_all (numbers (nothing task) (initial_facts task)) (nothing task) (numbers (nothing task) (initial_facts task))
 
 -- once the operators at these places are looked at
 abbrev pub turned : List Operator → Finds → List ℕ → Finds

@@ -127,8 +127,8 @@ fn with_possible_alone(alloc: Global, task: &SasTask) -> Result<SasTask, AllocEr
 /// an effect with a condition stays as it is. `pass_possible::laws::pruning_keeps` says what this keeps.
 ///
 /// The pairs are marked in a table of facts times facts. An operator is looked at again only where a pair that it needs
-/// was marked: each look takes as many steps as there are facts times its conditions and effects, and there are at most
-/// as many turns as pairs.
+/// was marked: each look goes once over the facts for each of its conditions and effects, 64 of them a step, and over the
+/// pairs that it marks, and there are at most as many turns as pairs.
 pub fn prune(alloc: Global, task: &SasTask) -> Result<SasTask, AllocError>
     ensures { IfOk result (IsPruned task.now) }
 {

@@ -1,47 +1,41 @@
 // The possible pairs: the least set with those of the written state that is closed under operators.
 
-ghost use Rattle.std.specs.Prelude.{◌≡◌, filter, fold, IfOk, OnOk};
+ghost use Rattle.std.specs.Prelude.{◌≡◌, fold, IfOk, OnOk};
 ghost use Rattle.sas_task.specs.Valid.{IsValid};
 ghost use Rattle.pass_possible.specs.Possible.{ArePossible};
 ghost use Rattle.pass_possible.specs.Possible as possible;
 ghost use Rattle.fact_pairs.specs.Finds as pairs;
 ghost use Rattle.pass_h2.specs.Search as words;
 
-use fact_pairs::{Table, all_marked, goes_with, initial_facts, is_mixed, wakes_at};
+use fact_pairs::{Marks, Table, all_marked, initial_facts, is_mixed, numbers, wakes_at};
 use sas_restriction::numbers_below;
-use sas_task::{Operator, Pair, SasTask, changes, facts_set};
+use sas_task::{Operator, SasTask, changes, facts_set};
 use std::alloc::{AllocError, Global};
 
-/// Marks the pair, if it has a place and no mark.
-fn add(table: &mut Table, front: &Pair, back: &Pair)
-    ensures { table.new ≡ words.with_pair table.old front.now back.now }
+/// Marks the pair of the facts with these numbers, if it has a place and no mark.
+fn add(table: &mut Table, i: u64, j: u64)
+    ensures { table.new ≡ words.with_pair table.old i j }
 {
-    let (i, j) = (table.number(front), table.number(back));
-    let is_marked = if i < j {
-        table.mark_or(true, j, i)
-    } else {
-        table.mark_or(true, i, j)
-    };
-    if !is_marked {
+    if !table.marked_or(true, i, j) {
         table.set(i, j);
     }
 }
 
 /// Marks the fact with each of the others.
-fn add_each(table: &mut Table, fact: &Pair, others: &[Pair])
-    ensures { table.new ≡ words.with_each fact.now table.old others.now }
+fn add_each(table: &mut Table, fact: u64, others: &[u64])
+    ensures { table.new ≡ words.with_each fact table.old others.now }
 {
     for other in others {
-        add(table, fact, other);
+        add(table, fact, *other);
     }
 }
 
 /// Marks each of the facts with each of the others.
-fn add_all(table: &mut Table, facts: &[Pair], others: &[Pair])
+fn add_all(table: &mut Table, facts: &[u64], others: &[u64])
     ensures { table.new ≡ words.with_all others.now table.old facts.now }
 {
     for fact in facts {
-        add_each(table, fact, others);
+        add_each(table, *fact, others);
     }
 }
 
@@ -52,36 +46,94 @@ pub(crate) fn is_possible(table: &Table, operator: &Operator) -> bool
     !is_mixed(operator) && all_marked(table, operator.conditions.as_slice())
 }
 
-/// Whether the fact is marked, is of a variable that the operator doesn't change, and is marked with each condition.
-fn stays_beside(table: &Table, operator: &Operator, fact: &Pair) -> bool
-    ensures { result ≡ words.stays_beside table.now operator.now fact.now }
+/// Whether the operator changes the variable of the fact with this number.
+fn changes_fact(table: &Table, operator: &Operator, number: u64) -> bool
+    ensures { result ≡ words.changes_fact table.now operator.now number }
 {
-    table.has(fact, fact)
-        && !changes(operator, fact.var)
-        && goes_with(table, fact, operator.conditions.as_slice())
+    match table.facts().get(number as usize) {
+        Some(fact) => changes(operator, fact.var),
+        None => false,
+    }
 }
 
-/// The facts that may hold with the operator's conditions and that it leaves as they are.
-fn facts_beside(alloc: Global, table: &Table, operator: &Operator) -> Result<Vec<Pair>, AllocError>
-    ensures { IfOk result (λ facts. facts.items ≡ filter (words.stays_beside table.now operator.now) table.now.facts) }
+/// Marks of the facts that are marked with themselves and with each of these conditions.
+fn marks_beside(alloc: Global, table: &Table, conditions: &[u64]) -> Result<Marks, AllocError>
+    ensures { IfOk result (λ marks. marks ≡ words.beside table.now conditions.now) }
 {
-    table
-        .facts()
+    let mut marks = table.alone(alloc)?;
+    for condition in conditions {
+        marks = table.marked_with(alloc, &marks, *condition)?;
+    }
+    Ok(marks)
+}
+
+/// Of the facts with these marks, those that the operator leaves as they are and that aren't marked yet with this fact.
+fn new_beside(
+    alloc: Global,
+    table: &Table,
+    operator: &Operator,
+    marks: &Marks,
+    fact: u64,
+) -> Result<Vec<u64>, AllocError>
+    ensures { IfOk result (λ facts. facts.items ≡ words.new_beside operator.now marks.now table.now fact) }
+{
+    let unmarked = table.unmarked_with(alloc, marks, fact)?;
+    unmarked
+        .as_slice()
         .iter()
         .copied()
-        .filter(|fact| stays_beside(table, operator, fact))
+        .filter(|number| !changes_fact(table, operator, *number))
         .collect(alloc)
+}
+
+/// Marks the fact with those of the facts with these marks that the operator leaves as they are.
+fn add_beside(
+    alloc: Global,
+    table: &mut Table,
+    operator: &Operator,
+    marks: &Marks,
+    fact: u64,
+) -> Result<(), AllocError>
+    ensures { OnOk result (table.new ≡ words.with_each fact table.old (words.new_beside operator.now marks.now table.old fact)) }
+{
+    let others = new_beside(alloc, table, operator, marks, fact)?;
+    add_each(table, fact, others.as_slice());
+    Ok(())
+}
+
+/// The same with each of some facts.
+fn add_all_beside(
+    alloc: Global,
+    table: &mut Table,
+    operator: &Operator,
+    marks: &Marks,
+    facts: &[u64],
+) -> Result<(), AllocError>
+    ensures { OnOk result (table.new ≡ words.with_chosen (words.new_beside operator.now marks.now) table.old facts.now) }
+{
+    for fact in facts {
+        add_beside(alloc, table, operator, marks, *fact)?;
+    }
+    Ok(())
+}
+
+/// The numbers of the facts that the operator's effects make true.
+fn facts_made(alloc: Global, table: &Table, operator: &Operator) -> Result<Vec<u64>, AllocError>
+    ensures { IfOk result (λ facts. facts.items ≡ words.made table.now operator.now) }
+{
+    let facts = facts_set(alloc, operator.effects.as_slice())?;
+    numbers(alloc, table, facts.as_slice())
 }
 
 /// Marks the pairs that a possible operator leads to.
 fn add_successors(alloc: Global, table: &mut Table, operator: &Operator) -> Result<(), AllocError>
     ensures { OnOk result (table.new ≡ words.led_to table.old operator.now) }
 {
-    let facts = facts_set(alloc, operator.effects.as_slice())?;
-    let beside = facts_beside(alloc, table, operator)?;
-    add_all(table, facts.as_slice(), facts.as_slice());
-    add_all(table, facts.as_slice(), beside.as_slice());
-    Ok(())
+    let made = facts_made(alloc, table, operator)?;
+    let conditions = numbers(alloc, table, operator.conditions.as_slice())?;
+    let marks = marks_beside(alloc, table, conditions.as_slice())?;
+    add_all(table, made.as_slice(), made.as_slice());
+    add_all_beside(alloc, table, operator, &marks, made.as_slice())
 }
 
 /// Marks the pairs that the operator leads to, if it is possible.
@@ -139,6 +191,7 @@ fn mark_initial(alloc: Global, table: &mut Table, task: &SasTask) -> Result<(), 
     ensures { OnOk result (table.new ≡ words.initial_pairs task.now) }
 {
     let facts = initial_facts(alloc, task)?;
+    let facts = numbers(alloc, table, facts.as_slice())?;
     add_all(table, facts.as_slice(), facts.as_slice());
     Ok(())
 }
