@@ -7,4 +7,3 @@ pub mod Cases
 -- lemmas of this crate
 mod MergeSteps
 mod Shared
-mod Distinct

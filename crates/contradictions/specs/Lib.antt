@@ -6,4 +6,3 @@ pub mod GivenTerms
 pub mod Renamings
 pub mod FirstFrom
 pub mod Common
-pub mod Alike

@@ -1,15 +1,14 @@
 // Contradictory lists of literals.
-ghost use Rattle.std.specs.Prelude.{◌≡◌, ◌++◌, ◌∷◌, [], ◌&&◌, ◌||◌, IfOk, OnOk, map, zip};
+ghost use Rattle.std.specs.Prelude.{◌≡◌, ◌++◌, ◌&&◌, ◌||◌, IfOk, OnOk, map, zip};
 ghost use Rattle.std.specs.List.{flat_map, list_any, list_all};
 ghost use Rattle.normal_task.specs.declared.task.Place.TheVariants.{Object};
-ghost use Rattle.contradictions.specs.Alike.{AnswerAlike};
 ghost use Rattle.contradictions.specs.Candidates.{at_positions};
 ghost use Rattle.contradictions.specs.Contradictory as spec;
 ghost use Rattle.contradictions.specs.Merges.{all_ranges, as_pair, pair_of, have_one_leader};
 
 use crate::common::some_has_no_object;
 use crate::ranges::Ranges;
-use crate::terms::{TermPair, copy, is_same, is_same_place, merged, term_at};
+use crate::terms::{TermPair, copy, is_same, merged, term_at};
 use crate::types::{Candidate, Part};
 use normal_task::{Literal, Place};
 use std::alloc::{AllocError, Global};
@@ -274,8 +273,8 @@ fn push_equality(pairs: &mut Vec<TermPair>, literal: &Literal) -> Result<(), All
     }
 }
 
-/// The terms that stand in the literals, in the pairs or in the instance, one for each place where they stand.
-fn occurrences(alloc: Global, case: &Case<'_>) -> Result<Vec<Place>, AllocError>
+/// The terms that stand in the literals, in the pairs or in the instance.
+fn standing(alloc: Global, case: &Case<'_>) -> Result<Vec<Place>, AllocError>
     ensures { IfOk result (λ terms. terms.items ≡ spec.standing case.now.literals.now (map as_pair case.now.equated.now) case.now.instance.now) }
 {
     let mut terms = Vec::new(alloc);
@@ -285,41 +284,6 @@ fn occurrences(alloc: Global, case: &Case<'_>) -> Result<Vec<Place>, AllocError>
     push_sides(&mut terms, case.equated)?;
     push_copies(&mut terms, case.instance)?;
     Ok(terms)
-}
-
-/// Adds the term, unless it is there.
-fn push_new(terms: &mut Vec<Place>, term: &Place) -> Result<(), AllocError>
-    ensures { OnOk result (AnswerAlike terms.new.items (terms.old.items ++ term.now ∷ [])) }
-{
-    if !is_listed(terms.as_slice(), term) {
-        terms.push(copy(term))?;
-    }
-    Ok(())
-}
-
-fn is_listed(terms: &[Place], term: &Place) -> bool
-    ensures { result ≡ list_any (spec.is_same_place term.now) terms.now }
-{
-    terms.iter().any(|other| is_same_place(term, other))
-}
-
-/// The terms, each once.
-fn distinct(alloc: Global, terms: &[Place]) -> Result<Vec<Place>, AllocError>
-    ensures { IfOk result (λ once. AnswerAlike once.items terms.now) }
-{
-    let mut once = Vec::new(alloc);
-    for term in terms {
-        push_new(&mut once, term)?;
-    }
-    Ok(once)
-}
-
-/// The terms that stand in the literals, in the pairs or in the instance, each once.
-fn standing(alloc: Global, case: &Case<'_>) -> Result<Vec<Place>, AllocError>
-    ensures { IfOk result (λ terms. AnswerAlike terms.items (spec.standing case.now.literals.now (map as_pair case.now.equated.now) case.now.instance.now)) }
-{
-    let terms = occurrences(alloc, case)?;
-    distinct(alloc, terms.as_slice())
 }
 
 /// Adds the terms of the literal.
@@ -388,22 +352,6 @@ pub fn classes(
     merged(alloc, pairs.as_slice())
 }
 
-/// The merges tell a contradiction among the literals, where these are the terms.
-fn contradicts_among(
-    alloc: Global,
-    merges: &[TermPair],
-    candidate: &Candidate,
-    case: &Case<'_>,
-    terms: &[Place],
-) -> Result<bool, AllocError>
-    ensures { IfOk result (λ answer. answer ≡ spec.has_contradiction (have_one_leader merges.now) candidate.now (all_ranges case.now.ranges) case.now.literals.now terms.now case.now.instance.now) }
-{
-    if are_contradictory(merges, candidate, case, terms) {
-        return Ok(true);
-    }
-    some_has_no_object(alloc, merges, &case.ranges, terms)
-}
-
 /// The merges tell a contradiction among the literals.
 pub fn contradicts(
     alloc: Global,
@@ -415,7 +363,10 @@ pub fn contradicts(
         (spec.standing case.now.literals.now (map as_pair case.now.equated.now) case.now.instance.now) case.now.instance.now) }
 {
     let terms = standing(alloc, case)?;
-    contradicts_among(alloc, merges, candidate, case, terms.as_slice())
+    if are_contradictory(merges, candidate, case, terms.as_slice()) {
+        return Ok(true);
+    }
+    some_has_no_object(alloc, merges, &case.ranges, terms.as_slice())
 }
 
 /// The literals, with the pairs equated, are contradictory for the instance.
