@@ -7,5 +7,5 @@ pub mod States
 pub mod KeepsLaws
 pub mod Alike
 mod Tells
-mod TextsTellTasks
+pub mod TextsTellTasks
 pub mod Orders

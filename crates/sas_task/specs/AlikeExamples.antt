@@ -2,10 +2,9 @@
 use Rattle.std.specs.Prelude.{true, ℕ, List, [], ◌∷◌, codes}
 use Rattle.sas_task.specs.declared.parts.Operator.{Operator}
 use Rattle.sas_task.specs.declared.parts.Rule.{Rule}
-use Rattle.sas_task.specs.Task.{Task}
+use Rattle.sas_task.specs.Task.{Task, of_parts}
 use Rattle.sas_task.specs.Pairs.{pair}
 use Rattle.sas_task.specs.Examples.{room_variables, room_groups, enter, press}
-use Rattle.sas_task.specs.Refused.{of_parts}
 
 abbrev pub of_operators : List Operator → List Rule → Task
 of_operators operators rules = of_parts true room_variables room_groups (0 ∷ 1 ∷ 1 ∷ 1 ∷ []) (pair 3 0 ∷ []) operators rules

@@ -2,20 +2,15 @@
 use Rattle.std.specs.Prelude.{ℕ, Bool, true, List, [], ◌∷◌, ◌++◌, Option, Some, codes}
 use Rattle.sas_task.specs.declared.parts.Pair.{Pair}
 use Rattle.sas_task.specs.declared.parts.Variable.{Variable}
-use Rattle.sas_task.specs.declared.parts.Group.{Group}
 use Rattle.sas_task.specs.declared.parts.Operator.{Operator}
 use Rattle.sas_task.specs.declared.parts.Rule.{Rule}
-use Rattle.sas_task.specs.Task.{Task}
+use Rattle.sas_task.specs.Task.{Task, of_parts}
 use Rattle.sas_task.specs.Pairs.{pair}
 use Rattle.sas_task.specs.Valid.{IsValid}
 use Rattle.sas_task.specs.Examples.{room_variables, room_groups, room_operators, room_rules}
 
 abbrev pub IsRefused : Task → Type 0
 IsRefused task = IsValid task → ⊥
-
-abbrev pub of_parts : Bool → List Variable → List Group → List ℕ → List Pair → List Operator → List Rule → Task
-of_parts metric variables groups state goal operators rules =
-    record { metric = metric; variables = variables; groups = groups; state = state; goal = goal; operators = operators; rules = rules }
 
 -- one more variable, with the value 0 at the start, and these rules
 abbrev pub with_rules : Variable → List Rule → Task
