@@ -4,15 +4,16 @@ use Rattle.std.specs.Prelude.{codes, nat_le, IfSome}
 use Rattle.std.specs.List.{All}
 use Rattle.std.specs.Option.{option_map}
 use Rattle.std.proofs.lemmas.Bool.{cases_Bool, le-leb}
-use Rattle.std.proofs.lemmas.List.Elements.{All-tail}
+use Rattle.std.proofs.lemmas.Cmp.{nat_list_eq_equiv}
 use Rattle.sas_task.specs.Output.{Line, numeral}
 use Rattle.sas_task.specs.Output as output
 use Rattle.sas_lines.specs.Words.{is_same}
 use Rattle.sas_lines.specs.Words as words
 use Rattle.sas_lines.specs.Forms.{◌>>=◌, ◌>>◌, Unread, Form, here, followed, passing, met, given, next_line, line_of, fixed, listed}
 use Rattle.sas_lines.specs.Numbers.{number_line, at_least, number_or_none_line}
-use Rattle.sas_sections.proofs.Lines.{same_bytes, same_itself}
+use Rattle.sas_sections.proofs.Lines.{same_bytes}
 use Rattle.sas_sections.proofs.Numerals.{numeral_number}
+use Rattle.sas_sections.proofs.Joined.{all_behind}
 
 -- the text is shorter than any count that can't be read
 pub record IsSmall (now : Unread) : Type 0 where
@@ -28,17 +29,13 @@ pub record Reads {A : Type 0} (form : Form A) (x : A) (now : Unread) (rest : Lis
 abbrev pub Again : {A : Type 0} → Form A → A → List Line → Type 0
 Again form x ls = (now : Unread) (rest : List Line) → IsSmall now → 0 < length rest → now.pieces ≡ ls ++ rest → Reads form x now rest
 
-rest_small : (ls rest : List Line) → All (λ p. length p < 2 ^ 63) (ls ++ rest) → All (λ p. length p < 2 ^ 63) rest
-rest_small [] rest each = each
-rest_small (l ∷ ls) rest each = rest_small ls rest (All-tail (λ (p : Line). length p < 2 ^ 63) l (ls ++ rest) each)
-
 pub small_after : (now after : Unread) (ls rest : List Line) → IsSmall now → now.pieces ≡ ls ++ rest → after.pieces ≡ rest → IsSmall after
 small_after now after ls rest small is left =
     let whole : length now.pieces ≡ length (ls ++ rest) = ap length is in
     let part : length after.pieces ≡ length rest = ap length left in
     record {
       pieces = omega (arith, small.pieces, whole, part, length-append ls rest);
-      each = subst (All (λ (p : Line). length p < 2 ^ 63)) (sym left) (rest_small ls rest (subst (All (λ (p : Line). length p < 2 ^ 63)) is small.each));
+      each = subst (All (λ (p : Line). length p < 2 ^ 63)) (sym left) (all_behind (λ (p : Line). length p < 2 ^ 63) ls rest (subst (All (λ (p : Line). length p < 2 ^ 63)) is small.each));
     }
 
 pub again_then : {A B : Type 0} (f : Form A) (g : A → Form B) (x : A) (y : B) (l m : List Line) → Again f x l → Again (g x) y m → Again (f >>= g) y (l ++ m)
@@ -49,11 +46,7 @@ again_then f g x y l m first second now rest small some is =
     record { after = b.after; is = ap (λ r. followed r g) a.is ∙ b.is; left = b.left }
 
 pub again_next : {A B : Type 0} (f : Form A) (g : Form B) (x : A) (y : B) (l m : List Line) → Again f x l → Again g y m → Again (f >> g) y (l ++ m)
-again_next f g x y l m first second now rest small some is =
-    let cut : now.pieces ≡ l ++ (m ++ rest) = is ∙ append_assoc l m rest in
-    let a = first now (m ++ rest) small (omega (arith, some, length-append m rest)) cut in
-    let b = second a.after rest (small_after now a.after l (m ++ rest) small cut a.left) some a.left in
-    record { after = b.after; is = ap (λ r. followed r (λ _. g)) a.is ∙ b.is; left = b.left }
+again_next f g x y l m first second = again_then f (λ _. g) x y l m first second
 
 pub again_given : {A : Type 0} (x : A) → Again (given x) x []
 again_given x now rest small some is = record { after = now; is = refl; left = is }
@@ -70,7 +63,7 @@ again_line l now (p ∷ pieces) small some is = record { after = record now { be
 
 pub again_fixed : (bytes : Line) → Again (fixed bytes) tt (bytes ∷ [])
 unfolding fixed
-again_fixed bytes = again_then next_line (λ l. passing (is_same l bytes) tt) bytes tt (bytes ∷ []) [] (again_line bytes) (again_passing (is_same bytes bytes) tt (same_itself bytes))
+again_fixed bytes = again_then next_line (λ l. passing (is_same l bytes) tt) bytes tt (bytes ∷ []) [] (again_line bytes) (again_passing (is_same bytes bytes) tt (nat_list_eq_equiv.refl bytes))
 
 pub again_number : (n : ℕ) → n < 2 ^ 64 → Again number_line n (numeral n ∷ [])
 unfolding number_line

@@ -1,12 +1,12 @@
 -- What is written is read again: operators.
-use Rattle.std.proofs.Common.{◌≡◌, ◌≢◌, ℕ, ◌+◌, ◌-◌, ◌^◌, ◌<◌, ◌≤◌, Bool, true, false, not, cond, eqb, ◌&&◌, ◌||◌, List, [], ◌∷◌, ◌++◌, length, map, take, get_or, Option, Some, None, inl, inr, refl, sym, ap, ◌∙◌, subst, append_assoc, arith}
+use Rattle.std.proofs.Common.{◌≡◌, ℕ, ◌+◌, ◌-◌, ◌^◌, ◌<◌, ◌≤◌, Bool, true, false, not, cond, eqb, ◌&&◌, ◌||◌, List, [], ◌∷◌, ◌++◌, length, map, take, get_or, Option, Some, None, inl, inr, refl, sym, ap, ◌∙◌, subst, append_assoc, arith}
 use Rattle.std.specs.Prelude.{codes, filter, is_some, nat_eq, nat_le, IfSome}
 use Rattle.std.specs.List.{All, find, list_any, flat_map}
 use Rattle.std.specs.Option.{option_map, option_map_or, option_eq}
-use Rattle.std.proofs.lemmas.Bool.{cases_Bool, cases_eq, eq-eqb, ne_eqb, le-leb}
+use Rattle.std.proofs.lemmas.Bool.{cases_Bool, cases_eq, eq-eqb, eqb-true, ne_eqb, le-leb, false≢true}
 use Rattle.std.proofs.lemmas.List.{length-map}
 use Rattle.std.proofs.lemmas.List.Folds.{flat_map-map}
-use Rattle.std.proofs.lemmas.List.Elements.{All-nil, All-cons, All-head, All-tail, All-append, All-map, All-weaker}
+use Rattle.std.proofs.lemmas.List.Elements.{All-nil, All-cons, All-append, All-map, All-weaker}
 use Rattle.sas_task.specs.declared.parts.Pair.{Pair}
 use Rattle.sas_task.specs.declared.parts.Effect.{Effect}
 use Rattle.sas_task.specs.declared.parts.Operator.{Operator}
@@ -27,9 +27,13 @@ use Rattle.sas_sections.proofs.AgainWords.{AgainWords, words_then, words_passing
 use Rattle.sas_sections.proofs.AgainPairs.{Fits, value_fits, again_value, in_all, same_lines, again_effect_conditions, again_conditions}
 use Rattle.sas_sections.proofs.AgainSections.{name_passes}
 use Rattle.sas_task.proofs.States.{is_variable}
+use Rattle.sas_task.proofs.TextsTellTasks.{find_kept}
+use Rattle.lists.proofs.Items.{filter_among, none_passes, map_back}
+use Rattle.lists.proofs.Members.{all_from_members, member_any}
+use Rattle.sas_sections.proofs.Joined.{all_front}
 use Rattle.sas_sections.proofs.InTurn.{in_turn, in_turn_rises, in_turn_all, same_in_turn, pairs_in_turn, filter_in_turn}
 use Rattle.sas_sections.proofs.Tabled.{any_found}
-use Rattle.sas_sections.proofs.ToldEffects.{told_words, told_lines, pair_value, told_value}
+use Rattle.sas_sections.proofs.ToldEffects.{told_words, told_lines, pair_value, told_value, nothing_found}
 use Rattle.std.specs.Cmp.{nat_eq_equiv}
 use Rattle.std.specs.Cmp.Lexicographic.{options_equiv}
 use Rattle.lists.specs.Names.{IsName}
@@ -50,41 +54,16 @@ told_map g (e ∷ es) var =
     ]
 
 kept_value : (keep : ℕ → Bool) (ps : List Pair) (var : ℕ) → value_in (filter (λ (p : Pair). keep p.var) ps) var ≡ cond (keep var) (value_in ps var) None
-kept_value keep [] var = none (keep var)
-  where
-    none : (b : Bool) → ◌≡◌ {A = Option ℕ} None (cond b None None)
-    none true = refl
-    none false = refl
-kept_value keep (p ∷ ps) var =
-    elim (cases_eq p.var var) [
-      | inl on ↦
-          elim (cases_Bool (keep p.var)) [
-            | inl yes-kept ↦
-                ap (λ b. value_in (cond b (p ∷ filter (λ (q : Pair). keep q.var) ps) (filter (λ (q : Pair). keep q.var) ps)) var) yes-kept
-                ∙ here p (filter (λ (q : Pair). keep q.var) ps) on
-                ∙ sym (ap (λ b. cond b (value_in (p ∷ ps) var) None) (sym (ap keep on) ∙ yes-kept) ∙ here p ps on)
-            | inr not-kept ↦
-                ap (λ b. value_in (cond b (p ∷ filter (λ (q : Pair). keep q.var) ps) (filter (λ (q : Pair). keep q.var) ps)) var) not-kept
-                ∙ kept_value keep ps var
-                ∙ ap (λ b. cond b (value_in ps var) None) (sym (ap keep on) ∙ not-kept)
-                ∙ sym (ap (λ b. cond b (value_in (p ∷ ps) var) None) (sym (ap keep on) ∙ not-kept))
-          ]
-      | inr off ↦
-          elim (cases_Bool (keep p.var)) [
-            | inl yes-kept ↦
-                ap (λ b. value_in (cond b (p ∷ filter (λ (q : Pair). keep q.var) ps) (filter (λ (q : Pair). keep q.var) ps)) var) yes-kept
-                ∙ there p (filter (λ (q : Pair). keep q.var) ps) off ∙ kept_value keep ps var ∙ sym (ap (λ o. cond (keep var) o None) (there p ps off))
-            | inr not-kept ↦
-                ap (λ b. value_in (cond b (p ∷ filter (λ (q : Pair). keep q.var) ps) (filter (λ (q : Pair). keep q.var) ps)) var) not-kept
-                ∙ kept_value keep ps var ∙ sym (ap (λ o. cond (keep var) o None) (there p ps off))
-          ]
+kept_value keep ps var =
+    elim (cases_Bool (keep var)) [
+      | inl stays ↦
+          ap (option_map (λ (p : Pair). p.val)) (find_kept (λ (p : Pair). eqb p.var var) (λ p. keep p.var) ps (λ p on. ap keep (eqb-true p.var var on) ∙ stays))
+          ∙ sym (ap (λ b. cond b (value_in ps var) None) stays)
+      | inr goes ↦
+          ap (option_map (λ (p : Pair). p.val)) (nothing_found (λ (p : Pair). eqb p.var var) (filter (λ p. keep p.var) ps) (none_passes (λ (p : Pair). eqb p.var var) (filter (λ p. keep p.var) ps) (λ p among on.
+          false≢true (sym goes ∙ ap keep (sym (eqb-true p.var var on)) ∙ (filter_among (λ (p : Pair). keep p.var) p ps among).1))))
+          ∙ sym (ap (λ b. cond b (value_in ps var) None) goes)
     ]
-  where
-    here : (q : Pair) (qs : List Pair) → q.var ≡ var → value_in (q ∷ qs) var ≡ Some q.val
-    here q qs on = ap (λ b. option_map (λ (r : Pair). r.val) (cond b (Some q) (find (λ r. eqb r.var var) qs))) (eq-eqb q.var var on)
-
-    there : (q : Pair) (qs : List Pair) → q.var ≢ var → value_in (q ∷ qs) var ≡ value_in qs var
-    there q qs off = ap (λ b. option_map (λ (r : Pair). r.val) (cond b (Some q) (find (λ r. eqb r.var var) qs))) (ne_eqb q.var var off)
 
 module _ (task : Task) (o : Operator) (are : AreConditions task o.conditions) where
   -- what is required of each variable is what the conditions have
@@ -163,9 +142,6 @@ record IsEffectOf (task : Task) (o : Operator) (t : Told) : Type 0 where
   apart : list_any (λ p. eqb p.var t.0.var) (prevail o) ≡ false
   short : length t.0.conditions < 2 ^ 64
 
-basic_test : (l : Option ℕ) → is_some l ≡ false → not (is_some l) ≡ true
-basic_test l is = ap not is
-
 told_alike : (o : Operator) (before : List Told) (t : Told) → All (λ s. s.1 ≡ required_value o s.0.var) before → t.1 ≡ required_value o t.0.var → option_map_or (λ b. option_eq nat_eq b t.1) (told_before before t.0.var) true ≡ true
 told_alike o before t are is = from (told_before before t.0.var) refl
   where
@@ -175,10 +151,6 @@ told_alike o before t are is = from (told_before before t.0.var) refl
         let same : r ≡ t.1 = told_value (λ s. s.1 ≡ required_value o s.0.var) (λ q. q ≡ required_value o t.0.var) before t.0.var r are (λ s told on. told ∙ ap (required_value o) on) at ∙ sym is in
         ap (λ q. option_eq nat_eq q t.1) same ∙ (options_equiv nat_eq_equiv).refl t.1
 
-front_all : {X : Type 0} (P : X → Type 0) (before after : List X) → All P (before ++ after) → All P before
-front_all P [] after are = All-nil P
-front_all P (x ∷ before) after are = All-cons P x before (All-head P x (before ++ after) are) (front_all P before after (All-tail P x (before ++ after) are))
-
 again_effect : (task : Task) (o : Operator) (before : List Told) (t : Told) → Fits task → All (IsEffectOf task o) before → IsEffectOf task o t → AgainWords (effect task (prevail o) before) t (told_words t)
 unfolding effect
 again_effect task o before t fits are good =
@@ -187,7 +159,7 @@ again_effect task o before t fits are good =
     let test : ℕ → Option ℕ → Bool = λ var r. not (is_some (layer_of task var)) && may_change (prevail o) before var r in
     let last : List Pair → ℕ → Option ℕ → ℕ → Form Told = λ ps var r val. passing (test var r) (made ps var r val) in
     let allowed : may_change (prevail o) before e.var t.1 ≡ true = λ i. not (good.apart i) && told_alike o before t (All-weaker (IsEffectOf task o) (λ s. s.1 ≡ required_value o s.0.var) (λ s g. g.told) before are) good.told i in
-    let passes : test e.var t.1 ≡ true = λ i. basic_test (layer_of task e.var) good.valid.basic i && allowed i in
+    let passes : test e.var t.1 ≡ true = λ i. not (good.valid.basic i) && allowed i in
     words_then (effect_conditions task) (λ ps. number >>= λ var. rules.required_value task var >>= λ r. value task var >>= last ps var r) e.conditions t (numeral (length e.conditions) ∷ flat_map pair_words e.conditions) (numeral e.var ∷ output.number_or_none t.1 ∷ numeral e.after ∷ [])
     (again_effect_conditions task e.conditions fits good.valid.conditions good.short)
     (words_then number (λ var. rules.required_value task var >>= λ r. value task var >>= last e.conditions var r) e.var t (numeral e.var ∷ []) (output.number_or_none t.1 ∷ numeral e.after ∷ []) (words_number e.var (value_fits task e.var e.after fits good.valid.value).0)
@@ -195,14 +167,7 @@ again_effect task o before t fits are good =
     (words_then (value task e.var) (last e.conditions e.var t.1) e.after t (numeral e.after ∷ []) [] (again_value task e.var e.after fits good.valid.value) (words_passing (test e.var t.1) t passes))))
 
 any_itself : (es : List Effect) → All (λ e. list_any (λ (d : Effect). eqb d.var e.var) es ≡ true) es
-any_itself [] = All-nil (λ (e : Effect). list_any (λ (d : Effect). eqb d.var e.var) [] ≡ true)
-any_itself (e ∷ es) =
-    All-cons (λ (f : Effect). list_any (λ (d : Effect). eqb d.var f.var) (e ∷ es) ≡ true) e es (ap (λ b. b || list_any (λ (d : Effect). eqb d.var e.var) es) (eq-eqb e.var e.var refl))
-    (All-weaker (λ f. list_any (λ (d : Effect). eqb d.var f.var) es ≡ true) (λ f. list_any (λ (d : Effect). eqb d.var f.var) (e ∷ es) ≡ true) (λ f is. ap (λ b. eqb e.var f.var || b) is ∙ either (eqb e.var f.var)) es (any_itself es))
-  where
-    either : (b : Bool) → (b || true) ≡ true
-    either true = refl
-    either false = refl
+any_itself es = all_from_members (λ e. list_any (λ (d : Effect). eqb d.var e.var) es ≡ true) es (λ e in'. member_any (λ (d : Effect). eqb d.var e.var) es e in' (eq-eqb e.var e.var refl))
 
 not_prevailing : (o : Operator) (var : ℕ) → list_any (λ (e : Effect). eqb e.var var) o.effects ≡ true → list_any (λ p. eqb p.var var) (prevail o) ≡ false
 not_prevailing o var changed =
@@ -273,14 +238,14 @@ again_operator metric task o fits named are valid small unit short =
     let es-lines : List Line = flat_map (λ e. effect_line o e ∷ []) o.effects in
     let tail-lines : List Line = numeral (length o.effects) ∷ (es-lines ++ numeral o.cost ∷ codes "end_operator" ∷ []) in
     let count : length told ≡ length o.effects = length-map o.effects (λ e. (e, required_value o e.var)) in
-    let is : made called ps told o.cost ≡ own = λ i. record { name = called; conditions = required_again task o are i; effects = firsts (required_value o) o.effects i; cost = o.cost } in
+    let is : made called ps told o.cost ≡ own = λ i. record { name = called; conditions = required_again task o are i; effects = map_back (λ (e : Effect). (e, required_value o e.var)) (λ (t : Told). t.0) (λ e. refl) o.effects i; cost = o.cost } in
     let good = effects_of task o are valid short in
     let read-items : Again (items ps (length o.effects)) told es-lines =
     subst (λ k. Again (items ps k) told es-lines) count
     (subst (Again (items ps (length told)) told) (same_lines told_lines [] told ∙ flat_map-map told_lines (λ e. (e, required_value o e.var)) o.effects)
     (again_listed (λ earlier. line (effect task ps earlier)) (λ _. told_lines) told
     (λ before t more at. again_words (effect task ps before) t (numeral (length t.0.conditions)) (flat_map pair_words t.0.conditions ++ numeral t.0.var ∷ output.number_or_none t.1 ∷ numeral t.0.after ∷ []) (numeral_no_space (length t.0.conditions)) (told_no_space t)
-    (again_effect task o before t fits (front_all (IsEffectOf task o) before (t ∷ more) (subst (All (IsEffectOf task o)) (sym at) good)) (in_all (IsEffectOf task o) before t more told at good))) told [] refl)) in
+    (again_effect task o before t fits (all_front (IsEffectOf task o) before (t ∷ more) (subst (All (IsEffectOf task o)) (sym at) good)) (in_all (IsEffectOf task o) before t more told at good))) told [] refl)) in
     let read-end : Again (last called ps told o.cost) own (codes "end_operator" ∷ []) = again_next (fixed (codes "end_operator")) (given (made called ps told o.cost)) tt own (codes "end_operator" ∷ []) [] (again_fixed (codes "end_operator")) (subst (λ w. Again (given (made called ps told o.cost)) w []) is (again_given (made called ps told o.cost))) in
     let read-cost : Again (costed called ps told) own (numeral o.cost ∷ codes "end_operator" ∷ []) = again_then (cost metric) (last called ps told) o.cost own (numeral o.cost ∷ []) (codes "end_operator" ∷ []) (again_cost metric o.cost small unit) read-end in
     let read-effects : Again (items ps (length o.effects) >>= costed called ps) own (es-lines ++ numeral o.cost ∷ codes "end_operator" ∷ []) = again_then (items ps (length o.effects)) (costed called ps) told own es-lines (numeral o.cost ∷ codes "end_operator" ∷ []) read-items read-cost in
@@ -291,9 +256,5 @@ again_operator metric task o fits named are valid small unit short =
     (again_next (fixed (codes "begin_operator")) name tt called (codes "begin_operator" ∷ []) (o.name ∷ []) (again_fixed (codes "begin_operator")) (again_name o.name named)) read-prevail in
     subst (Again (operator metric task) own) (ap (λ l. codes "begin_operator" ∷ o.name ∷ l) (regroup (counted pair_lines ps) (numeral (length o.effects) ∷ es-lines) (numeral o.cost) (codes "end_operator"))) all
   where
-    firsts : (g : ℕ → Option ℕ) (es : List Effect) → map (λ (t : Told). t.0) (map (λ e. (e, g e.var)) es) ≡ es
-    firsts g [] = refl
-    firsts g (e ∷ es) = ap (λ l. e ∷ l) (firsts g es)
-
     regroup : (a b : List Line) (c d : Line) → a ++ (b ++ c ∷ d ∷ []) ≡ (a ++ b ++ c ∷ []) ++ d ∷ []
     regroup a b c d = sym (append_assoc (a ++ b) (c ∷ []) (d ∷ []) ∙ append_assoc a b (c ∷ d ∷ []))

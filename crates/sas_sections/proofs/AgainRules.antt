@@ -4,7 +4,7 @@ use Rattle.std.specs.Prelude.{codes, IfSome, IsSomeAnd}
 use Rattle.std.specs.List.{All, find, list_all}
 use Rattle.std.specs.Option.{option_map_or}
 use Rattle.std.proofs.lemmas.Bool.{cases_eq, eq-eqb, ne_eqb, lt-ltb}
-use Rattle.std.proofs.lemmas.List.Elements.{All-nil, All-cons, All-head, All-tail}
+use Rattle.std.proofs.lemmas.List.Elements.{All-nil, All-cons, All-head, All-tail, All-contains}
 use Rattle.sas_task.specs.declared.parts.Pair.{Pair}
 use Rattle.sas_task.specs.declared.parts.Variable.{Variable}
 use Rattle.sas_task.specs.declared.parts.Rule.{Rule}
@@ -16,6 +16,7 @@ use Rattle.sas_lines.specs.Forms.{◌>>=◌, ◌>>◌, Form, passing, given, fix
 use Rattle.sas_lines.specs.Numbers.{number}
 use Rattle.sas_sections.specs.Pairs.{value, conditions}
 use Rattle.sas_sections.specs.Rules.{may_set, change, rule}
+use Rattle.lists.proofs.Members.{each_passes}
 use Rattle.sas_sections.proofs.Again.{Again, again_then, again_next, again_given, again_fixed}
 use Rattle.sas_sections.proofs.AgainWords.{AgainWords, words_then, words_passing, words_number, NoSpace, numeral_no_space, again_words}
 use Rattle.sas_sections.proofs.AgainPairs.{Fits, value_fits, again_value, again_conditions}
@@ -29,8 +30,7 @@ below_test task var p is = from (layer_of task p.var) (layer_of task var) is
     from (Some low) None is = absurd is
 
 all_below_test : (task : Task) (var : ℕ) (ps : List Pair) → All (IsBelow task var) ps → list_all (is_below task var) ps ≡ true
-all_below_test task var [] are = refl
-all_below_test task var (p ∷ ps) are = λ i. below_test task var p (All-head (IsBelow task var) p ps are) i && all_below_test task var ps (All-tail (IsBelow task var) p ps are) i
+all_below_test task var ps are = each_passes (is_below task var) ps (λ p in'. below_test task var p (All-contains (IsBelow task var) ps p are in'))
 
 -- what the earlier rules for the variable set it to
 alike_test : (before : List Rule) (r : Rule) → All (λ s. SetAlike s r) before → option_map_or (λ (same : Rule). eqb same.after r.after) (find (λ same. eqb same.var r.var) before) true ≡ true

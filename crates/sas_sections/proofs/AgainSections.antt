@@ -3,6 +3,7 @@ use Rattle.std.proofs.Common.{◌≡◌, ℕ, ◌+◌, ◌-◌, ◌^◌, ◌<◌
 use Rattle.std.specs.Prelude.{codes, slice_index, if◌then◌else◌}
 use Rattle.std.specs.List.{All, flat_map, enumerate_from}
 use Rattle.std.proofs.lemmas.Bool.{lt-ltb, ne_eqb}
+use Rattle.std.proofs.lemmas.List.Concat.{flat_map_single}
 use Rattle.std.proofs.lemmas.List.FromFn.{length-enumerate_from}
 use Rattle.sas_task.specs.declared.parts.Variable.{Variable}
 use Rattle.sas_task.specs.Output.{Line, numeral, number_or_none, counted, version_lines, metric_lines, variable_lines, state_lines}
@@ -95,17 +96,13 @@ again_state_value task var val fits is =
     let k = value_fits task var val fits is in
     again_then number_line (λ v. passing (is_value task var v) v) val val (numeral val ∷ []) [] (again_number val k.1) (again_passing (is_value task var val) val k.2)
 
-value_lines : (values : List ℕ) → flat_map (λ val. numeral val ∷ []) values ≡ map numeral values
-value_lines [] = refl
-value_lines (val ∷ values) = ap (λ l. numeral val ∷ l) (value_lines values)
-
 pub again_state : (task : Task) (values : List ℕ) → Fits task → length values ≡ length task.variables → ((var : ℕ) → var < length values → IsValue task var (slice_index values var)) → Again (state task) values (state_lines values)
 unfolding state
 again_state task values fits len are =
     let one : List ℕ → Form ℕ = λ before. state_value task (length before) in
     let last : List ℕ → Form (List ℕ) = λ values. fixed (codes "end_state") >> given values in
     let items : Again (listed one (length values) []) values (map numeral values) =
-    subst (Again (listed one (length values) []) values) (same_lines (λ val. numeral val ∷ []) [] values ∙ value_lines values)
+    subst (Again (listed one (length values) []) values) (same_lines (λ val. numeral val ∷ []) [] values ∙ flat_map_single numeral values)
     (again_listed one (λ _ val. numeral val ∷ []) values
     (λ before val more is. again_state_value task (length before) val fits (subst (IsValue task (length before)) (at_place before val more values 0 is)
     (are (length before) (let whole : length (before ++ val ∷ more) ≡ length values = ap length is in omega (arith, whole, length-append before (val ∷ more)))))) values [] refl) in

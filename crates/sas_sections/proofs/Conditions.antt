@@ -1,17 +1,16 @@
 -- Pairs that were read are facts in order, and are written as they were read.
-use Rattle.std.proofs.Common.{◌≡◌, ℕ, ◌+◌, ◌-◌, ◌<◌, true, false, ◌&&◌, ◌||◌, eqb, ltb, List, [], ◌∷◌, ◌++◌, length, map, get_or, Option, Some, None, Ok, inl, inr, refl, sym, ap, ◌∙◌, subst, append-nil, arith, length-append}
-use Rattle.std.specs.Prelude.{slice_get, IsSomeAnd}
+use Rattle.std.proofs.Common.{◌≡◌, ℕ, ◌+◌, ◌-◌, ◌<◌, true, false, ◌&&◌, ◌||◌, eqb, ltb, List, [], ◌∷◌, ◌++◌, length, map, get_or, Some, Ok, inl, inr, refl, sym, ap, ◌∙◌, subst, append-nil, arith, length-append}
+use Rattle.std.specs.Prelude.{slice_get}
 use Rattle.std.specs.List.{All, AllPairs, flat_map}
 use Rattle.std.specs.List.Sorted.{IsStrictlyIncreasing}
 use Rattle.std.specs.Option.{option_map_or}
-use Rattle.std.proofs.lemmas.Bool.{cases_lt, cases_Bool, eqb-true, ltb-true, and_parts}
+use Rattle.std.proofs.lemmas.Bool.{cases_lt, ltb-true}
 use Rattle.std.proofs.lemmas.Option.{slice_get-get_or}
 use Rattle.std.proofs.lemmas.List.{length-map, get_or-map, get_or_append_left, get_or-append_right, map-append}
 use Rattle.std.proofs.lemmas.List.Concat.{flat_map-append}
 use Rattle.std.proofs.lemmas.List.Elements.{All-nil, All-push}
 use Rattle.std.proofs.lemmas.List.Quantifiers.{all_pairs_push}
 use Rattle.sas_task.specs.declared.parts.Pair.{Pair}
-use Rattle.sas_task.specs.declared.parts.Variable.{Variable}
 use Rattle.sas_task.specs.Output.{Line, numeral, counted, pair_words, pair_lines}
 use Rattle.sas_task.specs.Task.{Task}
 use Rattle.sas_task.specs.Valid.{IsValue, IsFact, AreConditions, ComesBefore}
@@ -19,23 +18,15 @@ use Rattle.sas_lines.specs.Contexts.{is_value, is_next_condition, is_next_fact}
 use Rattle.sas_lines.specs.Forms.{◌>>=◌, Unread, line, listed, passing, given}
 use Rattle.sas_lines.specs.Numbers.{number, number_line}
 use Rattle.sas_sections.specs.Pairs.{value, pair, condition, fact, effect_conditions, conditions}
-use Rattle.sas_sections.proofs.Kept.{parts, passed, read_same, kept, TakesLines, TakesWords, then_lines, then_words}
+use Rattle.sas_task.proofs.Checks.{value_from_test, before_from_test}
+use Rattle.sas_sections.proofs.Kept.{parts, checked, read_same, kept, TakesLines, TakesWords, then_lines, then_words}
 use Rattle.sas_sections.proofs.Lines.{number_is, number_line_is, line_is_words}
-
-pub value_holds : (task : Task) (var val : ℕ) → is_value task var val ≡ true → IsValue task var val
-value_holds task var val is = from (slice_get task.variables var) is
-  where
-    from : (v : Option Variable) → option_map_or (λ (v : Variable). ltb val (length v.facts)) v false ≡ true → IsSomeAnd v (λ v. val < length v.facts)
-    from (Some v) is = ltb-true val (length v.facts) is
-    from None is = absurd cc
 
 pub value_read : (task : Task) (var : ℕ) (now : Unread) (val : ℕ) (after : Unread) → value task var now ≡ Ok (val, after) → TakesWords now (numeral val ∷ []) after × IsValue task var val
 unfolding value
 value_read task var now val after e =
-    let p = parts (number now) (λ val. passing (is_value task var val) val) val after e in
-    let q = passed (is_value task var p.0) p.0 val p.1 after p.3 in
-    let words = subst (λ a. TakesWords now (numeral p.0 ∷ []) a) q.2 (number_is now p.0 p.1 p.2) in
-    (subst (λ v. TakesWords now (numeral v ∷ []) after) q.1 words, subst (λ v. IsValue task var v) q.1 (value_holds task var p.0 q.0))
+    let p = checked number (is_value task var) now val after e in
+    (number_is now val after p.0, value_from_test task var val p.1)
 
 pub pair_read : (task : Task) (now : Unread) (p : Pair) (after : Unread) → pair task now ≡ Ok (p, after) → TakesWords now (pair_words p) after × IsFact task p
 unfolding pair
@@ -52,22 +43,16 @@ pair_read task now p after e =
 pub condition_read : (task : Task) (before : List Pair) (now : Unread) (p : Pair) (after : Unread) → condition task before now ≡ Ok (p, after) → TakesWords now (pair_words p) after × IsFact task p × (is_next_condition before p ≡ true)
 unfolding condition
 condition_read task before now p after e =
-    let a = parts (pair task now) (λ p. passing (is_next_condition before p) p) p after e in
-    let q = passed (is_next_condition before a.0) a.0 p a.1 after a.3 in
-    let r = pair_read task now a.0 a.1 a.2 in
-    let words = subst (λ n. TakesWords now (pair_words a.0) n) q.2 r.0 in
-    let all : TakesWords now (pair_words a.0) after × IsFact task a.0 × (is_next_condition before a.0 ≡ true) = (words, r.1, q.0) in
-    subst (λ o. TakesWords now (pair_words o) after × IsFact task o × (is_next_condition before o ≡ true)) q.1 all
+    let a = checked (pair task) (is_next_condition before) now p after e in
+    let r = pair_read task now p after a.0 in
+    (r.0, r.1, a.1)
 
 pub fact_read : (task : Task) (before : List Pair) (now : Unread) (p : Pair) (after : Unread) → fact task before now ≡ Ok (p, after) → TakesWords now (pair_words p) after × IsFact task p × (is_next_fact before p ≡ true)
 unfolding fact
 fact_read task before now p after e =
-    let a = parts (pair task now) (λ p. passing (is_next_fact before p) p) p after e in
-    let q = passed (is_next_fact before a.0) a.0 p a.1 after a.3 in
-    let r = pair_read task now a.0 a.1 a.2 in
-    let words = subst (λ n. TakesWords now (pair_words a.0) n) q.2 r.0 in
-    let all : TakesWords now (pair_words a.0) after × IsFact task a.0 × (is_next_fact before a.0 ≡ true) = (words, r.1, q.0) in
-    subst (λ o. TakesWords now (pair_words o) after × IsFact task o × (is_next_fact before o ≡ true)) q.1 all
+    let a = checked (pair task) (is_next_fact before) now p after e in
+    let r = pair_read task now p after a.0 in
+    (r.0, r.1, a.1)
 
 pub last_is : {X : Type 0} (xs : List X) (d : X) → 0 < length xs → slice_get xs (length xs - 1) ≡ Some (get_or xs (length xs - 1) d)
 last_is xs d some = slice_get-get_or xs (length xs - 1) d (omega (arith, some))
@@ -116,20 +101,11 @@ comes_through p q r (inl a) (inr b) = inl (omega (arith, a, b.0))
 comes_through p q r (inr a) (inl b) = inl (omega (arith, a.0, b))
 comes_through p q r (inr a) (inr b) = inr (omega (arith, a.0, b.0), omega (arith, a.1, b.1))
 
-next_comes : (p q : Pair) → (ltb p.var q.var || (eqb p.var q.var && ltb p.val q.val)) ≡ true → ComesBefore p q
-next_comes p q is =
-    elim (cases_Bool (ltb p.var q.var)) [
-      | inl less ↦ inl (ltb-true p.var q.var less)
-      | inr other ↦
-          let rest = and_parts (eqb p.var q.var) (ltb p.val q.val) (sym (ap (λ b. b || (eqb p.var q.var && ltb p.val q.val)) other) ∙ is) in
-          inr (eqb-true p.var q.var rest.0, ltb-true p.val q.val rest.1)
-    ]
-
 pub fact_more : (before : List Pair) (p : Pair) → AllPairs ComesBefore before → is_next_fact before p ≡ true → AllPairs ComesBefore (before ++ p ∷ [])
 fact_more before p sorted next =
     all_pairs_push ComesBefore before p sorted (λ k d within.
     let last = get_or before (length before - 1) d in
-    let comes : ComesBefore last p = next_comes last p (sym (ap (λ o. option_map_or (λ (q : Pair). ltb q.var p.var || (eqb q.var p.var && ltb q.val p.val)) o true) (last_is before d (omega (arith, within)))) ∙ next) in
+    let comes : ComesBefore last p = before_from_test last p (sym (ap (λ o. option_map_or (λ (q : Pair). ltb q.var p.var || (eqb q.var p.var && ltb q.val p.val)) o true) (last_is before d (omega (arith, within)))) ∙ next) in
     elim (cases_lt k (length before - 1)) [
       | inl earlier ↦ comes_through (get_or before k d) last p (sorted k (length before - 1) d earlier (omega (arith, within))) comes
       | inr there ↦ subst (λ i. ComesBefore (get_or before i d) p) (let e : length before - 1 ≡ k = omega (arith, within, there) in e) comes

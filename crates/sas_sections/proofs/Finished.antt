@@ -1,12 +1,12 @@
 -- Operators, rules and whole texts that were read are valid, and are written as they were read.
-use Rattle.std.proofs.Common.{◌≡◌, ◌≢◌, ℕ, ◌<◌, ◌≤◌, Bool, true, false, not, ◌&&◌, cond, eqb, ltb, List, [], ◌∷◌, ◌++◌, length, map, get_or, Option, Some, None, Ok, refl, sym, ap, ◌∙◌, subst, arith}
-use Rattle.std.specs.Prelude.{codes, IsSome, IfSome, IsSomeAnd, is_some}
+use Rattle.std.proofs.Common.{◌≡◌, ℕ, ◌<◌, ◌≤◌, Bool, true, false, not, ◌&&◌, cond, eqb, ltb, List, [], ◌∷◌, ◌++◌, length, map, get_or, Option, Some, None, Ok, refl, sym, ap, ◌∙◌, subst, arith}
+use Rattle.std.specs.Prelude.{codes, is_some}
 use Rattle.std.specs.List.{All, AllPairs, find, list_all, flat_map}
 use Rattle.std.specs.Option.{option_map, option_map_or}
-use Rattle.std.proofs.lemmas.Bool.{eq-eqb, eqb-true, ltb-true, and_parts}
+use Rattle.std.proofs.lemmas.Bool.{eq-eqb, eqb-true, and_parts}
 use Rattle.std.proofs.lemmas.Option.{same_Some}
 use Rattle.std.proofs.lemmas.List.{length-map, map-append}
-use Rattle.std.proofs.lemmas.List.Elements.{All-nil, All-cons, All-push, All-map, All-weaker}
+use Rattle.std.proofs.lemmas.List.Elements.{All-nil, All-push, All-map, All-weaker}
 use Rattle.sas_task.specs.declared.parts.Pair.{Pair}
 use Rattle.sas_task.specs.declared.parts.Variable.{Variable}
 use Rattle.sas_task.specs.declared.parts.Operator.{Operator}
@@ -22,6 +22,7 @@ use Rattle.sas_sections.specs.Operators.{Told, name, effect, cost, required, ope
 use Rattle.sas_sections.specs.Pairs.{value, conditions}
 use Rattle.sas_sections.specs.Rules.{may_set, change, rule, rules}
 use Rattle.sas_sections.specs.Tables.{first_of, after_name}
+use Rattle.sas_task.proofs.Checks.{all_from_test, differs_from_test, lower_from_test}
 use Rattle.sas_sections.proofs.Kept.{parts, passed, read_same, kept, TakesLines, TakesWords, then_lines, then_words}
 use Rattle.sas_sections.proofs.Lines.{IsClean, clean_after, fixed_is, number_line_is, number_is, line_is_words}
 use Rattle.sas_sections.proofs.Conditions.{value_read, conditions_read, more_lines}
@@ -121,26 +122,6 @@ operators_read metric task now os after clean e =
     let len : a.0 ≡ length all.0.written = omega (arith, all.1, same) in
     (all.0.written, all.0.spares, subst (λ n. TakesLines now (numeral n ∷ flat_map operator_lines all.0.written) after) len (then_lines now a.1 after (numeral a.0 ∷ []) (flat_map operator_lines all.0.written) count.0 all.0.taken), all.0.are)
 
-below_holds : (task : Task) (var : ℕ) (p : Pair) → is_below task var p ≡ true → IsBelow task var p
-below_holds task var p is = from (layer_of task p.var) (layer_of task var) is
-  where
-    from : (low high : Option ℕ) → option_map_or (λ low. option_map_or (λ high. ltb low high) high false) low true ≡ true → IfSome low (λ low. IsSomeAnd high (λ high. low < high))
-    from None high is = tt
-    from (Some low) (Some high) is = ltb-true low high is
-    from (Some low) None is = absurd cc
-
-all_below : (task : Task) (var : ℕ) (ps : List Pair) → list_all (is_below task var) ps ≡ true → All (IsBelow task var) ps
-all_below task var [] are = All-nil (IsBelow task var)
-all_below task var (p ∷ ps) are =
-    let parts = and_parts (is_below task var p) (list_all (is_below task var) ps) are in
-    All-cons (IsBelow task var) p ps (below_holds task var p parts.0) (all_below task var ps parts.1)
-
-is_some_holds : (o : Option ℕ) → is_some o ≡ true → IsSome o
-is_some_holds o is = is
-
-differ : (a b : ℕ) → not (eqb a b) ≡ true → a ≢ b
-differ a b other e = let yes : not (eqb a b) ≡ false = ap not (eq-eqb a b e) in absurd (let both : true ≡ false = sym other ∙ yes in cc)
-
 -- the first rule for the variable sets it alike
 abbrev pub after_before : List Rule → ℕ → Option ℕ
 after_before earlier var = option_map (λ r. r.after) (find (λ r. eqb r.var var) earlier)
@@ -207,11 +188,11 @@ rule_read variables state earlier now r after e =
     let are : AreConditions task one.conditions = subst (AreConditions task) (sym l.1.0) (record { facts = conds.1.facts; sorted = conds.1.sorted }) in
     let valid : IsValidRule task one = record {
       conditions = are;
-      derived = is_some_holds (layer_of task one.var) tests1.0;
+      derived = tests1.0;
       value = l.1.1;
       default = eqb-true one.before (default_of task one.var) tests2.1;
-      changes = differ one.before one.after tests3.1;
-      below = all_below task one.var one.conditions tests1.1;
+      changes = differs_from_test one.before one.after tests3.1;
+      below = all_from_test (is_below task one.var) (IsBelow task one.var) (λ p. lower_from_test task (layer_of task p.var) (layer_of task one.var)) one.conditions tests1.1;
     } in
     let shown : TakesLines a.1 (counted pair_lines one.conditions) b.1 = subst (λ ps. TakesLines a.1 (counted pair_lines ps) b.1) (sym l.1.0) conds.0 in
     let inside = then_lines a.1 b.1 c.1 (counted pair_lines one.conditions) (rule_line one ∷ []) shown l.0 in

@@ -1,7 +1,7 @@
 -- What a form that reads something tells: one form after another, and the lines and words that were read.
 use Rattle.std.proofs.Common.{◌≡◌, ℕ, zero, suc, ◌+◌, Bool, true, false, List, [], ◌∷◌, ◌++◌, length, Option, Some, None, Ok, Err, refl, sym, ap, ◌∙◌, subst, append_assoc, arith, length-append}
 use Rattle.sas_task.specs.Output.{Line}
-use Rattle.sas_lines.specs.Forms.{Unread, Reading, Form, followed, passing, met, next_line, line_of, word, word_of, end_words, no_word, listed}
+use Rattle.sas_lines.specs.Forms.{◌>>=◌, Unread, Reading, Form, followed, passing, met, next_line, line_of, word, word_of, end_words, no_word, listed}
 
 abbrev read : {A : Type 0} → A → Unread → Reading A
 read x now = Ok (x, now)
@@ -21,6 +21,13 @@ parts (Err fault) more y after e = absurd cc
 pub passed : {A : Type 0} (test : Bool) (x y : A) (now after : Unread) → passing test x now ≡ Ok (y, after) → (test ≡ true) × (x ≡ y) × (now ≡ after)
 passed true x y now after e = let same = read_same x y now after e in (refl, same.0, same.1)
 passed false x y now after e = absurd cc
+
+-- what a form reads with a test behind it, it reads alone, and the test passes
+pub checked : {A : Type 0} (form : Form A) (test : A → Bool) (now : Unread) (x : A) (after : Unread) → (form >>= λ x. passing (test x) x) now ≡ Ok (x, after) → (form now ≡ Ok (x, after)) × (test x ≡ true)
+checked form test now x after e =
+    let p = parts (form now) (λ x. passing (test x) x) x after e in
+    let q = passed (test p.0) p.0 x p.1 after p.3 in
+    (p.2 ∙ (λ i. Ok (q.1 i, q.2 i)), subst (λ y. test y ≡ true) q.1 q.0)
 
 pub was_met : {A : Type 0} (o : Option A) (y : A) (now after : Unread) → met o now ≡ Ok (y, after) → (o ≡ Some y) × (now ≡ after)
 was_met (Some x) y now after e = let same = read_same x y now after e in (ap Some same.0, same.1)

@@ -1,6 +1,7 @@
 mod Listed
 mod Tabled
 mod Ordered
+pub mod Joined
 pub mod Kept
 mod Numerals
 pub mod Lines

@@ -3,7 +3,8 @@ use Rattle.std.proofs.Common.{◌≡◌, ◌≢◌, ℕ, ◌-◌, ◌^◌, ◌<�
 use Rattle.std.specs.Prelude.{codes, nat_le, IfSome}
 use Rattle.std.specs.List.{All, onto_first}
 use Rattle.std.specs.Option.{option_map}
-use Rattle.std.proofs.lemmas.Bool.{cases_Bool, eq-eqb, eqb-true, leb-true, ltb-true, and_parts}
+use Rattle.std.specs.Cmp.Lexicographic.{same_text}
+use Rattle.std.proofs.lemmas.Bool.{cases_Bool, eqb-true, eqb-false, leb-true, ltb-true, and_parts, not-true}
 use Rattle.std.proofs.lemmas.Option.{same_Some}
 use Rattle.std.proofs.lemmas.List.Elements.{All-nil, All-cons, All-head, All-tail}
 use Rattle.std.proofs.lemmas.List.Splits.{slice_split-cons_yes, slice_split-cons_no}
@@ -14,57 +15,36 @@ use Rattle.sas_lines.specs.Words as words
 use Rattle.sas_lines.specs.Forms.{Unread, Form, ◌>>=◌, ◌>>◌, pieces_of, passing, met, next_line, word, fixed, begin_words, line, end_words, given, with_words}
 use Rattle.sas_lines.specs.Numbers.{number_line, at_least, number_or_none_line, number, number_or_none}
 use Rattle.sas_lines.proofs.Cuts.{some_piece}
-use Rattle.sas_sections.proofs.Kept.{parts, passed, was_met, TakesLines, TakesWords, line_taken, word_taken, words_ended, read_same}
+use Rattle.sas_sections.proofs.Kept.{parts, passed, checked, was_met, TakesLines, TakesWords, line_taken, word_taken, words_ended, read_same}
 use Rattle.sas_sections.proofs.Numerals.{number_numeral}
 use Rattle.lists.specs.Names.{IsName}
-use Rattle.lists.proofs.Names.{name_from}
+use Rattle.sas_sections.proofs.Joined.{all_behind}
+use Rattle.lists.proofs.Names.{IsOneLine, name_from}
 
 pub same_bytes : (a b : List ℕ) → is_same a b ≡ true → a ≡ b
-same_bytes [] [] same = refl
-same_bytes [] (y ∷ b) same = absurd cc
-same_bytes (x ∷ a) [] same = absurd cc
-same_bytes (x ∷ a) (y ∷ b) same =
-    let parts = and_parts (eqb x y) (is_same a b) same in
-    let first = eqb-true x y parts.0 in
-    let rest = same_bytes a b parts.1 in
-    λ i. first i ∷ rest i
-
-pub same_itself : (a : List ℕ) → is_same a a ≡ true
-same_itself [] = refl
-same_itself (x ∷ a) = (λ i. eq-eqb x x refl i && same_itself a i)
-
--- no line feed
-abbrev pub NoFeed : Line → Type 0
-NoFeed line = All (λ b. b ≢ 10) line
+same_bytes a b same = same_text a b (sym same)
 
 -- no piece has a line feed
 abbrev pub IsClean : Unread → Type 0
-IsClean now = All NoFeed now.pieces
-
-clean_rest : (lines rest : List Line) → All NoFeed (lines ++ rest) → All NoFeed rest
-clean_rest [] rest clean = clean
-clean_rest (l ∷ lines) rest clean = clean_rest lines rest (All-tail NoFeed l (lines ++ rest) clean)
+IsClean now = All IsOneLine now.pieces
 
 pub clean_after : (now : Unread) (lines : List Line) (after : Unread) → TakesLines now lines after → IsClean now → IsClean after
-clean_after now lines after taken clean = clean_rest lines after.pieces (subst (All NoFeed) taken clean)
+clean_after now lines after taken clean = all_behind IsOneLine lines after.pieces (subst (All IsOneLine) taken clean)
 
-pub clean_line : (now : Unread) (l : Line) (after : Unread) → TakesLines now (l ∷ []) after → IsClean now → NoFeed l
-clean_line now l after taken clean = All-head NoFeed l after.pieces (subst (All NoFeed) taken clean)
+pub clean_line : (now : Unread) (l : Line) (after : Unread) → TakesLines now (l ∷ []) after → IsClean now → IsOneLine l
+clean_line now l after taken clean = All-head IsOneLine l after.pieces (subst (All IsOneLine) taken clean)
 
-pub clean_pieces : (bytes : List ℕ) → All NoFeed (pieces_of 10 bytes)
-clean_pieces [] = All-cons NoFeed [] [] (All-nil (λ b. b ≢ 10)) (All-nil NoFeed)
+pub clean_pieces : (bytes : List ℕ) → All IsOneLine (pieces_of 10 bytes)
+clean_pieces [] = All-cons IsOneLine [] [] (All-nil (λ b. b ≢ 10)) (All-nil IsOneLine)
 clean_pieces (b ∷ bytes) =
     elim (cases_Bool (eqb b 10)) [
-      | inl feed ↦ subst (All NoFeed) (sym (slice_split-cons_yes (λ b. eqb b 10) b bytes feed)) (All-cons NoFeed [] (pieces_of 10 bytes) (All-nil (λ b. b ≢ 10)) (clean_pieces bytes))
+      | inl feed ↦ subst (All IsOneLine) (sym (slice_split-cons_yes (λ b. eqb b 10) b bytes feed)) (All-cons IsOneLine [] (pieces_of 10 bytes) (All-nil (λ b. b ≢ 10)) (clean_pieces bytes))
       | inr other ↦
           let later = some_piece (λ b. eqb b 10) bytes in
-          let clean : All NoFeed (later.0 ∷ later.1) = subst (All NoFeed) later.2 (clean_pieces bytes) in
-          let first : NoFeed (b ∷ later.0) = All-cons (λ b. b ≢ 10) b later.0 (λ e. absurd (differs b other e)) (All-head NoFeed later.0 later.1 clean) in
-          subst (All NoFeed) (sym (slice_split-cons_no (λ b. eqb b 10) b bytes other ∙ ap (onto_first b) later.2)) (All-cons NoFeed (b ∷ later.0) later.1 first (All-tail NoFeed later.0 later.1 clean))
+          let clean : All IsOneLine (later.0 ∷ later.1) = subst (All IsOneLine) later.2 (clean_pieces bytes) in
+          let first : IsOneLine (b ∷ later.0) = All-cons (λ b. b ≢ 10) b later.0 (eqb-false b 10 other) (All-head IsOneLine later.0 later.1 clean) in
+          subst (All IsOneLine) (sym (slice_split-cons_no (λ b. eqb b 10) b bytes other ∙ ap (onto_first b) later.2)) (All-cons IsOneLine (b ∷ later.0) later.1 first (All-tail IsOneLine later.0 later.1 clean))
     ]
-  where
-    differs : (b : ℕ) → eqb b 10 ≡ false → b ≡ 10 → ⊥
-    differs b other e = absurd (let yes = eq-eqb b 10 e in let both : false ≡ true = sym other ∙ yes in cc)
 
 -- a line by a test
 pub tested_line : {A : Type 0} (test : Line → Bool) (value : Line → A) (now : Unread) (x : A) (after : Unread) → (next_line >>= λ l. passing (test l) (value l)) now ≡ Ok (x, after)
@@ -104,10 +84,8 @@ number_line_is now n after e =
 pub at_least_is : (least : ℕ) (now : Unread) (n : ℕ) (after : Unread) → at_least least now ≡ Ok (n, after) → TakesLines now (numeral n ∷ []) after × (least ≤ n)
 unfolding at_least
 at_least_is least now n after e =
-    let p = parts (number_line now) (λ n. passing (nat_le least n) n) n after e in
-    let q = passed (nat_le least p.0) p.0 n p.1 after p.3 in
-    let first = number_line_is now p.0 p.1 p.2 in
-    (subst (λ m. TakesLines now (numeral m ∷ []) after) q.1 (subst (λ a. TakesLines now (numeral p.0 ∷ []) a) q.2 first.0), subst (λ m. least ≤ m) q.1 (leb-true least p.0 q.0))
+    let p = checked number_line (nat_le least) now n after e in
+    ((number_line_is now n after p.0).0, leb-true least n p.1)
 
 none_or_numeral : (w : Line) (o : Option ℕ) → words.number_or_none w ≡ Some o → (w ≡ output.number_or_none o) × IfSome o (λ n. n < 2 ^ 64)
 none_or_numeral w o e =
@@ -181,11 +159,13 @@ line_is_words {A} form words Good taken now x after e =
     let result : TakesLines now (output.spaced (words last.0) ∷ []) after = first ∙ (λ i. written i ∷ rest i) in
     subst (λ (y : A). TakesLines now (output.spaced (words y) ∷ []) after × Good y) same.0 (result, told.1)
 
-pub name_is : (bytes : Line) → is_name bytes ≡ true → NoFeed bytes → IsName bytes
+pub name_is : (bytes : Line) → is_name bytes ≡ true → IsOneLine bytes → IsName bytes
 name_is bytes is clean =
     let parts = and_parts (ltb 0 (length bytes) && not (eqb (get_or bytes 0 0) 32)) (not (eqb (get_or bytes (length bytes - 1) 0) 32)) is in
     let front = and_parts (ltb 0 (length bytes)) (not (eqb (get_or bytes 0 0) 32)) parts.0 in
-    name_from bytes record { written = ltb-true 0 (length bytes) front.0; one_line = clean; first = differs (get_or bytes 0 0) front.1; last = differs (get_or bytes (length bytes - 1) 0) parts.1 }
-  where
-    differs : (b : ℕ) → not (eqb b 32) ≡ true → b ≢ 32
-    differs b other e = let yes : not (eqb b 32) ≡ false = ap not (eq-eqb b 32 e) in let both : true ≡ false = sym other ∙ yes in absurd cc
+    name_from bytes record {
+      written = ltb-true 0 (length bytes) front.0;
+      one_line = clean;
+      first = eqb-false (get_or bytes 0 0) 32 (not-true _ front.1);
+      last = eqb-false (get_or bytes (length bytes - 1) 0) 32 (not-true _ parts.1);
+    }

@@ -1,13 +1,14 @@
 -- The conditions that a table tells are those of each variable in turn.
 use Rattle.std.proofs.Common.{◌≡◌, ℕ, zero, suc, ◌+◌, ◌<◌, ◌≤◌, true, false, cond, eqb, List, [], ◌∷◌, ◌++◌, Option, Some, None, inl, inr, refl, sym, ap, ◌∙◌, subst, arith}
 use Rattle.std.specs.BTreeMap.{BTreeMap, is_at, IsOrdered}
+use Rattle.std.specs.Cmp.{nat_cmp_is}
 use Rattle.std.specs.List.{find, filter_map, cons_option, flat_map, range_with_len, AllByRecursion}
 use Rattle.std.specs.List.Sorted.{IsStrictlySortedBy}
 use Rattle.std.specs.Map.{keys_of, lookup}
 use Rattle.std.specs.Ordering.{nat_cmp, is_eq}
 use Rattle.std.specs.declared.cmp.Ordering.TheVariants.{Less, Equal, Greater}
 use Rattle.std.specs.Option.{option_map, option_map_or}
-use Rattle.std.proofs.lemmas.Bool.{cases_Bool, cases_eq, eq-eqb, ne_eqb, lt-ltb, le-ltb}
+use Rattle.std.proofs.lemmas.Bool.{cases_Bool, cases_eq}
 use Rattle.std.proofs.lemmas.Cmp.{ranked}
 use Rattle.sas_task.specs.declared.parts.Pair.{Pair}
 use Rattle.sas_sections.specs.declared.requirements.Requirement.{Requirement}
@@ -19,14 +20,13 @@ abbrev Entry : Type 0
 Entry = ℕ × Requirement
 
 at_same : (q : ℕ) → is_at (nat_cmp q) q ≡ true
-at_same q = ap (λ t. is_eq (cond t Less (cond (eqb q q) Equal Greater))) (le-ltb q q (omega arith)) ∙ ap (λ t. is_eq (cond t Equal Greater)) (eq-eqb q q refl)
+at_same q = sym (ap is_eq (nat_cmp_is q q Equal refl))
 
 at_below : (q k : ℕ) → q < k → is_at (nat_cmp q) k ≡ false
-at_below q k below = ap (λ t. is_eq (cond t Less (cond (eqb q k) Equal Greater))) (lt-ltb q k below)
+at_below q k below = sym (ap is_eq (nat_cmp_is q k Less below))
 
 at_above : (q k : ℕ) → k < q → is_at (nat_cmp q) k ≡ false
-at_above q k above =
-    ap (λ t. is_eq (cond t Less (cond (eqb q k) Equal Greater))) (le-ltb q k (omega arith)) ∙ ap (λ t. is_eq (cond t Equal Greater)) (ne_eqb q k (λ e. absurd (omega arith)))
+at_above q k above = sym (ap is_eq (nat_cmp_is q k Greater above))
 
 -- the value at a number
 abbrev at : List Entry → ℕ → Option Requirement

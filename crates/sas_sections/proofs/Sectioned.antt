@@ -18,9 +18,10 @@ use Rattle.sas_lines.specs.Numbers.{number_line, at_least, number_or_none_line}
 use Rattle.sas_lines.specs.Words.{is_same, is_name}
 use Rattle.sas_sections.specs.Pairs.{fact, conditions}
 use Rattle.sas_sections.specs.Sections.{version, metric, variable_name, fact_name, variable, variables, group, groups, state_value, state, goal}
-use Rattle.sas_sections.proofs.Kept.{parts, passed, read_same, kept, TakesLines, then_lines, line_taken}
+use Rattle.sas_task.proofs.Checks.{value_from_test}
+use Rattle.sas_sections.proofs.Kept.{parts, passed, checked, read_same, kept, TakesLines, then_lines, line_taken}
 use Rattle.sas_sections.proofs.Lines.{IsClean, clean_after, clean_line, same_bytes, tested_line, fixed_is, number_line_is, at_least_is, number_or_none_line_is, name_is}
-use Rattle.sas_sections.proofs.Conditions.{value_holds, conditions_read, facts_read, more_lines}
+use Rattle.sas_sections.proofs.Conditions.{conditions_read, facts_read, more_lines}
 use Rattle.lists.specs.Names.{IsName}
 
 -- two fixed lines around others
@@ -171,10 +172,8 @@ groups_read task now gs after e = each_read (group task) (IsValidGroup task) gro
 pub state_value_read : (task : Task) (var : ℕ) (now : Unread) (val : ℕ) (after : Unread) → state_value task var now ≡ Ok (val, after) → TakesLines now (numeral val ∷ []) after × IsValue task var val
 unfolding state_value
 state_value_read task var now val after e =
-    let p = parts (number_line now) (λ val. passing (is_value task var val) val) val after e in
-    let q = passed (is_value task var p.0) p.0 val p.1 after p.3 in
-    let lines = subst (λ a. TakesLines now (numeral p.0 ∷ []) a) q.2 (number_line_is now p.0 p.1 p.2).0 in
-    (subst (λ v. TakesLines now (numeral v ∷ []) after) q.1 lines, subst (λ v. IsValue task var v) q.1 (value_holds task var p.0 q.0))
+    let p = checked number_line (is_value task var) now val after e in
+    ((number_line_is now val after p.0).0, value_from_test task var val p.1)
 
 record AreValues (task : Task) (start : Unread) (values : List ℕ) (now : Unread) : Type 0 where
   are : (var : ℕ) → var < length values → IsValue task var (slice_index values var)

@@ -1,12 +1,12 @@
 -- Operators that were read are valid, and are written as they were read.
 use Rattle.std.proofs.Common.{◌≡◌, ◌≢◌, ℕ, zero, suc, ◌+◌, ◌-◌, ◌<◌, ◌≤◌, Bool, true, false, not, ◌&&◌, ◌||◌, cond, eqb, leb, List, [], ◌∷◌, ◌++◌, length, map, take, get_or, Option, Some, None, Ok, inl, inr, refl, sym, ap, ◌∙◌, subst, arith}
-use Rattle.std.specs.Prelude.{filter, IsNone, IfSome, is_some, nat_eq, nat_le}
+use Rattle.std.specs.Prelude.{filter, IfSome, is_some, nat_eq, nat_le}
 use Rattle.std.specs.List.{All, find, list_any, flat_map}
 use Rattle.std.specs.Option.{option_map, option_map_or, option_eq}
-use Rattle.std.proofs.lemmas.Bool.{cases_Bool, cases_eq, eq-eqb, ne_eqb, eqb-true, leb-true, and_parts, false≢true, not-true}
+use Rattle.std.proofs.lemmas.Bool.{cases_Bool, eq-eqb, eqb-true, leb-true, and_parts, false≢true, not-true}
 use Rattle.std.proofs.lemmas.Option.{same_Some}
 use Rattle.std.proofs.lemmas.List.Folds.{flat_map-map}
-use Rattle.std.proofs.lemmas.List.Elements.{All-nil, All-cons, All-head, All-tail, All-push, All-weaker}
+use Rattle.std.proofs.lemmas.List.Elements.{All-nil, All-push, All-take, All-weaker, All-contains}
 use Rattle.sas_task.specs.declared.parts.Pair.{Pair}
 use Rattle.sas_task.specs.declared.parts.Effect.{Effect}
 use Rattle.sas_task.specs.declared.parts.Operator.{Operator}
@@ -23,9 +23,13 @@ use Rattle.sas_sections.specs.Pairs.{value, effect_conditions}
 use Rattle.sas_sections.specs.declared.requirements.Requirement.{Requirement}
 use Rattle.sas_sections.specs.declared.requirements.Requirement.TheVariants.{Prevails, Changes}
 use Rattle.sas_sections.specs.Tables.{first_of, requirement}
-use Rattle.sas_sections.proofs.Kept.{parts, passed, kept, TakesLines, TakesWords, then_words}
-use Rattle.sas_sections.proofs.Lines.{NoFeed, IsClean, clean_line, tested_line, number_line_is, number_is, number_or_none_is, line_is_words, name_is}
-use Rattle.sas_sections.proofs.Conditions.{value_holds, value_read, effect_conditions_read, more_lines}
+use Rattle.lists.proofs.Items.{contains_among, any_map, same_flat_map}
+use Rattle.lists.proofs.Members.{find_found}
+use Rattle.lists.proofs.Names.{IsOneLine}
+use Rattle.sas_task.proofs.Checks.{value_from_test}
+use Rattle.sas_sections.proofs.Kept.{parts, passed, checked, kept, TakesLines, TakesWords, then_words}
+use Rattle.sas_sections.proofs.Lines.{IsClean, clean_line, tested_line, number_line_is, number_is, number_or_none_is, line_is_words, name_is}
+use Rattle.sas_sections.proofs.Conditions.{value_read, effect_conditions_read, more_lines}
 use Rattle.sas_sections.proofs.Tabled.{found_push, any_found}
 use Rattle.sas_task.proofs.States.{is_variable}
 use Rattle.sas_sections.proofs.InTurn.{in_turn_rises, in_turn_all, in_turn_value, same_in_turn, pairs_in_turn, filter_in_turn}
@@ -45,20 +49,13 @@ pub record IsTold (task : Task) (t : Told) : Type 0 where
 
 required_holds : (task : Task) (var : ℕ) (o : Option ℕ) → option_map_or (is_value task var) o true ≡ true → IfSome o (λ val. IsValue task var val)
 required_holds task var None is = tt
-required_holds task var (Some val) is = value_holds task var val is
+required_holds task var (Some val) is = value_from_test task var val is
 
 required_read : (task : Task) (var : ℕ) (now : Unread) (o : Option ℕ) (after : Unread) → required_value task var now ≡ Ok (o, after) → TakesWords now (output.number_or_none o ∷ []) after × IfSome o (λ val. IsValue task var val)
 unfolding required_value
 required_read task var now o after e =
-    let p = parts (number_or_none now) (λ r. passing (option_map_or (is_value task var) r true) r) o after e in
-    let q = passed (option_map_or (is_value task var) p.0 true) p.0 o p.1 after p.3 in
-    let words = subst (λ a. TakesWords now (output.number_or_none p.0 ∷ []) a) q.2 (number_or_none_is now p.0 p.1 p.2) in
-    let both : TakesWords now (output.number_or_none p.0 ∷ []) after × IfSome p.0 (λ val. IsValue task var val) = (words, required_holds task var p.0 q.0) in
-    subst (λ r. TakesWords now (output.number_or_none r ∷ []) after × IfSome r (λ val. IsValue task var val)) q.1 both
-
-none_layer : (o : Option ℕ) → not (is_some o) ≡ true → IsNone o
-none_layer None is = refl
-none_layer (Some l) is = absurd (false≢true is)
+    let p = checked number_or_none (λ r. option_map_or (is_value task var) r true) now o after e in
+    (number_or_none_is now o after p.0, required_holds task var o p.1)
 
 pub effect_read : (task : Task) (pairs : List Pair) (earlier : List Told) (now : Unread) (t : Told) (after : Unread) → effect task pairs earlier now ≡ Ok (t, after)
     → TakesWords now (told_words t) after × IsTold task t × (may_change pairs earlier t.0.var t.1 ≡ true)
@@ -79,7 +76,7 @@ effect_read task pairs earlier now t after e =
     let words = then_words now a.1 d.1 (numeral (length a.0) ∷ flat_map pair_words a.0) (numeral b.0 ∷ output.number_or_none c.0 ∷ numeral d.0 ∷ []) conds.0 tail in
     let one : Told = made a.0 b.0 c.0 d.0 in
     let all : TakesWords now (told_words one) d.1 × IsTold task one × (may_change pairs earlier one.0.var one.1 ≡ true) =
-    (words, record { valid = record { conditions = conds.1; value = value.1; basic = none_layer (layer_of task b.0) lawful.0 }; value = wanted.1 }, lawful.1) in
+    (words, record { valid = record { conditions = conds.1; value = value.1; basic = not-true (is_some (layer_of task b.0)) lawful.0 }; value = wanted.1 }, lawful.1) in
     let moved = subst (λ o. TakesWords now (told_words o) d.1 × IsTold task o × (may_change pairs earlier o.0.var o.1 ≡ true)) q.1 all in
     (subst (λ n. TakesWords now (told_words t) n) q.2 moved.0, moved.1, moved.2)
 
@@ -124,53 +121,30 @@ effects_read task pairs count now told after e =
     count [] now told after start e in
     (all.0, omega (arith, all.1))
 
+-- what holds of each item's value holds of the one that is found by its key
+pub found_value : {X Y : Type 0} (key : X → ℕ) (value : X → Y) (P : X → Type 0) (Q : Y → Type 0) (xs : List X) (var : ℕ) (y : Y) → All P xs → ((x : X) → P x → key x ≡ var → Q (value x)) → option_map value (find (λ x. eqb (key x) var) xs) ≡ Some y → Q y
+found_value {X} key value P Q xs var y all gives is = from (find (λ x. eqb (key x) var) xs) refl is
+  where
+    from : (o : Option X) → find (λ x. eqb (key x) var) xs ≡ o → option_map value o ≡ Some y → Q y
+    from None at is = absurd cc
+    from (Some x) at is =
+        let found = find_found (λ x. eqb (key x) var) xs x at in
+        subst Q (same_Some (value x) y is) (gives x (All-contains P xs x all found.0) (eqb-true (key x) var found.1))
+
 pub pair_value : (P : Pair → Type 0) (Q : ℕ → Type 0) (ps : List Pair) (var val : ℕ) → All P ps → ((p : Pair) → P p → p.var ≡ var → Q p.val) → value_in ps var ≡ Some val → Q val
-pair_value P Q [] var val all gives is = absurd cc
-pair_value P Q (p ∷ ps) var val all gives is =
-    elim (cases_eq p.var var) [
-      | inl on ↦
-          let at : Some p.val ≡ Some val = sym (ap (λ b. option_map (λ (q : Pair). q.val) (cond b (Some p) (find (λ q. eqb q.var var) ps))) (eq-eqb p.var var on)) ∙ is in
-          subst Q (same_Some p.val val at) (gives p (All-head P p ps all) on)
-      | inr off ↦
-          pair_value P Q ps var val (All-tail P p ps all) gives (sym (ap (λ b. option_map (λ (q : Pair). q.val) (cond b (Some p) (find (λ q. eqb q.var var) ps))) (ne_eqb p.var var off)) ∙ is)
-    ]
+pair_value = found_value (λ (p : Pair). p.var) (λ p. p.val)
 
 pub told_value : (P : Told → Type 0) (Q : Option ℕ → Type 0) (ts : List Told) (var : ℕ) (r : Option ℕ) → All P ts → ((t : Told) → P t → t.0.var ≡ var → Q t.1) → told_before ts var ≡ Some r → Q r
-told_value P Q [] var r all gives is = absurd cc
-told_value P Q (t ∷ ts) var r all gives is =
-    elim (cases_eq t.0.var var) [
-      | inl on ↦
-          let at : Some t.1 ≡ Some r = sym (ap (λ b. option_map (λ (s : Told). s.1) (cond b (Some t) (find (λ s. eqb s.0.var var) ts))) (eq-eqb t.0.var var on)) ∙ is in
-          subst Q (same_Some t.1 r at) (gives t (All-head P t ts all) on)
-      | inr off ↦
-          told_value P Q ts var r (All-tail P t ts all) gives (sym (ap (λ b. option_map (λ (s : Told). s.1) (cond b (Some t) (find (λ s. eqb s.0.var var) ts))) (ne_eqb t.0.var var off)) ∙ is)
-    ]
+told_value = found_value (λ (t : Told). t.0.var) (λ t. t.1)
 
-nothing_found : {X : Type 0} (p : X → Bool) (xs : List X) → list_any p xs ≡ false → find p xs ≡ None
+pub nothing_found : {X : Type 0} (p : X → Bool) (xs : List X) → list_any p xs ≡ false → find p xs ≡ None
 nothing_found {X} p xs none = from (find p xs) (sym (any_found p xs) ∙ none)
   where
     from : (o : Option X) → is_some o ≡ false → o ≡ None
     from None is = refl
     from (Some x) is = absurd (false≢true (sym is))
 
-any_map : (told : List Told) (var : ℕ) → list_any (λ (e : Effect). eqb e.var var) (map (λ (t : Told). t.0) told) ≡ list_any (λ (t : Told). eqb t.0.var var) told
-any_map [] var = refl
-any_map (t ∷ told) var = ap (λ b. eqb t.0.var var || b) (any_map told var)
-
-same_flat : {X Y : Type 0} (f g : X → List Y) (xs : List X) → All (λ x. f x ≡ g x) xs → flat_map f xs ≡ flat_map g xs
-same_flat f g [] same = refl
-same_flat f g (x ∷ xs) same =
-    let first = All-head (λ x. f x ≡ g x) x xs same in
-    let rest = same_flat f g xs (All-tail (λ x. f x ≡ g x) x xs same) in
-    λ i. first i ++ rest i
-
 module _ (task : Task) (pairs : List Pair) (told : List Told) (start now : Unread) (are : AreConditions task pairs) (tell : AreTold task pairs start told now) where
-  f : ℕ → Option ℕ
-  f = required_of pairs told
-
-  wanted : List Pair
-  wanted = required (length task.variables) pairs told
-
   prevail_value : (var : ℕ) (p : Option Pair) (before : Option (Option ℕ)) (val : ℕ) → (option_map (λ (p : Pair). p.val) p ≡ Some val → IsValue task var val) → (((r : Option ℕ) → before ≡ Some r → IfSome r (λ v. IsValue task var v)))
       → option_map_or (λ (p : Pair). Some p.val) p (option_map_or (λ r. r) before None) ≡ Some val → IsValue task var val
   prevail_value var (Some p) before val from-pairs from-told is = from-pairs is
@@ -194,7 +168,7 @@ module _ (task : Task) (pairs : List Pair) (told : List Told) (start now : Unrea
 
   kept_value : (var : ℕ) → cond (not (list_any (λ (e : Effect). eqb e.var var) (map (λ (t : Told). t.0) told))) (required_of pairs told var) None ≡ value_in pairs var
   kept_value var =
-      ap (λ b. cond (not b) (required_of pairs told var) None) (any_map told var ∙ any_found (λ (t : Told). eqb t.0.var var) told)
+      ap (λ b. cond (not b) (required_of pairs told var) None) (any_map (λ (e : Effect). eqb e.var var) (λ (t : Told). t.0) told ∙ any_found (λ (t : Told). eqb t.0.var var) told)
       ∙ both (find (λ (t : Told). eqb t.0.var var) told) refl
     where
       simple : (p : Option Pair) → option_map_or (λ (p : Pair). Some p.val) p None ≡ option_map (λ (p : Pair). p.val) p
@@ -226,10 +200,9 @@ module _ (task : Task) (pairs : List Pair) (told : List Told) (start now : Unrea
   pub lines_are : (o : Operator) → o.conditions ≡ required (length task.variables) pairs told → flat_map (λ e. effect_line o e ∷ []) (map (λ (t : Told). t.0) told) ≡ flat_map told_lines told
   lines_are o conds =
       flat_map-map (λ e. effect_line o e ∷ []) (λ (t : Told). t.0) told
-      ∙ same_flat (λ (t : Told). effect_line o t.0 ∷ []) told_lines told
-      (All-weaker (λ t. IsTold task t × IsApart pairs t × IsFirst told t) (λ t. effect_line o t.0 ∷ [] ≡ told_lines t)
-      (λ t good. ap (λ r. spaced (numeral (length t.0.conditions) ∷ (flat_map pair_words t.0.conditions ++ numeral t.0.var ∷ output.number_or_none r ∷ numeral t.0.after ∷ [])) ∷ [])
-      (ap (λ cs. option_map (λ (p : Pair). p.val) (find (λ p. eqb p.var t.0.var) cs)) conds ∙ tells t good)) told all_good)
+      ∙ same_flat_map (λ (t : Told). effect_line o t.0 ∷ []) told_lines told
+      (λ t among. ap (λ r. spaced (numeral (length t.0.conditions) ∷ (flat_map pair_words t.0.conditions ++ numeral t.0.var ∷ output.number_or_none r ∷ numeral t.0.after ∷ [])) ∷ [])
+      (ap (λ cs. option_map (λ (p : Pair). p.val) (find (λ p. eqb p.var t.0.var) cs)) conds ∙ tells t (All-contains (λ t. IsTold task t × IsApart pairs t × IsFirst told t) told t all_good (contains_among told t among))))
 
 -- the line of a name, and the name in it
 pub name_read : (now : Unread) (n : Line) (after : Unread) → IsClean now → name now ≡ Ok (n, after) → (written : Line) × (less_space written ≡ n) × IsName n × TakesLines now (written ∷ []) after
@@ -239,27 +212,19 @@ name_read now n after clean e =
     let line = clean_line now p.0 after p.3 clean in
     (p.0, p.2, subst IsName p.2 (name_is (less_space p.0) p.1 (shorter p.0 line)), p.3)
   where
-    taken : (k : ℕ) (l : Line) → NoFeed l → NoFeed (take k l)
-    taken zero l clean = All-nil (λ b. b ≢ 10)
-    taken (suc k) [] clean = All-nil (λ b. b ≢ 10)
-    taken (suc k) (b ∷ l) clean = All-cons (λ b. b ≢ 10) b (take k l) (All-head (λ b. b ≢ 10) b l clean) (taken k l (All-tail (λ b. b ≢ 10) b l clean))
-
-    shorter : (l : Line) → NoFeed l → NoFeed (less_space l)
+    shorter : (l : Line) → IsOneLine l → IsOneLine (less_space l)
     shorter l clean =
         elim (cases_Bool (eqb (get_or l (length l - 1) 0) 32)) [
-          | inl space ↦ subst NoFeed (sym (ap (λ b. cond b (take (length l - 1) l) l) space)) (taken (length l - 1) l clean)
-          | inr other ↦ subst NoFeed (sym (ap (λ b. cond b (take (length l - 1) l) l) other)) clean
+          | inl space ↦ subst IsOneLine (sym (ap (λ b. cond b (take (length l - 1) l) l) space)) (All-take (λ b. b ≢ 10) (length l - 1) l clean)
+          | inr other ↦ subst IsOneLine (sym (ap (λ b. cond b (take (length l - 1) l) l) other)) clean
         ]
 
 pub cost_read : (metric : Bool) (now : Unread) (n : ℕ) (after : Unread) → cost metric now ≡ Ok (n, after) → TakesLines now (numeral n ∷ []) after × (n ≤ 2147483647) × (metric ≡ false → n ≡ 1)
 unfolding cost
 cost_read metric now n after e =
-    let p = parts (number_line now) (λ n. passing (nat_le n 2147483647 && (metric || eqb n 1)) n) n after e in
-    let q = passed (nat_le p.0 2147483647 && (metric || eqb p.0 1)) p.0 n p.1 after p.3 in
-    let tests = and_parts (leb p.0 2147483647) (metric || eqb p.0 1) q.0 in
-    let lines = subst (λ a. TakesLines now (numeral p.0 ∷ []) a) q.2 (number_line_is now p.0 p.1 p.2).0 in
-    let all : TakesLines now (numeral p.0 ∷ []) after × (p.0 ≤ 2147483647) × (metric ≡ false → p.0 ≡ 1) = (lines, leb-true p.0 2147483647 tests.0, λ none. eqb-true p.0 1 (sym (ap (λ b. b || eqb p.0 1) none) ∙ tests.1)) in
-    subst (λ m. TakesLines now (numeral m ∷ []) after × (m ≤ 2147483647) × (metric ≡ false → m ≡ 1)) q.1 all
+    let p = checked number_line (λ n. nat_le n 2147483647 && (metric || eqb n 1)) now n after e in
+    let tests = and_parts (leb n 2147483647) (metric || eqb n 1) p.1 in
+    ((number_line_is now n after p.0).0, leb-true n 2147483647 tests.0, λ none. eqb-true n 1 (sym (ap (λ b. b || eqb n 1) none) ∙ tests.1))
 
 -- each variable of which something is required is one of the task
 pub required_below : (task : Task) (pairs : List Pair) (told : List Told) → All (IsFact task) pairs → All (IsTold task) told → (var : ℕ) (r : Requirement) → requirement pairs told var ≡ Some r → var < length task.variables
