@@ -9,7 +9,7 @@ use Rattle.sas_task.specs.declared.parts.Variable.{Variable}
 use Rattle.sas_task.specs.declared.parts.Operator.{Operator}
 use Rattle.sas_task.specs.declared.parts.Rule.{Rule}
 use Rattle.sas_task.specs.Output.{Line, numeral, counted, bytes_of, text_of, pair_lines, variable_lines, group_lines, goal_lines, state_lines, prevail, effect_line, operator_lines, rule_lines, lines, version_lines, metric_lines}
-use Rattle.sas_task.specs.Task.{Task}
+use Rattle.sas_task.specs.Task.{Task, of_parts}
 use Rattle.sas_task.specs.Valid.{IsValid, IsValue, IsValidGroup, IsValidEffect, IsValidOperator, IsValidRule, SetAlike, default_of}
 use Rattle.sas_lines.specs.declared.fault.SasPlace.{SasPlace}
 use Rattle.sas_lines.specs.declared.fault.SasPlace.TheVariants as places
@@ -19,30 +19,18 @@ use Rattle.sas_lines.specs.Numbers.{number_line}
 use Rattle.sas_sections.specs.Operators.{operator, operators, spared}
 use Rattle.sas_sections.specs.Rules.{rule, rules}
 use Rattle.sas_sections.specs.Sections.{version, metric, variables, groups, state, goal}
-use Rattle.sas_sections.proofs.Again.{IsSmall, Again, small_after, again_then, again_next, again_number, again_listed}
+use Rattle.sas_sections.proofs.Again.{IsSmall, Again, again_then, again_next, again_number, again_listed}
 use Rattle.sas_sections.proofs.AgainPairs.{Fits, value_fits, at_place, in_all, same_lines, again_each}
 use Rattle.sas_sections.proofs.AgainSections.{again_version, again_metric, again_state}
 use Rattle.sas_sections.proofs.AgainOperators.{IsShort, less_is, again_operator}
 use Rattle.sas_sections.proofs.AgainRules.{again_rule}
-use Rattle.sas_sections.proofs.AgainText.{many, each_short, conditions_short}
-use Rattle.sas_sections.proofs.Lines.{NoFeed}
-use Rattle.sas_sections.proofs.WrittenLines.{name_clean, lines_clean, pieces_back}
+use Rattle.sas_sections.proofs.AgainText.{many, each_short, conditions_short, flat_each, mapped_each}
+use Rattle.sas_sections.proofs.Joined.{all_front, all_behind}
+use Rattle.sas_sections.proofs.WrittenLines.{name_clean, pieces_back}
+use Rattle.sas_task.proofs.TextsTellTasks.{IsSorted, lines_clean}
 use Rattle.sas_reader.specs.Text.{task, with_operators, IsTextOf}
-use Rattle.sas_reader.proofs.WholeText.{made, to_end, to_rules, to_operators, to_goal, to_state, to_groups, to_variables}
-use Rattle.sas_reader.proofs.AgainWhole.{again_when, AgainEnd, then_end, ends, variables_small, rule_short, variables_again, groups_again, goal_again}
-
-first_part : (Q : Line → Type 0) (a b : List Line) → All Q (a ++ b) → All Q a
-first_part Q [] b are = All-nil Q
-first_part Q (l ∷ a) b are = All-cons Q l a (All-head Q l (a ++ b) are) (first_part Q a b (All-tail Q l (a ++ b) are))
-
-last_part : (Q : Line → Type 0) (a b : List Line) → All Q (a ++ b) → All Q b
-last_part Q [] b are = are
-last_part Q (l ∷ a) b are = last_part Q a b (All-tail Q l (a ++ b) are)
-
--- a fact on each line of the items is one on the lines of each item
-flat_each : {X : Type 0} (Q : Line → Type 0) (f : X → List Line) (xs : List X) → All Q (flat_map f xs) → All (λ x. All Q (f x)) xs
-flat_each Q f [] are = All-nil (λ x. All Q (f x))
-flat_each Q f (x ∷ xs) are = All-cons (λ x. All Q (f x)) x xs (first_part Q (f x) (flat_map f xs) are) (flat_each Q f xs (last_part Q (f x) (flat_map f xs) are))
+use Rattle.sas_reader.proofs.WholeText.{to_end, to_rules, to_operators, to_goal, to_state, to_groups, to_variables}
+use Rattle.sas_reader.proofs.AgainWhole.{again_when, AgainEnd, bind_end, section_again, then_end, ends, variables_small, rule_short, variables_again, groups_again, goal_again}
 
 operator_short : (o : Operator) → length (operator_lines o) < 2 ^ 63 → All (λ p. length p < 2 ^ 63) (operator_lines o) → IsShort o
 operator_short o short each =
@@ -50,9 +38,9 @@ operator_short o short each =
     let A = counted pair_lines (prevail o) in
     let B = counted (λ e. effect_line o e ∷ []) o.effects in
     let c = numeral o.cost ∷ [] in
-    let inside = first_part Q (codes "begin_operator" ∷ o.name ∷ (A ++ B ++ c)) (codes "end_operator" ∷ []) each in
+    let inside = all_front Q (codes "begin_operator" ∷ o.name ∷ (A ++ B ++ c)) (codes "end_operator" ∷ []) each in
     let body = All-tail Q o.name (A ++ B ++ c) (All-tail Q (codes "begin_operator") (o.name ∷ (A ++ B ++ c)) inside) in
-    let effects = All-tail Q (numeral (length o.effects)) (flat_map (λ e. effect_line o e ∷ []) o.effects) (last_part Q A B (first_part Q (A ++ B) c body)) in
+    let effects = All-tail Q (numeral (length o.effects)) (flat_map (λ e. effect_line o e ∷ []) o.effects) (all_behind Q A B (all_front Q (A ++ B) c body)) in
     let lines-each = flat_each Q (λ e. effect_line o e ∷ []) o.effects effects in
     let l1 = length-append (o.name ∷ (A ++ B ++ c)) (codes "end_operator" ∷ []) in
     let l2 = length-append (A ++ B) c in
@@ -62,10 +50,6 @@ operator_short o short each =
       effects-short = omega (arith, short, l1, l2, l3, many (λ e. effect_line o e ∷ []) o.effects (λ e. omega arith));
       conditions-short = All-weaker (λ e. All Q (effect_line o e ∷ [])) (λ e. length e.conditions < 2 ^ 64) (λ e good. conditions_short o e (All-head Q (effect_line o e) [] good)) o.effects lines-each;
     }
-
-mapped_each : {X Y : Type 0} (P : Y → Type 0) (f : X → Y) (xs : List X) → All P (map f xs) → All (λ x. P (f x)) xs
-mapped_each P f [] are = All-nil (λ x. P (f x))
-mapped_each P f (x ∷ xs) are = All-cons (λ x. P (f x)) x xs (All-head P (f x) (map f xs) are) (mapped_each P f xs (All-tail P (f x) (map f xs) are))
 
 -- some names have one space more
 pub operators_again : (t : Task) (written : List Operator) → Fits (so_far t.variables []) → All (λ o. IsValidOperator t (spared o)) written
@@ -113,17 +97,6 @@ rules_again t fits valid =
     again_rule t.variables t.state before r fits (record { conditions = record { facts = good.conditions.facts; sorted = good.conditions.sorted }; derived = good.derived; value = good.value; default = good.default; changes = good.changes; below = good.below })
     (subst (λ n. n < 2 ^ 64) (sym good.default) (default_small t r.var fits valid r.after good.value)) (rule_short r few) (before_alike t.rules before more r valid.one_after is)) t.rules [] refl)))
 
-bind_end : {A B : Type 0} (f : Form A) (g : A → Form B) (x : A) (y : B) (l m : List Line) → Again f x l → AgainEnd (g x) y m → AgainEnd (f >>= g) y (l ++ m)
-unfolding AgainEnd
-bind_end f g x y l m first second now small is =
-    let cut : now.pieces ≡ l ++ (m ++ [] ∷ []) = is ∙ append_assoc l m ([] ∷ []) in
-    let a = first now (m ++ [] ∷ []) small (omega (arith, length-append m ([] ∷ []))) cut in
-    let b = second a.after (small_after now a.after l (m ++ [] ∷ []) small cut a.left) a.left in
-    record { after = b.after; is = ap (λ r. followed r g) a.is ∙ b.is; left = b.left }
-
-section_again : (place : SasPlace) → Again (section place) tt []
-section_again place now rest small some is = record { after = in_section place now; is = refl; left = is }
-
 regroup : (a b c d e f g h : List Line) → (a ++ b) ++ (c ++ (d ++ (e ++ (f ++ (g ++ (h ++ [])))))) ≡ a ++ b ++ c ++ d ++ e ++ f ++ g ++ h
 regroup a b c d e f g h = simp (append_assoc, append-nil)
 
@@ -141,7 +114,7 @@ task_again t written fits valid spares =
     let l7 = counted rule_lines t.rules in
     let good : All (λ o. IsValidOperator t (spared o)) written = mapped_each (IsValidOperator t) spared written (subst (All (IsValidOperator t)) (sym spares) valid.operators) in
     let named : Again (operators m base) t.operators l6 = subst (λ os. Again (operators m base) os l6) spares (operators_again t written fits good) in
-    let r7 : AgainEnd (to_rules m vs t.groups t.state t.goal t.operators) t (l7 ++ []) = then_end places.Rules (rules vs t.state) (λ rs. to_end (made m vs t.groups t.state t.goal t.operators rs)) t.rules t l7 [] (rules_again t fits valid) (ends t) in
+    let r7 : AgainEnd (to_rules m vs t.groups t.state t.goal t.operators) t (l7 ++ []) = then_end places.Rules (rules vs t.state) (λ rs. to_end (of_parts m vs t.groups t.state t.goal t.operators rs)) t.rules t l7 [] (rules_again t fits valid) (ends t) in
     let r6 : AgainEnd (to_operators m vs t.groups t.state t.goal) t (l6 ++ (l7 ++ [])) = then_end places.Operators (operators m base) (to_rules m vs t.groups t.state t.goal) t.operators t l6 (l7 ++ []) named r7 in
     let r5 : AgainEnd (to_goal m vs t.groups t.state) t (l5 ++ (l6 ++ (l7 ++ []))) = then_end places.Goal (goal base) (to_operators m vs t.groups t.state) t.goal t l5 (l6 ++ (l7 ++ [])) (goal_again base t.goal fits (record { facts = valid.goal.facts; sorted = valid.goal.sorted })) r6 in
     let r4 : AgainEnd (to_state m vs t.groups) t (l4 ++ (l5 ++ (l6 ++ (l7 ++ [])))) = then_end places.State (state base) (to_goal m vs t.groups) t.state t l4 (l5 ++ (l6 ++ (l7 ++ []))) (again_state base t.state fits valid.one_value (λ var within. valid.state var (omega (arith, within, valid.one_value)))) r5 in
@@ -172,11 +145,10 @@ unfolding AgainEnd
 text_again bytes t valid short is =
     let shown = with_operators t is.written in
     let good : All (λ o. IsValidOperator t (spared o)) is.written = mapped_each (IsValidOperator t) spared is.written (subst (All (IsValidOperator t)) (sym is.spares) valid.operators) in
-    let names : All (λ (o : Operator). NoFeed o.name) is.written =
-    All-weaker (λ o. IsValidOperator t (spared o)) (λ (o : Operator). NoFeed o.name) (λ o fine. name_clean o.name fine.name) is.written good in
+    let named = All-weaker (λ o. IsValidOperator t (spared o)) IsSorted (λ o fine. (name_clean o.name fine.name, fine.conditions.sorted)) is.written good in
     let size : length bytes ≡ length (bytes_of (lines shown)) = ap length is.text in
     let few : length (lines shown) < 2 ^ 32 = omega (arith, short, size, lines_many (lines shown)) in
-    let cut : pieces_of 10 bytes ≡ lines shown ++ [] ∷ [] = ap (pieces_of 10) is.text ∙ pieces_back (lines shown) (lines_clean shown valid.variables names) in
+    let cut : pieces_of 10 bytes ≡ lines shown ++ [] ∷ [] = ap (pieces_of 10) is.text ∙ pieces_back (lines shown) (lines_clean shown valid.variables named) in
     let P : Line → Type 0 = λ p. length p < 2 ^ 63 in
     let each : All P (lines shown ++ [] ∷ []) = All-append P (lines shown) ([] ∷ []) (lines_short (lines shown) (2 ^ 63) (omega (arith, short, size))) (All-cons P [] [] (omega arith) (All-nil P)) in
     let count : length (pieces_of 10 bytes) ≡ length (lines shown ++ [] ∷ []) = ap length cut in

@@ -1,5 +1,5 @@
 -- The text of a valid task is read as that task: all sections.
-use Rattle.std.proofs.Common.{◌≡◌, ℕ, ◌+◌, ◌^◌, ◌<◌, List, [], ◌∷◌, ◌++◌, length, ap, ◌∙◌, subst, append_assoc, arith, length-append}
+use Rattle.std.proofs.Common.{◌≡◌, ℕ, ◌+◌, ◌^◌, ◌<◌, List, [], ◌∷◌, ◌++◌, length, refl, ap, ◌∙◌, subst, append_assoc, arith, length-append}
 use Rattle.std.specs.Prelude.{codes}
 use Rattle.std.specs.List.{All, flat_map, enumerate_from}
 use Rattle.std.proofs.lemmas.List.FromFn.{length-enumerate_from}
@@ -15,34 +15,36 @@ use Rattle.sas_lines.specs.declared.fault.SasPlace.{SasPlace}
 use Rattle.sas_lines.specs.declared.fault.SasPlace.TheVariants as places
 use Rattle.sas_lines.specs.Forms.{◌>>=◌, ◌>>◌, Unread, Form, followed, in_section, section, nothing, given}
 use Rattle.sas_sections.specs.Sections.{variables, groups, goal}
-use Rattle.sas_sections.proofs.Again.{IsSmall, Reads, Again, small_after}
+use Rattle.sas_sections.proofs.Again.{IsSmall, Reads, Again, small_after, again_next}
 use Rattle.sas_sections.proofs.AgainPairs.{Fits, again_groups, again_goal}
 use Rattle.sas_sections.proofs.AgainSections.{again_variables}
 use Rattle.sas_sections.proofs.AgainText.{many, each_short}
+use Rattle.sas_sections.proofs.Joined.{all_front}
 use Rattle.sas_reader.proofs.WholeText.{to_end}
-
-front_small : (ls rest : List Line) → All (λ p. length p < 2 ^ 63) (ls ++ rest) → All (λ p. length p < 2 ^ 63) ls
-front_small [] rest each = All-nil (λ (p : Line). length p < 2 ^ 63)
-front_small (l ∷ ls) rest each = All-cons (λ (p : Line). length p < 2 ^ 63) l ls (All-head (λ (p : Line). length p < 2 ^ 63) l (ls ++ rest) each) (front_small ls rest (All-tail (λ (p : Line). length p < 2 ^ 63) l (ls ++ rest) each))
 
 -- the lines are no more than can be counted, and not longer
 pub again_when : {A : Type 0} (form : Form A) (x : A) (ls : List Line) → (length ls < 2 ^ 63 → All (λ p. length p < 2 ^ 63) ls → Again form x ls) → Again form x ls
 again_when form x ls gives now rest small some is =
     let len : length now.pieces ≡ length (ls ++ rest) = ap length is in
-    gives (omega (arith, small.pieces, len, length-append ls rest)) (front_small ls rest (subst (All (λ (p : Line). length p < 2 ^ 63)) is small.each)) now rest small some is
+    gives (omega (arith, small.pieces, len, length-append ls rest)) (all_front (λ (p : Line). length p < 2 ^ 63) ls rest (subst (All (λ (p : Line). length p < 2 ^ 63)) is small.each)) now rest small some is
 
 -- the same up to the end of the text
 unfoldable pub AgainEnd : {A : Type 0} → Form A → A → List Line → Type 0
 AgainEnd form x ls = (now : Unread) → IsSmall now → now.pieces ≡ ls ++ [] ∷ [] → Reads form x now ([] ∷ [])
 
-pub then_end : {A B : Type 0} (place : SasPlace) (f : Form A) (g : A → Form B) (x : A) (y : B) (l m : List Line) → Again f x l → AgainEnd (g x) y m → AgainEnd ((section place >> f) >>= g) y (l ++ m)
+pub bind_end : {A B : Type 0} (f : Form A) (g : A → Form B) (x : A) (y : B) (l m : List Line) → Again f x l → AgainEnd (g x) y m → AgainEnd (f >>= g) y (l ++ m)
 unfolding AgainEnd
-then_end place f g x y l m first second now small is =
+bind_end f g x y l m first second now small is =
     let cut : now.pieces ≡ l ++ (m ++ [] ∷ []) = is ∙ append_assoc l m ([] ∷ []) in
-    let begun : IsSmall (in_section place now) = record { pieces = small.pieces; each = small.each } in
-    let a = first (in_section place now) (m ++ [] ∷ []) begun (omega (arith, length-append m ([] ∷ []))) cut in
-    let b = second a.after (small_after (in_section place now) a.after l (m ++ [] ∷ []) begun cut a.left) a.left in
+    let a = first now (m ++ [] ∷ []) small (omega (arith, length-append m ([] ∷ []))) cut in
+    let b = second a.after (small_after now a.after l (m ++ [] ∷ []) small cut a.left) a.left in
     record { after = b.after; is = ap (λ r. followed r g) a.is ∙ b.is; left = b.left }
+
+pub section_again : (place : SasPlace) → Again (section place) tt []
+section_again place now rest small some is = record { after = in_section place now; is = refl; left = is }
+
+pub then_end : {A B : Type 0} (place : SasPlace) (f : Form A) (g : A → Form B) (x : A) (y : B) (l m : List Line) → Again f x l → AgainEnd (g x) y m → AgainEnd ((section place >> f) >>= g) y (l ++ m)
+then_end place f g x y l m first second = bind_end (section place >> f) g x y l m (again_next (section place) f tt x [] l (section_again place) first) second
 
 pub ends : (t : Task) → AgainEnd (to_end t) t []
 unfolding AgainEnd

@@ -10,7 +10,7 @@ use Rattle.sas_task.specs.declared.parts.Variable.{Variable}
 use Rattle.sas_task.specs.declared.parts.Group.{Group}
 use Rattle.sas_task.specs.declared.parts.Operator.{Operator}
 use Rattle.sas_task.specs.Output.{Line}
-use Rattle.sas_task.specs.Task.{Task}
+use Rattle.sas_task.specs.Task.{Task, of_parts}
 use Rattle.sas_lines.specs.declared.fault.SasFault.{SasFault}
 use Rattle.sas_lines.specs.declared.fault.SasPlace.TheVariants as places
 use Rattle.sas_lines.specs.Contexts.{so_far}
@@ -21,7 +21,7 @@ use Rattle.sas_sections.specs.Rules.{rules}
 use Rattle.sas_sections.specs.Sections.{version, metric, variables, groups, state, goal}
 use Rattle.sas_sections.proofs.FirstLines.{version_begins, version_local, metric_local, variables_local, groups_local, state_local, goal_local, operators_local, rules_local}
 use Rattle.sas_reader.specs.Text.{task, fault_of, line_fault, whole_lines}
-use Rattle.sas_reader.proofs.WholeText.{made, to_end, to_rules, to_operators, to_goal, to_state, to_groups, to_variables}
+use Rattle.sas_reader.proofs.WholeText.{to_end, to_rules, to_operators, to_goal, to_state, to_groups, to_variables}
 
 -- ---- the whole text
 
@@ -31,7 +31,7 @@ end_is t = faults_given (section places.End >> end) t (then_faults (section plac
 module _ (m : Bool) (vs : List Variable) where
   rules_are : (gs : List Group) (st : List ℕ) (g : List Pair) (os : List Operator) → HasLocalFaults (to_rules m vs gs st g os)
   rules_are gs st g os =
-      then_faults (section places.Rules >> rules vs st) (λ rs. to_end (made m vs gs st g os rs)) (next_local (section places.Rules) (rules vs st) (section_local places.Rules) (rules_local vs st)) (λ rs. end_is (made m vs gs st g os rs))
+      then_faults (section places.Rules >> rules vs st) (λ rs. to_end (of_parts m vs gs st g os rs)) (next_local (section places.Rules) (rules vs st) (section_local places.Rules) (rules_local vs st)) (λ rs. end_is (of_parts m vs gs st g os rs))
 
   operators_are : (gs : List Group) (st : List ℕ) (g : List Pair) → HasLocalFaults (to_operators m vs gs st g)
   operators_are gs st g =

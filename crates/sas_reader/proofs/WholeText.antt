@@ -10,7 +10,7 @@ use Rattle.sas_task.specs.declared.parts.Group.{Group}
 use Rattle.sas_task.specs.declared.parts.Operator.{Operator}
 use Rattle.sas_task.specs.declared.parts.Rule.{Rule}
 use Rattle.sas_task.specs.Output.{Line, counted, bytes_of, version_lines, metric_lines, variable_lines, group_lines, state_lines, goal_lines, operator_lines, rule_lines}
-use Rattle.sas_task.specs.Task.{Task}
+use Rattle.sas_task.specs.Task.{Task, of_parts}
 use Rattle.sas_task.specs.Valid.{IsValid, IsValue, AreConditions, IsValidVariable, IsValidGroup, IsValidEffect, IsValidOperator, IsValidRule, SetAlike}
 use Rattle.sas_lines.specs.declared.fault.SasPlace.TheVariants as places
 use Rattle.sas_lines.specs.Contexts.{so_far}
@@ -41,14 +41,11 @@ joined_lines (l ∷ m ∷ ls) = ap (λ r. l ++ 10 ∷ r) (joined_lines (m ∷ ls
 whole_text : (bytes : List ℕ) (ls : List Line) → pieces_of 10 bytes ≡ ls ++ [] ∷ [] → bytes ≡ bytes_of ls
 whole_text bytes ls is = sym (join_with_byte-slice_split 10 bytes) ∙ ap (join_with_byte 10) is ∙ joined_lines ls
 
-abbrev pub made : Bool → List Variable → List Group → List ℕ → List Pair → List Operator → List Rule → Task
-made m vs gs st g os rs = record { metric = m; variables = vs; groups = gs; state = st; goal = g; operators = os; rules = rs }
-
 abbrev pub to_end : Task → Form Task
 to_end t = (section places.End >> end) >> given t
 
 abbrev pub to_rules : Bool → List Variable → List Group → List ℕ → List Pair → List Operator → Form Task
-to_rules m vs gs st g os = (section places.Rules >> rules vs st) >>= λ rs. to_end (made m vs gs st g os rs)
+to_rules m vs gs st g os = (section places.Rules >> rules vs st) >>= λ rs. to_end (of_parts m vs gs st g os rs)
 
 abbrev pub to_operators : Bool → List Variable → List Group → List ℕ → List Pair → Form Task
 to_operators m vs gs st g = (section places.Operators >> operators m (so_far vs [])) >>= to_rules m vs gs st g
@@ -91,7 +88,7 @@ record AreParts (bytes : List ℕ) (t : Task) : Type 0 where
   e6 : operators metric-is (so_far vs []) (in_section places.Operators a5) ≡ Ok (os, a6)
   e7 : rules vs st (in_section places.Rules a6) ≡ Ok (rs, a7)
   e8 : a7.pieces ≡ [] ∷ []
-  same : made metric-is vs gs st g os rs ≡ t
+  same : of_parts metric-is vs gs st g os rs ≡ t
 
 ended_is : (one t : Task) (now after : Unread) → to_end one now ≡ Ok (t, after) → (now.pieces ≡ [] ∷ []) × (one ≡ t)
 ended_is one t now after e =
@@ -118,8 +115,8 @@ all_parts bytes t after e =
     let st = parts (state (so_far vs.0 []) (in_section places.State gs.1)) (to_goal m.1 vs.0 gs.0) t after gs.3 in
     let g = parts (goal (so_far vs.0 []) (in_section places.Goal st.1)) (to_operators m.1 vs.0 gs.0 st.0) t after st.3 in
     let os = parts (operators m.1 (so_far vs.0 []) (in_section places.Operators g.1)) (to_rules m.1 vs.0 gs.0 st.0 g.0) t after g.3 in
-    let rs = parts (rules vs.0 st.0 (in_section places.Rules os.1)) (λ rs. to_end (made m.1 vs.0 gs.0 st.0 g.0 os.0 rs)) t after os.3 in
-    let z = ended_is (made m.1 vs.0 gs.0 st.0 g.0 os.0 rs.0) t rs.1 after rs.3 in
+    let rs = parts (rules vs.0 st.0 (in_section places.Rules os.1)) (λ rs. to_end (of_parts m.1 vs.0 gs.0 st.0 g.0 os.0 rs)) t after os.3 in
+    let z = ended_is (of_parts m.1 vs.0 gs.0 st.0 g.0 os.0 rs.0) t rs.1 after rs.3 in
     record {
       metric-is = m.1;
       vs = vs.0;
@@ -150,10 +147,10 @@ all_parts bytes t after e =
 
 valid_made : (m : Bool) (vs : List Variable) (gs : List Group) (st : List ℕ) (g : List Pair) (os : List Operator) (rs : List Rule)
     → All IsValidVariable vs → All (IsValidGroup (so_far vs [])) gs → length st ≡ length vs → ((var : ℕ) → var < length st → IsValue (so_far vs []) var (slice_index st var)) → AreConditions (so_far vs []) g
-    → All (IsGood m (so_far vs [])) os → All (IsValidRule (so_far vs st)) rs → AllPairs SetAlike rs → IsValid (made m vs gs st g os rs)
+    → All (IsGood m (so_far vs [])) os → All (IsValidRule (so_far vs st)) rs → AllPairs SetAlike rs → IsValid (of_parts m vs gs st g os rs)
 valid_made m vs gs st g os rs r2 r3 len r4 r5 r6 r7 alike =
     let base = so_far vs [] in
-    let one = made m vs gs st g os rs in
+    let one = of_parts m vs gs st g os rs in
     record {
       variables = r2;
       groups = All-weaker (IsValidGroup base) (IsValidGroup one) (λ g good. record { facts = good.facts; sorted = good.sorted; two_facts = good.two_facts }) gs r3;
@@ -212,7 +209,7 @@ task_read bytes t after e =
     let l6 = then_lines (unread bytes) p.a5 p.a6 front (counted operator_lines r6.0) f.taken r6.2 in
     let r7 = rules_read p.vs p.st (in_section places.Rules p.a6) p.rs p.a7 p.e7 in
     let l7 = then_lines (unread bytes) p.a6 p.a7 (front ++ counted operator_lines r6.0) (counted rule_lines p.rs) l6 r7.0 in
-    let one = made p.metric-is p.vs p.gs p.st p.g p.os p.rs in
+    let one = of_parts p.metric-is p.vs p.gs p.st p.g p.os p.rs in
     let valid : IsValid one = valid_made p.metric-is p.vs p.gs p.st p.g p.os p.rs f.variables-are f.groups-are f.one-value f.state-is f.goal-is r6.3 r7.1 r7.2 in
     let text : IsTextOf bytes one = record { written = r6.0; spares = r6.1; text = whole_text bytes (front ++ counted operator_lines r6.0 ++ counted rule_lines p.rs) (l7 ∙ ap (λ ps. (front ++ counted operator_lines r6.0 ++ counted rule_lines p.rs) ++ ps) p.e8) } in
     subst (λ w. IsValid w × IsTextOf bytes w) p.same (valid, text)
@@ -234,7 +231,7 @@ pub parts_read : (bytes : List ℕ) (n0 n1 n2 n3 n4 n5 n6 n7 n8 a0 a1 a2 a3 a4 a
     → v3 ≡ vs → v4 ≡ vs → v5 ≡ vs → v6 ≡ vs → v7 ≡ vs → s7 ≡ st
     → version n0 ≡ Ok (tt, a0) → metric n1 ≡ Ok (m, a1) → variables n2 ≡ Ok (vs, a2) → groups (so_far v3 []) n3 ≡ Ok (gs, a3) → state (so_far v4 []) n4 ≡ Ok (st, a4)
     → goal (so_far v5 []) n5 ≡ Ok (g, a5) → operators m (so_far v6 []) n6 ≡ Ok (os, a6) → rules v7 s7 n7 ≡ Ok (rs, a7) → end n8 ≡ Ok (tt, a8)
-    → task (unread bytes) ≡ Ok (made m vs gs st g os rs, a8)
+    → task (unread bytes) ≡ Ok (of_parts m vs gs st g os rs, a8)
 parts_read bytes n0 n1 n2 n3 n4 n5 n6 n7 n8 a0 a1 a2 a3 a4 a5 a6 a7 a8 v3 v4 v5 v6 v7 vs s7 st m gs g os rs i0 i1 i2 i3 i4 i5 i6 i7 i8 j3 j4 j5 j6 j7 k7 e0 e1 e2 e3 e4 e5 e6 e7 e8 =
     parts_are bytes a0 a1 a2 a3 a4 a5 a6 a7 a8 m vs gs st g os rs
     (subst (λ r. version r ≡ Ok (tt, a0)) i0 e0)
