@@ -11,6 +11,7 @@ use Rattle.std.proofs.lemmas.Cmp.{upto, tied_itself}
 use Rattle.std.proofs.lemmas.List.Kept.{AllPairs-cons}
 use Rattle.std.proofs.lemmas.List.Sorted.{sorted_far, ranks_by}
 use Rattle.sas_orders.specs.InOrder.{put_in, in_order}
+use Rattle.lists.proofs.Items.{filter_yes, filter_no}
 use Rattle.lists.proofs.Members.{no_member, member_first, member_later, member_cases, filter_member, all_from_members}
 use Rattle.lists.proofs.Ordered.{pairs_head, pairs_tail}
 
@@ -124,24 +125,22 @@ module _ {X : Type 0} (cmp : X → X → Ordering) (total : IsTotalOrder cmp) wh
       by_test false e = refl
 
   put_tied : (z x : X) (ys : List X) → tied z x ≡ true → filter (tied z) (put_in cmp x ys) ≡ x ∷ filter (tied z) ys
-  put_tied z x [] same = ap (λ b. cond b (x ∷ []) []) same
+  put_tied z x [] same = filter_yes (tied z) x [] same
   put_tied z x (y ∷ ys) same = by_test (put_tied z x ys same) (is_gt (cmp x y)) refl
     where
       by_test : filter (tied z) (put_in cmp x ys) ≡ x ∷ filter (tied z) ys → (b : Bool) → is_gt (cmp x y) ≡ b → filter (tied z) (cond b (y ∷ put_in cmp x ys) (x ∷ y ∷ ys)) ≡ x ∷ filter (tied z) (y ∷ ys)
       by_test rest true gt =
           let apart = greater_apart x y z (tied_equal z x same) gt in
-          ap (λ b. cond b (y ∷ filter (tied z) (put_in cmp x ys)) (filter (tied z) (put_in cmp x ys))) apart
-          ∙ rest
-          ∙ sym (ap (λ b. x ∷ cond b (y ∷ filter (tied z) ys) (filter (tied z) ys)) apart)
-      by_test rest false gt = ap (λ b. cond b (x ∷ filter (tied z) (y ∷ ys)) (filter (tied z) (y ∷ ys))) same
+          filter_no (tied z) y (put_in cmp x ys) apart ∙ rest ∙ ap (λ zs. x ∷ zs) (sym (filter_no (tied z) y ys apart))
+      by_test rest false gt = filter_yes (tied z) x (y ∷ ys) same
 
   put_apart : (z x : X) (ys : List X) → tied z x ≡ false → filter (tied z) (put_in cmp x ys) ≡ filter (tied z) ys
-  put_apart z x [] other = ap (λ b. cond b (x ∷ []) []) other
+  put_apart z x [] other = filter_no (tied z) x [] other
   put_apart z x (y ∷ ys) other = by_test (put_apart z x ys other) (is_gt (cmp x y))
     where
       by_test : filter (tied z) (put_in cmp x ys) ≡ filter (tied z) ys → (b : Bool) → filter (tied z) (cond b (y ∷ put_in cmp x ys) (x ∷ y ∷ ys)) ≡ filter (tied z) (y ∷ ys)
       by_test rest true = ap (λ zs. cond (tied z y) (y ∷ zs) zs) rest
-      by_test rest false = ap (λ b. cond b (x ∷ filter (tied z) (y ∷ ys)) (filter (tied z) (y ∷ ys))) other
+      by_test rest false = filter_no (tied z) x (y ∷ ys) other
 
   ordered_tied : (z : X) (xs : List X) → filter (tied z) (in_order cmp xs) ≡ filter (tied z) xs
   ordered_tied z [] = refl
@@ -155,19 +154,16 @@ module _ {X : Type 0} (cmp : X → X → Ordering) (total : IsTotalOrder cmp) wh
   same_ordered : (xs ys : List X) → AllPairs (NotAfter cmp) xs → AllPairs (NotAfter cmp) ys → ((z : X) → filter (tied z) xs ≡ filter (tied z) ys) → xs ≡ ys
   same_ordered [] [] in-xs in-ys same = refl
   same_ordered [] (y ∷ ys) in-xs in-ys same =
-      let e : [] ≡ y ∷ filter (tied y) ys = same y ∙ ap (λ b. cond b (y ∷ filter (tied y) ys) (filter (tied y) ys)) (equal_tied y y (tied_itself total y)) in
+      let e : [] ≡ y ∷ filter (tied y) ys = same y ∙ filter_yes (tied y) y ys (equal_tied y y (tied_itself total y)) in
       let n : 0 ≡ suc (length (filter (tied y) ys)) = ap length e in
       absurd (omega (arith, n))
   same_ordered (x ∷ xs) [] in-xs in-ys same =
-      let e : x ∷ filter (tied x) xs ≡ [] = sym (ap (λ b. cond b (x ∷ filter (tied x) xs) (filter (tied x) xs)) (equal_tied x x (tied_itself total x))) ∙ same x in
+      let e : x ∷ filter (tied x) xs ≡ [] = sym (filter_yes (tied x) x xs (equal_tied x x (tied_itself total x))) ∙ same x in
       let n : suc (length (filter (tied x) xs)) ≡ 0 = ap length e in
       absurd (omega (arith, n))
   same_ordered (x ∷ xs) (y ∷ ys) in-xs in-ys same =
       ap (λ z. z ∷ xs) first ∙ ap (λ zs. y ∷ zs) (same_ordered xs ys (pairs_tail (NotAfter cmp) x xs in-xs) (pairs_tail (NotAfter cmp) y ys in-ys) rest)
     where
-      kept : (z : X) (zs : List X) → tied z z ≡ true → filter (tied z) (z ∷ zs) ≡ z ∷ filter (tied z) zs
-      kept z zs self = ap (λ b. cond b (z ∷ filter (tied z) zs) (filter (tied z) zs)) self
-
       x-self : tied x x ≡ true
       x-self = equal_tied x x (tied_itself total x)
 
@@ -175,10 +171,10 @@ module _ {X : Type 0} (cmp : X → X → Ordering) (total : IsTotalOrder cmp) wh
       y-self = equal_tied y y (tied_itself total y)
 
       there : Contains (y ∷ ys) x
-      there = (filter_member (tied x) (y ∷ ys) x (subst (λ zs. Contains zs x) (sym (kept x xs x-self) ∙ same x) (member_first x (filter (tied x) xs)))).0
+      there = (filter_member (tied x) (y ∷ ys) x (subst (λ zs. Contains zs x) (sym (filter_yes (tied x) x xs x-self) ∙ same x) (member_first x (filter (tied x) xs)))).0
 
       back : Contains (x ∷ xs) y
-      back = (filter_member (tied y) (x ∷ xs) y (subst (λ zs. Contains zs y) (sym (kept y ys y-self) ∙ sym (same y)) (member_first y (filter (tied y) ys)))).0
+      back = (filter_member (tied y) (x ∷ xs) y (subst (λ zs. Contains zs y) (sym (filter_yes (tied y) y ys y-self) ∙ sym (same y)) (member_first y (filter (tied y) ys)))).0
 
       equal : cmp x y ≡ Equal
       equal =
@@ -192,21 +188,15 @@ module _ {X : Type 0} (cmp : X → X → Ordering) (total : IsTotalOrder cmp) wh
 
       first : x ≡ y
       first =
-          ap (λ zs. get_or zs 0 x) (sym (kept x xs x-self) ∙ same x ∙ ap (λ b. cond b (y ∷ filter (tied x) ys) (filter (tied x) ys)) (equal_tied x y equal))
+          ap (λ zs. get_or zs 0 x) (sym (filter_yes (tied x) x xs x-self) ∙ same x ∙ filter_yes (tied x) y ys (equal_tied x y equal))
 
       rest : (z : X) → filter (tied z) xs ≡ filter (tied z) ys
       rest z = by_test (tied z x) refl (tied z y) (ap (tied z) (sym first))
         where
           by_test : (b : Bool) → tied z x ≡ b → (c : Bool) → tied z y ≡ tied z x → filter (tied z) xs ≡ filter (tied z) ys
           by_test true e c f =
-              ap (drop 1)
-              (sym (ap (λ b. cond b (x ∷ filter (tied z) xs) (filter (tied z) xs)) e)
-              ∙ same z
-              ∙ ap (λ b. cond b (y ∷ filter (tied z) ys) (filter (tied z) ys)) (f ∙ e))
-          by_test false e c f =
-              sym (ap (λ b. cond b (x ∷ filter (tied z) xs) (filter (tied z) xs)) e)
-              ∙ same z
-              ∙ ap (λ b. cond b (y ∷ filter (tied z) ys) (filter (tied z) ys)) (f ∙ e)
+              ap (drop 1) (sym (filter_yes (tied z) x xs e) ∙ same z ∙ filter_yes (tied z) y ys (f ∙ e))
+          by_test false e c f = sym (filter_no (tied z) x xs e) ∙ same z ∙ filter_no (tied z) y ys (f ∙ e)
 
   -- what a stable sort leaves
   pub sort_orders : (xs ys : List X) → IsSorted cmp ys → IsStable cmp xs ys → ys ≡ in_order cmp xs
