@@ -1,9 +1,8 @@
-use Rattle.std.proofs.Common.{◌≡◌, ◌≤◌, [], ◌∷◌, ◌++◌, length, ap, ◌∙◌, arith}
-use Rattle.std.specs.List.{enumerate_from, flat_map}
-use Rattle.std.proofs.lemmas.List.{take_all}
+use Rattle.std.proofs.Common.{◌≡◌, [], ◌∷◌, ◌++◌, length, ap, ◌∙◌, arith}
+use Rattle.std.specs.List.{enumerate_from}
 use Rattle.std.proofs.lemmas.List.FromFn.{length-enumerate_from}
 use Rattle.sas_task.specs.Output.{bytes_of, variable_lines, numeral}
-use Rattle.written_sections.proofs.Pieces.{next_lines, numbered_at, then_lines}
+use Rattle.written_sections.proofs.Pieces.{next_lines, numbered_at, all_counted}
 use Rattle.written_sections.proofs.sections.push_variables.Goals as goal
 
 pub loop-i-preserved : goal.loop-i-preserved
@@ -14,7 +13,4 @@ pub returns : goal.returns
 returns c =
     let numbered = enumerate_from 0 c.args.task.now.variables in
     let count : c.variables-count.result ≡ length numbered = omega (arith, c.variables-count.ensures, length-enumerate_from 0 c.args.task.now.variables) in
-    let done : length numbered ≤ c.loop-i.i = omega (arith, count) in
-    then_lines (numeral (length numbered) ∷ []) (flat_map variable_lines numbered) c.args.out.now.items c.push_number_line.new.out.items c.loop-i.out.items
-    (c.in_ok-push_number_line.ensures ∙ ap (λ n. c.args.out.now.items ++ bytes_of (numeral n ∷ [])) count)
-    (c.loop-i.invariant ∙ ap (λ vs. c.push_number_line.new.out.items ++ bytes_of (flat_map variable_lines vs)) (take_all c.loop-i.i numbered done))
+    all_counted variable_lines numbered c.loop-i.i c.args.out.now.items c.push_number_line.new.out.items c.loop-i.out.items (omega (arith, count)) (c.in_ok-push_number_line.ensures ∙ ap (λ n. c.args.out.now.items ++ bytes_of (numeral n ∷ [])) count) c.loop-i.invariant
