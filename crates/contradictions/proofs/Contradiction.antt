@@ -1,10 +1,9 @@
 -- No objects make a contradictory list true where the instance has weight at most one.
-use Rattle.std.proofs.Common.{◌≡◌, ℕ, Bool, true, false, not, ◌&&◌, ◌||◌, List, [], ◌∷◌, inl, inr, refl, sym, ap, ◌∙◌, subst}
+use Rattle.std.proofs.Common.{◌≡◌, ℕ, Bool, true, false, not, ◌&&◌, List, [], ◌∷◌, inl, inr, refl, sym, ap, ◌∙◌, subst}
 use Rattle.std.specs.Prelude.{nat_eq}
 use Rattle.std.specs.List.{list_any, flat_map}
-use Rattle.std.specs.Cmp.Lexicographic.{pointwise}
-use Rattle.std.proofs.lemmas.Bool.{true≢false, eqb-true, eq-eqb, and_parts, and_from, or_cases, not-true}
-use Rattle.lists.proofs.Items.{Among, all_passes, any_passes, passing, flat_map_piece, among_which, among_contains, told_contains}
+use Rattle.std.proofs.lemmas.Bool.{both_ways, true≢false, eqb-true, eq-eqb, and_parts, or_cases, not-true}
+use Rattle.lists.proofs.Items.{Among, all_passes, passing, flat_map_piece, among_which, among_contains, told_contains}
 use Rattle.normal_task.specs.declared.task.GroundAtom.{GroundAtom}
 use Rattle.normal_task.specs.declared.task.Literal.{Literal}
 use Rattle.normal_task.specs.declared.task.Literal.TheVariants.{Holds, Equal}
@@ -13,32 +12,12 @@ use Rattle.normal_task.specs.declared.task.Place.TheVariants.{Variable, Object}
 use Rattle.normal_task.specs.Meaning.{atom_of, State, Binding, object_at, objects_at, is_met, are_met}
 use Rattle.contradictions.specs.declared.types.Candidate.{Candidate}
 use Rattle.contradictions.specs.declared.types.Part.{Part}
-use Rattle.contradictions.specs.Candidates.{at_positions, part_covers, covers, IsAtMostOne}
+use Rattle.contradictions.specs.Candidates.{at_positions, covers, IsAtMostOne}
 use Rattle.contradictions.specs.Contradictory as spec
 use Rattle.contradictions.specs.Contradictory.{in_one_class, equality_of, objects_of, are_two_objects, all_pairs, standing, has_contradiction, is_contradictory, is_among}
-use Rattle.contradictions.proofs.SamePlaces.{true-false, same_place, at_positions-map}
-use Rattle.std.proofs.lemmas.Cmp.{nat_list_eq_equiv}
-
--- terms of one class have one value
-pub class_values : (val : Place → ℕ) (pairs : List (Place × Place)) → ((pair : Place × Place) → Among pair pairs → val pair.0 ≡ val pair.1) → (x y : Place) → in_one_class pairs x y ≡ true → val x ≡ val y
-class_values val [] equal x y is = ap val (same_place x y is)
-class_values val (pair ∷ more) equal x y is =
-    by (class_values val more (λ p there. equal p (inr there))) (equal pair (inl refl))
-  where
-    by : ((x y : Place) → in_one_class more x y ≡ true → val x ≡ val y) → val pair.0 ≡ val pair.1 → val x ≡ val y
-    by rest here =
-        elim (or_cases (in_one_class more x y || in_one_class more x pair.0 && in_one_class more pair.1 y) (in_one_class more x pair.1 && in_one_class more pair.0 y) is) [
-          | inl early ↦
-              elim (or_cases (in_one_class more x y) (in_one_class more x pair.0 && in_one_class more pair.1 y) early) [
-                | inl before ↦ rest x y before
-                | inr linked ↦
-                    let sides = and_parts (in_one_class more x pair.0) (in_one_class more pair.1 y) linked in
-                    rest x pair.0 sides.0 ∙ here ∙ rest pair.1 y sides.1
-              ]
-          | inr linked ↦
-              let sides = and_parts (in_one_class more x pair.1) (in_one_class more pair.0 y) linked in
-              rest x pair.1 sides.0 ∙ sym here ∙ rest pair.0 y sides.1
-        ]
+use Rattle.contradictions.proofs.Closure.{least}
+use Rattle.contradictions.proofs.Covering as covering
+use Rattle.contradictions.proofs.SamePlaces.{at_positions-map}
 
 module _ (literals : List Literal) (full : State) (binding : Binding) (met : are_met full binding literals ≡ true) where
   literal_met : (literal : Literal) → Among literal literals → is_met full binding literal ≡ true
@@ -63,7 +42,9 @@ module _ (literals : List Literal) (full : State) (binding : Binding) (met : are
 
     -- terms of one class have one object
     pub one_object : (x y : Place) → in_one_class (all_pairs literals equated) x y ≡ true → object_at binding x ≡ object_at binding y
-    one_object x y is = class_values (object_at binding) (all_pairs literals equated) all_equal x y is
+    one_object =
+        least (all_pairs literals equated) (λ x y. object_at binding x ≡ object_at binding y)
+        (record { itself = λ x. refl; turned = λ x y is. sym is; through = λ x y z one other. one ∙ other }) all_equal
 
   module _ (same : Place → Place → Bool) (same_values : (x y : Place) → same x y ≡ true → object_at binding x ≡ object_at binding y) where
     pub same_objects : (xs ys : List Place) → spec.are_same_terms same xs ys ≡ true → objects_at binding xs ≡ objects_at binding ys
@@ -86,21 +67,21 @@ module _ (literals : List Literal) (full : State) (binding : Binding) (met : are
           let other = literal_met (Holds false q ys) in-other in
           let agree : full (atom_of p (objects_at binding xs)) ≡ full (atom_of q (objects_at binding ys)) =
           ap (λ (r : ℕ). full (atom_of r (objects_at binding xs))) (eqb-true p q parts.0) ∙ ap (λ (os : List ℕ). full (atom_of q os)) (same_objects xs ys parts.1) in
-          true-false (full (atom_of q (objects_at binding ys))) (sym agree ∙ one) (not-true (full (atom_of q (objects_at binding ys))) other)
+          both_ways (full (atom_of q (objects_at binding ys))) (not-true (full (atom_of q (objects_at binding ys))) other) (sym agree ∙ one)
       denied (Holds b p xs) (Equal c left right) in-one in-other is = true≢false (sym is)
       denied (Equal b left right) other in-one in-other is = true≢false (sym is)
 
       two_objects : (x y : Place) → are_two_objects x y ≡ true → object_at binding x ≡ object_at binding y → ⊥
       two_objects (Variable n) y is agree = true≢false (sym is)
       two_objects (Object o) (Variable n) is agree = true≢false (sym is)
-      two_objects (Object o) (Object p) is agree = true-false (nat_eq o p) (eq-eqb o p agree) (not-true (nat_eq o p) is)
+      two_objects (Object o) (Object p) is agree = both_ways (nat_eq o p) (not-true (nat_eq o p) is) (eq-eqb o p agree)
 
       parted : (literal : Literal) → Among literal literals → spec.parts_a_class same literal ≡ true → ⊥
       parted (Holds b p xs) there is = true≢false (sym is)
       parted (Equal true left right) there is = true≢false (sym is)
       parted (Equal false left right) there is =
-          true-false (nat_eq (object_at binding left) (object_at binding right)) (eq-eqb (object_at binding left) (object_at binding right) (same_values left right is))
-          (not-true (nat_eq (object_at binding left) (object_at binding right)) (literal_met (Equal false left right) there))
+          both_ways (nat_eq (object_at binding left) (object_at binding right)) (not-true (nat_eq (object_at binding left) (object_at binding right)) (literal_met (Equal false left right) there))
+          (eq-eqb (object_at binding left) (object_at binding right) (same_values left right is))
 
       objectless : (term : Place) → spec.has_no_object same ranges terms term ≡ true → ⊥
       objectless term is =
@@ -109,7 +90,7 @@ module _ (literals : List Literal) (full : State) (binding : Binding) (met : are
           let parts = and_parts (same term found.item) (not (is_among (objects_of ranges found.item) (object_at binding term))) found.passes in
           let there : is_among (objects_of ranges found.item) (object_at binding term) ≡ true =
           subst (λ (n : ℕ). is_among (objects_of ranges found.item) n ≡ true) (sym (same_values term found.item parts.0)) (typed found.item) in
-          true-false (is_among (objects_of ranges found.item) (object_at binding term)) there (not-true (is_among (objects_of ranges found.item) (object_at binding term)) parts.1)
+          both_ways (is_among (objects_of ranges found.item) (object_at binding term)) (not-true (is_among (objects_of ranges found.item) (object_at binding term)) parts.1) there
 
       covered : (predicate : ℕ) (places : List Place) → spec.is_of_instance same candidate instance predicate places ≡ true → covers candidate (objects_at binding instance) (atom_of predicate (objects_at binding places)) ≡ true
       covered predicate places is =
@@ -117,9 +98,7 @@ module _ (literals : List Literal) (full : State) (binding : Binding) (met : are
           let parts = and_parts (nat_eq found.item.predicate predicate) (spec.are_same_terms same (at_positions (Object 0) found.item.places places) instance) found.passes in
           let agree : at_positions 0 found.item.places (objects_at binding places) ≡ objects_at binding instance =
           sym (at_positions-map (object_at binding) (Object 0) found.item.places places) ∙ same_objects (at_positions (Object 0) found.item.places places) instance parts.1 in
-          any_passes (part_covers (objects_at binding instance) (atom_of predicate (objects_at binding places))) found.item candidate.parts found.among
-          (and_from (nat_eq found.item.predicate predicate) (pointwise nat_eq (at_positions 0 found.item.places (objects_at binding places)) (objects_at binding instance)) parts.0
-          (subst (λ (os : List ℕ). pointwise nat_eq (at_positions 0 found.item.places (objects_at binding places)) os ≡ true) agree (nat_list_eq_equiv.refl (at_positions 0 found.item.places (objects_at binding places)))))
+          covering.covered candidate (objects_at binding instance) (atom_of predicate (objects_at binding places)) found.item found.among (eqb-true found.item.predicate predicate parts.0) agree
 
       two : (one other : Literal) → Among one literals → Among other literals → spec.are_two_of_instance same candidate instance one other ≡ true → ⊥
       two (Holds false p xs) (Holds b q ys) in-one in-other is = true≢false (sym is)
@@ -129,7 +108,7 @@ module _ (literals : List Literal) (full : State) (binding : Binding) (met : are
           let inner = and_parts (not (nat_eq p q)) (spec.is_of_instance same candidate instance p xs) outer.0 in
           let agree : atom_of p (objects_at binding xs) ≡ atom_of q (objects_at binding ys) =
           most (atom_of p (objects_at binding xs)) (atom_of q (objects_at binding ys)) (covered p xs inner.1) (covered q ys outer.1) (literal_met (Holds true p xs) in-one) (literal_met (Holds true q ys) in-other) in
-          true-false (nat_eq p q) (eq-eqb p q (ap (λ (a : GroundAtom). a.predicate) agree)) (not-true (nat_eq p q) inner.0)
+          both_ways (nat_eq p q) (not-true (nat_eq p q) inner.0) (eq-eqb p q (ap (λ (a : GroundAtom). a.predicate) agree))
       two (Holds b p xs) (Equal c left right) in-one in-other is = true≢false (sym is)
       two (Equal b left right) other in-one in-other is = true≢false (sym is)
 

@@ -2,6 +2,7 @@
 use Rattle.std.proofs.Common.{◌≡◌, ℕ, suc, ◌+◌, ◌<◌, arith, get_or, length, take, take-suc, Bool, true, false, List, [], ◌∷◌, ◌++◌, map, inl, inr, refl, sym, ap, ◌∙◌, subst}
 use Rattle.std.specs.Prelude.{if◌then◌else◌}
 use Rattle.std.specs.Cmp.{both_ways}
+use Rattle.std.proofs.lemmas.List.{map-append}
 use Rattle.std.proofs.lemmas.List.Sums.{fold-append}
 use Rattle.lists.proofs.Items.{Among, among_left, among_right, among_which}
 use Rattle.normal_task.specs.declared.task.Literal.{Literal}
@@ -77,11 +78,7 @@ merge-more merges pairs pair tells x y =
     ap (λ z. is_same_place z (leader (merges ++ merge ∷ []) y)) (fold-append led x merges (merge ∷ []))
     ∙ ap (λ z. is_same_place (led (leader merges x) merge) z) (fold-append led y merges (merge ∷ []))
     ∙ one-more (leader merges) (map as_pair pairs) tells pair.left pair.right x y
-    ∙ ap (λ ps. in_one_class ps x y) (sym (map-append pairs))
-  where
-    map-append : (ps : List TermPair) → map as_pair (ps ++ pair ∷ []) ≡ map as_pair ps ++ (pair.left, pair.right) ∷ []
-    map-append [] = refl
-    map-append (p ∷ ps) = ap (λ qs. as_pair p ∷ qs) (map-append ps)
+    ∙ ap (λ ps. in_one_class ps x y) (sym (map-append as_pair pairs (pair ∷ [])))
 
 pub merged-next : (pairs : List TermPair) (place : ℕ) (other : TermPair) → place < length pairs → (merges new : List TermPair) → TellClasses merges (take place pairs) →
     new ≡ merges ++ merge_of merges (get_or pairs place other) ∷ [] → TellClasses new (take (place + 1) pairs)

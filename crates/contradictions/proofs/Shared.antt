@@ -4,25 +4,21 @@ use Rattle.std.specs.Prelude.{nat_eq}
 use Rattle.std.specs.List.{filter}
 use Rattle.std.specs.List.Sorted.{IsNonDecreasing, IsBinarySearchResult}
 use Rattle.std.specs.Ordering.{nat_cmp}
-use Rattle.std.proofs.lemmas.Bool.{eqb-true, eq-eqb, cases_lt, and_parts, and_from, or_cases, or_left, or_right, not-true}
+use Rattle.std.proofs.lemmas.Bool.{both_ways, eqb-true, eq-eqb, cases_lt, and_parts, and_from, or_cases, or_left, or_right, not-true, not_from_false, false_from_ne_true}
 use Rattle.std.proofs.lemmas.List.{get_or_default, map-append, take-append-drop}
 use Rattle.std.proofs.lemmas.List.Sorted.{searched}
-use Rattle.lists.proofs.Items.{Among, among_at, contains_among, all_passes, each_passes, any_passes, passing, none_passes, any_append, among_map, map_source, among_filter, filter_among}
+use Rattle.lists.proofs.Items.{Among, all_both, among_at, contains_among, all_passes, each_passes, any_passes, passing, none_passes, any_append, among_map, map_source, among_filter, filter_among}
 use Rattle.lists.proofs.LoopSteps.{map_next}
 use Rattle.normal_task.specs.declared.task.Place.{Place}
 use Rattle.contradictions.specs.Contradictory.{objects_of, is_lacked, has_no_object, is_among}
 use Rattle.contradictions.specs.declared.common.Member.{Member}
 use Rattle.contradictions.specs.Common.{objects_in, is_missed, is_shared, IsNextShared, TellsShared}
 use Rattle.contradictions.specs.FirstFrom.{IsFirstFrom}
-use Rattle.contradictions.proofs.SamePlaces.{true-false}
 
 -- ---- one list that rises
 
 -- an object of the list stands at an index
-abbrev At : List ℕ → ℕ → Type 0
-At objects object = (k : ℕ) × (k < length objects) × (get_or objects k 0 ≡ object)
-
-at : (objects : List ℕ) (object : ℕ) → is_among objects object ≡ true → At objects object
+at : (objects : List ℕ) (object : ℕ) → is_among objects object ≡ true → (k : ℕ) × (k < length objects) × (get_or objects k 0 ≡ object)
 at objects object is =
     let found = passing (nat_eq object) objects is in
     let place = contains_among objects found.item found.among in
@@ -65,23 +61,15 @@ module _ (objects : List ℕ) (least i : ℕ) (searched-it : IsBinarySearchResul
 
 -- ---- one list after the other
 
-not-among : (objects : List ℕ) (object : ℕ) → (is_among objects object ≡ true → ⊥) → not (is_among objects object) ≡ true
-not-among objects object isnt = by (is_among objects object) refl
-  where
-    by : (b : Bool) → is_among objects object ≡ b → not b ≡ true
-    by true is = absurd (isnt is)
-    by false is = refl
-
-one-missed : (objects : List ℕ) (object : ℕ) → not (is_among objects object) ≡ true → is_missed (objects ∷ []) object ≡ true
-one-missed objects object is = or_left (not (is_among objects object)) false is
-
 module _ (lists : List (List ℕ)) (objects : List ℕ) (least next : ℕ) (held : IsNextShared lists least (Some next)) where
   missed-more : (object : ℕ) → least ≤ object → (next ≤ object → is_among objects object ≡ true → ⊥) → is_missed (lists ++ objects ∷ []) object ≡ true
   missed-more object from isnt =
       any_append (λ objects. not (is_among objects object)) lists (objects ∷ [])
       ∙ elim (cases_lt object next) [
         | inl before ↦ or_left (is_missed lists object) (is_missed (objects ∷ []) object) (held.1 object from before)
-        | inr after ↦ or_right (is_missed lists object) (is_missed (objects ∷ []) object) (one-missed objects object (not-among objects object (isnt after)))
+        | inr after ↦
+            or_right (is_missed lists object) (is_missed (objects ∷ []) object)
+            (or_left (not (is_among objects object)) false (not_from_false (is_among objects object) (false_from_ne_true (is_among objects object) (isnt after))))
       ]
 
   pub shared_more : (later : ℕ) → IsFirstFrom objects next (Some later) → IsNextShared (lists ++ objects ∷ []) least (Some later)
@@ -93,17 +81,9 @@ module _ (lists : List (List ℕ)) (objects : List ℕ) (least next : ℕ) (held
         λ object from before. missed-more object from (λ after is. let most = first.2 object is after in absurd (omega (arith, most, before))),
         λ same.
             let stays : next ≡ least = omega arith in
-            shared-append (held.2 stays) (subst (λ n. is_among objects n ≡ true) same first.1),
+            all_both (λ objects. is_among objects least) lists (objects ∷ []) (held.2 stays)
+            (and_from (is_among objects least) true (subst (λ n. is_among objects n ≡ true) same first.1) refl),
       )
-    where
-      shared-append : is_shared lists least ≡ true → is_among objects least ≡ true → is_shared (lists ++ objects ∷ []) least ≡ true
-      shared-append all one = all-append lists all
-        where
-          all-append : (ls : List (List ℕ)) → is_shared ls least ≡ true → is_shared (ls ++ objects ∷ []) least ≡ true
-          all-append [] none = and_from (is_among objects least) true one refl
-          all-append (l ∷ ls) all =
-              let parts = and_parts (is_among l least) (is_shared ls least) all in
-              and_from (is_among l least) (is_shared (ls ++ objects ∷ []) least) parts.0 (all-append ls parts.1)
 
   pub none_more : IsFirstFrom objects next None → IsNextShared (lists ++ objects ∷ []) least None
   none_more none object from = missed-more object from (λ after is. let before = none object is in absurd (omega (arith, before, after)))
@@ -143,13 +123,13 @@ module _ (same : Place → Place → Bool) (ranges : List (List ℕ)) (terms : L
       let has = all_passes (λ objects. is_among objects object) (objects_of ranges other) (map (objects_of ranges) (filter (same term) terms))
       (among_map (objects_of ranges) other (filter (same term) terms) (among_filter (same term) other terms in-terms parts.0))
       (and_parts (is_among (objects_of ranges term) object) (is_shared (map (objects_of ranges) (filter (same term) terms)) object) all).1 in
-      true-false (is_among (objects_of ranges other) object) has (not-true (is_among (objects_of ranges other) object) parts.1))
+      both_ways (is_among (objects_of ranges other) object) (not-true (is_among (objects_of ranges other) object) parts.1) has)
 
   -- one of the term's own objects that is missed is lacked
   missed-lacked : (object : ℕ) → is_among (objects_of ranges term) object ≡ true → is_missed class object ≡ true → is_lacked same ranges terms term object ≡ true
   missed-lacked object own is =
       elim (or_cases (not (is_among (objects_of ranges term) object)) (is_missed (map (objects_of ranges) (filter (same term) terms)) object) is) [
-        | inl never ↦ absurd (true-false (is_among (objects_of ranges term) object) own (not-true (is_among (objects_of ranges term) object) never))
+        | inl never ↦ absurd (both_ways (is_among (objects_of ranges term) object) (not-true (is_among (objects_of ranges term) object) never) own)
         | inr later ↦
             let found = passing (λ objects. not (is_among objects object)) (map (objects_of ranges) (filter (same term) terms)) later in
             let source = map_source (objects_of ranges) (filter (same term) terms) found.item found.among in
@@ -169,7 +149,7 @@ module _ (same : Place → Place → Bool) (ranges : List (List ℕ)) (terms : L
       by false is item among same-item = refl
       by true is item among same-item =
           let lacked = all_passes (is_lacked same ranges terms term) item (objects_of ranges term) among is in
-          absurd (true-false (is_lacked same ranges terms term item) lacked (subst (λ o. is_lacked same ranges terms term o ≡ false) same-item (shared-not-lacked shares.0 shares.1)))
+          absurd (both_ways (is_lacked same ranges terms term item) (subst (λ o. is_lacked same ranges terms term o ≡ false) same-item (shared-not-lacked shares.0 shares.1)) lacked)
   no_object false missed =
       sym (each_passes (is_lacked same ranges terms term) (objects_of ranges term) (λ object among.
       missed-lacked object (any_passes (nat_eq object) object (objects_of ranges term) among (eq-eqb object object refl)) (missed object)))
