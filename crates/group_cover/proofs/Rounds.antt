@@ -1,13 +1,14 @@
 -- One set more, and what it covers.
-use Rattle.std.proofs.Common.{◌≡◌, ℕ, suc, ◌+◌, ◌≤◌, Bool, true, false, not, ◌||◌, ◌⊎◌, List, [], ◌∷◌, ◌++◌, append_assoc, append-nil, map, length, inl, inr, refl, sym, ap, ◌∙◌, subst, arith, nat_eq}
+use Rattle.std.proofs.Common.{◌≡◌, ℕ, ◌+◌, ◌≤◌, Bool, true, false, not, ◌||◌, List, [], ◌∷◌, ◌++◌, append_assoc, append-nil, cond, map, length, inl, inr, refl, sym, ap, ◌∙◌, subst, arith, nat_eq}
 use Rattle.std.specs.List.{list_any, filter, range_with_len}
 use Rattle.std.specs.Cmp.{nat_eq_equiv}
 use Rattle.std.proofs.Math.Bool.{or-false}
 use Rattle.std.proofs.lemmas.List.{map-append}
 use Rattle.std.proofs.lemmas.List.Elements.{filter-append}
 use Rattle.lists.proofs.LoopSteps.{range_next}
+use Rattle.lists.proofs.Members.{filter_every, filter_none}
 use Rattle.std.proofs.lemmas.Bool.{true≢false, cases_Bool, or_left, or_right, not_from_true}
-use Rattle.lists.proofs.Items.{Among, among_filter, any_append, any_passes, filter_yes, filter_no}
+use Rattle.lists.proofs.Items.{Among, among_contains, among_filter, any_append, any_passes, filter_yes, filter_no}
 use Rattle.group_cover.specs.Cover.{is_covered, uncovered, part_of, count, single, IsBest, IsPart, AreParts}
 
 -- the facts of one set more are covered too
@@ -17,27 +18,13 @@ covered-more sets set fact = any_append (list_any (nat_eq fact)) sets (set ∷ [
 -- a stronger test keeps at most as many
 keeps-fewer : (test other : ℕ → Bool) (xs : List ℕ) → ((x : ℕ) → test x ≡ true → other x ≡ true) → length (filter test xs) ≤ length (filter other xs)
 keeps-fewer test other [] stronger = omega arith
-keeps-fewer test other (x ∷ xs) stronger = by (cases_Bool (test x)) (cases_Bool (other x)) (keeps-fewer test other xs stronger)
+keeps-fewer test other (x ∷ xs) stronger = by (test x) (other x) (stronger x) (keeps-fewer test other xs stronger)
   where
-    by : (test x ≡ true) ⊎ (test x ≡ false) → (other x ≡ true) ⊎ (other x ≡ false) → length (filter test xs) ≤ length (filter other xs) → length (filter test (x ∷ xs)) ≤ length (filter other (x ∷ xs))
-    by (inl yes') (inl there) rest =
-        let a = ap (λ (l : List ℕ). length l) (filter_yes test x xs yes') in
-        let b = ap (λ (l : List ℕ). length l) (filter_yes other x xs there) in
-        omega (arith, a, b, rest)
-    by (inl yes') (inr not-there) rest = absurd (true≢false (sym (stronger x yes') ∙ not-there))
-    by (inr no') (inl there) rest =
-        let a = ap (λ (l : List ℕ). length l) (filter_no test x xs no') in
-        let b = ap (λ (l : List ℕ). length l) (filter_yes other x xs there) in
-        omega (arith, a, b, rest)
-    by (inr no') (inr not-there) rest =
-        let a = ap (λ (l : List ℕ). length l) (filter_no test x xs no') in
-        let b = ap (λ (l : List ℕ). length l) (filter_no other x xs not-there) in
-        omega (arith, a, b, rest)
-
--- a test that nothing passes keeps nothing
-keeps-none : (test : ℕ → Bool) (xs : List ℕ) → ((x : ℕ) → Among x xs → test x ≡ false) → filter test xs ≡ []
-keeps-none test [] none = refl
-keeps-none test (x ∷ xs) none = filter_no test x xs (none x (inl refl)) ∙ keeps-none test xs (λ y there. none y (inr there))
+    by : (b c : Bool) → (b ≡ true → c ≡ true) → length (filter test xs) ≤ length (filter other xs) → length (cond b (x ∷ filter test xs) (filter test xs)) ≤ length (cond c (x ∷ filter other xs) (filter other xs))
+    by true true both rest = omega (arith, rest)
+    by true false both rest = absurd (true≢false (sym (both refl)))
+    by false true both rest = omega (arith, rest)
+    by false false both rest = rest
 
 pub count-falls : (sets : List (List ℕ)) (set group : List ℕ) → count (sets ++ set ∷ []) group ≤ count sets group
 count-falls sets set group = keeps-fewer (λ fact. not (is_covered (sets ++ set ∷ []) fact)) (λ fact. not (is_covered sets fact)) group still
@@ -50,8 +37,7 @@ count-falls sets set group = keeps-fewer (λ fact. not (is_covered (sets ++ set 
     still fact is = open_before (is_covered sets fact) (list_any (nat_eq fact) set) (sym (ap not (covered-more sets set fact)) ∙ is)
 
 pub all-open : (group : List ℕ) → count [] group ≡ length group
-all-open [] = refl
-all-open (fact ∷ facts) = ap suc (all-open facts)
+all-open group = ap (λ (l : List ℕ). length l) (filter_every (λ fact. not (is_covered [] fact)) group (λ fact in'. refl))
 
 pub at-most-all : (sets : List (List ℕ)) (group : List ℕ) → count sets group ≤ length group
 at-most-all sets group =
@@ -66,7 +52,7 @@ open-in-part false sets group fact there isnt = among_filter (λ fact. not (is_c
 
 -- a group whose set is added has no uncovered fact
 pub part-closes : (full : Bool) (sets : List (List ℕ)) (group : List ℕ) → count (sets ++ part_of full sets group ∷ []) group ≡ 0
-part-closes full sets group = ap (λ (l : List ℕ). length l) (keeps-none (λ fact. not (is_covered (sets ++ part_of full sets group ∷ []) fact)) group closed)
+part-closes full sets group = ap (λ (l : List ℕ). length l) (filter_none (λ fact. not (is_covered (sets ++ part_of full sets group ∷ []) fact)) group (λ fact in'. closed fact (among_contains group fact in')))
   where
     closed : (fact : ℕ) → Among fact group → not (is_covered (sets ++ part_of full sets group ∷ []) fact) ≡ false
     closed fact there = elim (cases_Bool (is_covered sets fact)) [
