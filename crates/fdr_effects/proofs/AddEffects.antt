@@ -1,12 +1,12 @@
 -- The rivals on a variable are the add effects on its facts.
-use Rattle.std.proofs.Common.{◌≡◌, ℕ, suc, ◌<◌, Bool, true, false, cond, not, eqb, ltb, ◌&&◌, ◌||◌, List, [], ◌∷◌, ◌++◌, map, length, refl, sym, ap, ◌∙◌, inl, inr, arith}
-use Rattle.std.specs.List.{Contains, AllPairs, filter, flat_map, list_any, position_or_len, range_with_len}
+use Rattle.std.proofs.Common.{◌≡◌, ℕ, ◌<◌, Bool, true, false, cond, not, eqb, ltb, ◌&&◌, ◌||◌, List, [], ◌∷◌, ◌++◌, map, length, refl, sym, ap, ◌∙◌, inl, inr, arith}
+use Rattle.std.specs.List.{AllPairs, filter, flat_map, list_any, position_or_len, range_with_len}
 use Rattle.std.specs.List.Sorted.{IsStableByKey}
 use Rattle.std.specs.Ordering.{nat_cmp, is_lt}
 use Rattle.std.specs.declared.cmp.Ordering.TheVariants.{Less, Equal, Greater}
 use Rattle.std.proofs.lemmas.Bool.{cases_lt, lt-ltb, ltb-true, eqb-true, eq-eqb, false_from_ne_true}
 use Rattle.std.proofs.lemmas.List.{map-append}
-use Rattle.std.proofs.lemmas.List.Elements.{All-contains, filter-append}
+use Rattle.std.proofs.lemmas.List.Elements.{filter-append}
 use Rattle.std.proofs.lemmas.List.Kept.{AllPairs-filter}
 use Rattle.lists.specs.Members.{is_among}
 use Rattle.sas_task.specs.declared.parts.Pair.{Pair}
@@ -18,6 +18,7 @@ use Rattle.fdr_effects.specs.Places.{Cover, set_of, places, stands_in}
 use Rattle.fdr_effects.specs.Effects.{rivals}
 use Rattle.fdr_effects.specs.Rivals.{seen, rivals_of, conditions_on, AreRivals}
 use Rattle.lists.proofs.Members.{map_member, filter_none}
+use Rattle.lists.proofs.Ordered.{pairs_head, pairs_tail}
 use Rattle.fdr_effects.proofs.Rising.{IsBelowBy, range_rises, pairs_map}
 
 -- ---- keys that tie are the same
@@ -69,19 +70,13 @@ second r = r.1
 -- a variable stands once in a list that rises by variable
 once_on : (var : ℕ) (c : Cond ℕ) (ps : List Pair) → AllPairs (IsBelowBy (λ p. p.var)) ps → map second (filter (on var) (map (λ (p : Pair). (p.var, c)) ps)) ≡ cond (list_any (λ p. eqb p.var var) ps) (c ∷ []) []
 once_on var c [] rises = refl
-once_on var c (p ∷ ps) rises = by_case (eqb p.var var) refl (once_on var c ps tail)
+once_on var c (p ∷ ps) rises = by_case (eqb p.var var) refl (once_on var c ps (pairs_tail (IsBelowBy (λ p. p.var)) p ps rises))
   where
-    tail : AllPairs (IsBelowBy (λ p. p.var)) ps
-    tail i j d before within = rises (suc i) (suc j) d (omega arith) (omega arith)
-
-    later : (q : Pair) → Contains ps q → p.var < q.var
-    later q in' = All-contains (λ (q : Pair). p.var < q.var) ps q (λ k d within. rises 0 (suc k) d (omega arith) (omega arith)) in'
-
     others : eqb p.var var ≡ true → filter (on var) (map (λ (q : Pair). (q.var, c)) ps) ≡ []
     others here =
         filter_none (on var) (map (λ (q : Pair). (q.var, c)) ps) (λ r in'.
         let q = map_member (λ (q : Pair). (q.var, c)) ps r in' in
-        let more = later q.0 q.1 in
+        let more = pairs_head (IsBelowBy (λ p. p.var)) p ps rises q.0 q.1 in
         let at = ap (λ (r : ℕ × Cond ℕ). r.0) q.2 in
         let e = eqb-true p.var var here in
         false_from_ne_true (eqb r.0 var) (λ h. let f = eqb-true r.0 var h in absurd (omega arith)))
@@ -93,7 +88,7 @@ once_on var c (p ∷ ps) rises = by_case (eqb p.var var) refl (once_on var c ps 
 places_rise : (cover : Cover) (fact : ℕ) → AllPairs (IsBelowBy (λ p. p.var)) (places cover fact)
 places_rise cover fact =
     pairs_map (IsBelowBy (λ (p : Pair). p.var)) (λ v w. v < w) (λ var. pair var (position_or_len (eqb fact) (set_of cover var))) (filter (λ var. is_among eqb (set_of cover var) fact) (range_with_len 0 (length cover))) (λ v w less. less)
-    (AllPairs-filter (λ v w. v < w) (λ var. is_among eqb (set_of cover var) fact) (range_with_len 0 (length cover)) (range_rises 0 (length cover)))
+    (AllPairs-filter (λ v w. v < w) (λ var. is_among eqb (set_of cover var) fact) (range_with_len 0 (length cover)) (range_rises (length cover)))
 
 of_effect : (cover : Cover) (var : ℕ) (e : ReachedEffect) → map second (filter (on var) (rivals_of cover e)) ≡ map (λ (q : ReachedEffect). q.condition) (filter (λ q. q.adds && stands_in cover q.fact var) (e ∷ []))
 of_effect cover var e = by_case e.adds

@@ -98,9 +98,9 @@ module _ (cover : Cover) (group : List ℕ) where
 
   pub group_in_order : AllPairs ComesBefore (group_of cover group).facts
   group_in_order =
-      pairs_flat_map ComesBefore (λ x y. x < y) places_in (range_with_len 0 (length cover)) (range_rises 0 (length cover)) (λ var.
+      pairs_flat_map ComesBefore (λ x y. x < y) places_in (range_with_len 0 (length cover)) (range_rises (length cover)) (λ var.
       pairs_map ComesBefore (λ x y. x < y) (pair var) (filter (is_groups cover group var) (range_with_len 0 (last_value cover var))) (λ x y less. inr (refl, less))
-      (AllPairs-filter (λ x y. x < y) (is_groups cover group var) (range_with_len 0 (last_value cover var)) (range_rises 0 (last_value cover var))))
+      (AllPairs-filter (λ x y. x < y) (is_groups cover group var) (range_with_len 0 (last_value cover var)) (range_rises (last_value cover var))))
       (λ x y less a b a-in b-in. inl (in_order x y less a b a-in b-in))
     where
       in_order : (x y : ℕ) → x < y → (a b : Pair) → Contains (places_in x) a → Contains (places_in y) b → a.var < b.var

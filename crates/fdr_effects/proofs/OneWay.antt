@@ -1,8 +1,9 @@
 -- Where each literal is positive and has a variable of its own, there is one way to satisfy them all.
-use Rattle.std.proofs.Common.{◌≡◌, ℕ, ◌+◌, ◌<◌, Bool, true, false, ◌&&◌, ◌||◌, ◌==◌, inl, inr, List, [], ◌∷◌, map, length, get_or, eqb, refl, sym, ap, ◌∙◌, subst, arith}
+use Rattle.std.proofs.Common.{◌≡◌, ℕ, ◌+◌, ◌<◌, true, false, ◌&&◌, ◌==◌, inl, inr, List, [], ◌∷◌, map, length, get_or, eqb, refl, sym, ap, ◌∙◌, subst, arith}
 use Rattle.std.specs.List.{AllPairs, Contains, filter, filter_map, flat_map, list_any, list_all, range_with_len, IsAllAdjacentAnswer}
 use Rattle.std.specs.List.Sorted.{IsPermutation, IsStrictlyIncreasing}
 use Rattle.std.specs.Prelude.{nat_lt}
+use Rattle.std.proofs.Math.Bool.{or-false}
 use Rattle.std.proofs.lemmas.Bool.{ltb-true, eqb-true, eq-eqb, cond-true, false_from_ne_true}
 use Rattle.std.proofs.lemmas.List.{get_or-map, length-map}
 use Rattle.std.proofs.lemmas.List.Elements.{All-contains}
@@ -64,10 +65,6 @@ joined : (ps : List Pair) → flat_map (λ (pool : List Pair). pool) (map (λ p.
 joined [] = refl
 joined (p ∷ ps) = ap (λ l. p ∷ l) (joined ps)
 
-or_none : (b : Bool) → (b || false) ≡ b
-or_none true = refl
-or_none false = refl
-
 module _ (cover : Cover) (literals : Cond ℕ) (wanted : List Pair) (wants : IsPermutation (flat_map (places cover) literals.positive) wanted) (none : literals.negative ≡ [])
     (rise : IsStrictlyIncreasing (map (λ p. p.var) wanted)) where
   bars : IsPermutation (filter_map (first_place cover) literals.negative) []
@@ -79,7 +76,7 @@ module _ (cover : Cover) (literals : Cond ℕ) (wanted : List Pair) (wants : IsP
   looked : vars ≡ filter (is_looked_at cover literals) (range_with_len 0 (length cover))
   looked =
       looked_are cover literals vars rise
-      (λ var. any_map (λ v. eqb v var) (λ (p : Pair). p.var) wanted ∙ sym (or_none (list_any (λ p. eqb p.var var) wanted)) ∙ sym (looked_at_is cover literals wanted [] wants bars var))
+      (λ var. any_map (λ v. eqb v var) (λ (p : Pair). p.var) wanted ∙ sym (or-false (list_any (λ p. eqb p.var var) wanted)) ∙ sym (looked_at_is cover literals wanted [] wants bars var))
 
   -- the variable of a place has the place's value alone
   one_left : (p : Pair) → Contains wanted p → map (pair p.var) (values_left cover literals p.var) ≡ p ∷ []

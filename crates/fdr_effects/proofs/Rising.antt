@@ -4,9 +4,8 @@ use Rattle.std.specs.List.{Contains, AllPairs, filter, flat_map, range_with_len}
 use Rattle.std.specs.List.Sorted.{IsStrictlyIncreasing}
 use Rattle.std.proofs.lemmas.List.{get_or-map, length-map}
 use Rattle.std.proofs.lemmas.List.Elements.{Contains-append_cases}
-use Rattle.std.proofs.lemmas.List.FromFn.{length-range_with_len, get_or-range_with_len}
 use Rattle.std.proofs.lemmas.List.Kept.{AllPairs-from_increasing, AllPairs-filter, AllPairs-cons}
-use Rattle.lists.proofs.Ordered.{pairs_head, pairs_tail, same_ordered}
+use Rattle.lists.proofs.Ordered.{range_increasing, pairs_head, pairs_tail, same_ordered}
 use Rattle.lists.proofs.Members.{no_member, member_first, member_later, flat_map_member, all_from_members, map_member, member_single}
 
 abbrev pub IsBelowBy : {X : Type 0} → (X → ℕ) → X → X → Type 0
@@ -35,12 +34,8 @@ rising_to key (x ∷ xs) pairs k within =
 pub rising_filter : {X : Type 0} (key : X → ℕ) (keep : X → Bool) (xs : List X) → IsStrictlyIncreasing (map key xs) → IsStrictlyIncreasing (map key (filter keep xs))
 rising_filter key keep xs up = rising_to key (filter keep xs) (AllPairs-filter (IsBelowBy key) keep xs (rising_from key xs up))
 
-pub range_rises : (a n : ℕ) → AllPairs (λ x y. x < y) (range_with_len a n)
-range_rises a n i j d before within =
-    let long = length-range_with_len a n in
-    let low : i < n = omega arith in
-    let high : j < n = omega arith in
-    omega (arith, get_or-range_with_len a n i d low, get_or-range_with_len a n j d high)
+pub range_rises : (n : ℕ) → AllPairs (λ x y. x < y) (range_with_len 0 n)
+range_rises n = AllPairs-from_increasing (range_with_len 0 n) (range_increasing n)
 
 -- each element of the first list stands in the relation to each of the second
 pub pairs_append : {X : Type 0} (R : X → X → Type 0) (xs ys : List X) → AllPairs R xs → AllPairs R ys → ((x y : X) → Contains xs x → Contains ys y → R x y) → AllPairs R (xs ++ ys)
