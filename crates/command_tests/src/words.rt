@@ -191,104 +191,47 @@ static ACCEPTED: [Row; 20] = accepted_files! {
     ("translate --skip-variable-reordering d p", "d", "p", "output.sas"),
 };
 
-/// Lines with a plan file or a list of passes, with the name of the file and the list as it is written.
-macro_rules! accepted_named {
-    ($(($line:literal, $plan:expr, $passes:expr),)*) => {
-        [$(($line, Accepted { plan: $plan, passes: $passes, ..PLAIN }),)*]
+/// Lines with what they ask for: what a name stands for, but for the parts that are said.
+macro_rules! accepted {
+    ($(($line:literal, $asked:ident $(, $part:ident: $value:expr)*),)*) => {
+        [$(($line, Accepted { $($part: $value,)* ..$asked }),)*]
     };
 }
 
-static ACCEPTED_NAMED: [Row; 12] = accepted_named! {
-    ("translate d p --map-plan f", Some("f"), None),
-    ("translate --map-plan f d p", Some("f"), None),
-    ("translate d --map-plan=f p", Some("f"), None),
-    ("translate d p --map-plan=", Some(""), None),
-    ("translate d p --map-plan -", Some("-"), None),
-    ("translate d p --map-plan=-f", Some("-f"), None),
-    ("translate d p --pass order", None, Some("order")),
-    ("translate --pass order,order d p", None, Some("order,order")),
-    ("translate d --pass=order, p", None, Some("order,")),
-    ("translate d p --pass=", None, Some("")),
-    ("translate d p --pass ,ORDER", None, Some(",ORDER")),
-    ("translate d p --pass none", None, Some("none")),
+/// Lines with a plan file or a list of passes, with the name of the file and the list as it is written.
+static ACCEPTED_NAMED: [Row; 12] = accepted! {
+    ("translate d p --map-plan f", PLAIN, plan: Some("f")),
+    ("translate --map-plan f d p", PLAIN, plan: Some("f")),
+    ("translate d --map-plan=f p", PLAIN, plan: Some("f")),
+    ("translate d p --map-plan=", PLAIN, plan: Some("")),
+    ("translate d p --map-plan -", PLAIN, plan: Some("-")),
+    ("translate d p --map-plan=-f", PLAIN, plan: Some("-f")),
+    ("translate d p --pass order", PLAIN, passes: Some("order")),
+    ("translate --pass order,order d p", PLAIN, passes: Some("order,order")),
+    ("translate d --pass=order, p", PLAIN, passes: Some("order,")),
+    ("translate d p --pass=", PLAIN, passes: Some("")),
+    ("translate d p --pass ,ORDER", PLAIN, passes: Some(",ORDER")),
+    ("translate d p --pass none", PLAIN, passes: Some("none")),
 };
 
 /// Lines that ask for whole groups, one with a number of balls and a plan file, and lines with a written task.
-static ACCEPTED_WHOLE_OR_WRITTEN: [Row; 15] = [
+static ACCEPTED_WHOLE_OR_WRITTEN: [Row; 15] = accepted! {
     ("translate d p --full-encoding", WHOLE),
     ("translate --full-encoding d p", WHOLE),
     ("translate --full-encoding -- d p", WHOLE),
-    (
-        "translate --make 4 --full-encoding",
-        Accepted {
-            source: Source::Made { balls: 4 },
-            ..WHOLE
-        },
-    ),
-    (
-        "translate --map-plan f --make 4",
-        Accepted {
-            source: Source::Made { balls: 4 },
-            plan: Some("f"),
-            ..PLAIN
-        },
-    ),
+    ("translate --make 4 --full-encoding", WHOLE, source: Source::Made { balls: 4 }),
+    ("translate --map-plan f --make 4", PLAIN, source: Source::Made { balls: 4 }, plan: Some("f")),
     ("translate --from-sas t", WRITTEN),
     ("translate --from-sas=t", WRITTEN),
-    (
-        "translate --from-sas -",
-        Accepted {
-            source: Source::WrittenTask { file: "-" },
-            ..PLAIN
-        },
-    ),
-    (
-        "translate --from-sas=",
-        Accepted {
-            source: Source::WrittenTask { file: "" },
-            ..PLAIN
-        },
-    ),
+    ("translate --from-sas -", PLAIN, source: Source::WrittenTask { file: "-" }),
+    ("translate --from-sas=", PLAIN, source: Source::WrittenTask { file: "" }),
     ("translate --from-sas t --", WRITTEN),
-    (
-        "translate --sas-file t --from-sas t",
-        Accepted {
-            output: "t",
-            ..WRITTEN
-        },
-    ),
-    (
-        "translate --from-sas t --map-plan f",
-        Accepted {
-            plan: Some("f"),
-            ..WRITTEN
-        },
-    ),
-    (
-        "translate --pass order --from-sas t",
-        Accepted {
-            passes: Some("order"),
-            ..WRITTEN
-        },
-    ),
-    (
-        "translate --from-sas t --invariant-generation-max-candidates 7",
-        Accepted {
-            settings: Settings {
-                max_candidates: 7,
-                full_encoding: false,
-            },
-            ..WRITTEN
-        },
-    ),
-    (
-        "translate --from-sas t --full-encoding",
-        Accepted {
-            source: Source::WrittenTask { file: "t" },
-            ..WHOLE
-        },
-    ),
-];
+    ("translate --sas-file t --from-sas t", WRITTEN, output: "t"),
+    ("translate --from-sas t --map-plan f", WRITTEN, plan: Some("f")),
+    ("translate --pass order --from-sas t", WRITTEN, passes: Some("order")),
+    ("translate --from-sas t --invariant-generation-max-candidates 7", WRITTEN, settings: Settings { max_candidates: 7, full_encoding: false }),
+    ("translate --from-sas t --full-encoding", WHOLE, source: Source::WrittenTask { file: "t" }),
+};
 
 #[test]
 fn refuses(rt: HostRuntime) {
