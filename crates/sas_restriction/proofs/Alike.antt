@@ -1,5 +1,5 @@
 -- Tasks that differ only in the order of their parts have one restriction, where nothing stands in it twice.
-use Rattle.std.proofs.Common.{◌≡◌, ℕ, Bool, true, ◌&&◌, ltb, List, map, filter, length, get_or, sym, ap, ◌∙◌, subst}
+use Rattle.std.proofs.Common.{◌≡◌, ℕ, true, ◌&&◌, ltb, List, map, filter, length, get_or, sym, ap, ◌∙◌, subst}
 use Rattle.std.specs.List.{Contains}
 use Rattle.std.specs.Cmp.{IsTotalOrder}
 use Rattle.std.specs.Ordering.{nat_cmp}
@@ -7,13 +7,10 @@ use Rattle.std.specs.declared.cmp.Ordering.{Ordering}
 use Rattle.std.specs.declared.cmp.Ordering.TheVariants.{Less}
 use Rattle.std.proofs.lemmas.Bool.{and_parts}
 use Rattle.lists.proofs.Members.{filter_member, member_filter, map_member, member_map}
-use Rattle.sas_task.specs.declared.parts.Pair.{Pair}
-use Rattle.sas_task.specs.declared.parts.Variable.{Variable}
 use Rattle.sas_task.specs.declared.parts.Group.{Group}
-use Rattle.sas_task.specs.declared.parts.Effect.{Effect}
 use Rattle.sas_task.specs.declared.parts.Operator.{Operator}
 use Rattle.sas_task.specs.declared.parts.Rule.{Rule}
-use Rattle.sas_task.specs.Task.{Task}
+use Rattle.sas_task.specs.Task.{Task, of_parts}
 use Rattle.sas_task.specs.Alike.{IsAlike, AreAlike, RulesAgree}
 use Rattle.sas_task.specs.Orders.{pairs_cmp, group_cmp, effect_cmp, operator_cmp, rule_cmp}
 use Rattle.sas_task.proofs.Orders.{group_total, effect_total, operator_total, rule_total}
@@ -62,7 +59,7 @@ module _ (C : Choice) where
       (m.0, f.0, (and_parts (all_left C m.0.conditions) (is_shown C m.0.var) f.1).1, m.2)
 
   -- a new rule is known by its variable and its conditions
-  rules_apart : (T : Task) → RulesAgree T → TellsApart rule_cmp (new_rules C T)
+  pub rules_apart : (T : Task) → RulesAgree T → TellsApart rule_cmp (new_rules C T)
   rules_apart T agree a b in-a in-b equal =
       let r = old_rule T a in-a in
       let q = old_rule T b in-b in
@@ -76,18 +73,12 @@ module _ (C : Choice) where
 
   one_operator : (a b : Operator) → IsAlike a b → new_operator each_once C a ≡ new_operator each_once C b
   one_operator a b is =
-      let mk = λ (n : List ℕ) (ps : List Pair) (es : List Effect) (c : ℕ). let r : Operator = record { name = n; conditions = ps; effects = es; cost = c } in r in
       let effects = λ (o : Operator). sorted effect_cmp (map (new_effect C) (filter (effect_stays C) o.effects)) in
       let same : effects a ≡ effects b =
       same_sorted effect_cmp effect_total (map (new_effect C) (filter (effect_stays C) a.effects)) (map (new_effect C) (filter (effect_stays C) b.effects))
       (λ x y in-x in-y. effect_exact x y)
       (mapped (new_effect C) (filter (effect_stays C) a.effects) (filter (effect_stays C) b.effects) (filtered (effect_stays C) a.effects b.effects is.effects)) in
-      let one : mk a.name (new_pairs C a.conditions) (effects a) a.cost ≡ mk b.name (new_pairs C b.conditions) (effects b) b.cost =
-      ap (λ n. mk n (new_pairs C a.conditions) (effects a) a.cost) is.name
-      ∙ ap (λ ps. mk b.name (new_pairs C ps) (effects a) a.cost) is.conditions
-      ∙ ap (λ es. mk b.name (new_pairs C b.conditions) es a.cost) same
-      ∙ ap (λ c. mk b.name (new_pairs C b.conditions) (effects b) c) is.cost in
-      one
+      λ i. record { name = is.name i; conditions = new_pairs C (is.conditions i); effects = same i; cost = is.cost i }
 
   module _ (blind : IsBlind C) where
     stays_alike : (a b : Operator) → IsAlike a b → operator_stays C a ≡ operator_stays C b
@@ -105,22 +96,12 @@ module _ (C : Choice) where
     pub one_restriction : (a b : Task) → RulesAgree a → AreAlike a b → restriction each_once C a ≡ restriction each_once C b
     one_restriction a b agree is = first ∙ ap (restriction each_once C) mixed-is
       where
-        mk : Bool → List Variable → List Group → List ℕ → List Pair → List Operator → List Rule → Task
-        mk metric variables groups state goal operators rules =
-            record { metric = metric; variables = variables; groups = groups; state = state; goal = goal; operators = operators; rules = rules }
-
         -- the first task with the second one's groups, operators and rules
         mixed : Task
-        mixed = mk a.metric a.variables b.groups a.state a.goal b.operators b.rules
+        mixed = of_parts a.metric a.variables b.groups a.state a.goal b.operators b.rules
 
         mixed-is : mixed ≡ b
-        mixed-is =
-            let one : mk a.metric a.variables b.groups a.state a.goal b.operators b.rules ≡ mk b.metric b.variables b.groups b.state b.goal b.operators b.rules =
-            ap (λ m. mk m a.variables b.groups a.state a.goal b.operators b.rules) is.metric
-            ∙ ap (λ vs. mk b.metric vs b.groups a.state a.goal b.operators b.rules) is.variables
-            ∙ ap (λ s. mk b.metric b.variables b.groups s a.goal b.operators b.rules) is.state
-            ∙ ap (λ g. mk b.metric b.variables b.groups b.state g b.operators b.rules) is.goal in
-            one
+        mixed-is i = of_parts (is.metric i) (is.variables i) b.groups (is.state i) (is.goal i) b.operators b.rules
 
         groups-same : sorted group_cmp (new_groups C a) ≡ sorted group_cmp (new_groups C b)
         groups-same =
@@ -141,10 +122,4 @@ module _ (C : Choice) where
         P = restriction each_once C a
 
         first : restriction each_once C a ≡ restriction each_once C mixed
-        first =
-            let one : mk P.metric P.variables (sorted group_cmp (new_groups C a)) P.state P.goal (sorted operator_cmp (new_operators each_once C a)) (sorted rule_cmp (new_rules C a))
-            ≡ mk P.metric P.variables (sorted group_cmp (new_groups C b)) P.state P.goal (sorted operator_cmp (new_operators each_once C b)) (sorted rule_cmp (new_rules C b)) =
-            ap (λ gs. mk P.metric P.variables gs P.state P.goal (sorted operator_cmp (new_operators each_once C a)) (sorted rule_cmp (new_rules C a))) groups-same
-            ∙ ap (λ os. mk P.metric P.variables (sorted group_cmp (new_groups C b)) P.state P.goal os (sorted rule_cmp (new_rules C a))) operators-same
-            ∙ ap (λ rs. mk P.metric P.variables (sorted group_cmp (new_groups C b)) P.state P.goal (sorted operator_cmp (new_operators each_once C b)) rs) rules-same in
-            one
+        first i = of_parts P.metric P.variables (groups-same i) P.state P.goal (operators-same i) (rules-same i)

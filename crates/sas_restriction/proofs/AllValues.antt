@@ -18,7 +18,7 @@ use Rattle.sas_task.proofs.ValidParts.{effect_law, rule_law}
 use Rattle.lists.specs.Members.{is_among}
 use Rattle.lists.proofs.Members.{member_range, range_member, each_passes, all_from_members, map_member}
 use Rattle.sas_restriction.specs.Closed.{IsClosed}
-use Rattle.sas_restriction.specs.Choice.{Choice, variable_at}
+use Rattle.sas_restriction.specs.Choice.{variable_at}
 use Rattle.sas_restriction.specs.Listed.{chosen}
 use Rattle.sas_restriction.specs.Everything.{all_values, everything_of, everything}
 use Rattle.sas_restriction.proofs.Numbers.{member_any}
@@ -42,9 +42,6 @@ count_below n x within =
           let at = get_or-range_with_len 0 n k d low in
           le-ltb (get_or (range_with_len 0 n) k d) x (omega (arith, at)),
     )
-
-abbrev with_values : List ℕ → (ℕ → List ℕ) → Choice
-with_values vars values = record { vars = vars; values = values; operators = λ o. true; holder = None }
 
 module _ (T : Task) where
   pub value_member : (v x : ℕ) → IsValue T v x → Contains (all_values T v) x
@@ -87,18 +84,21 @@ module _ (T : Task) where
       let below = range_member (length (variable_at T v).facts) x (value_member v x is) in
       count_below (length (variable_at T v).facts) x (omega (arith, below))
 
-  -- written out, all values of each variable are all values
-  listed_at : (v : ℕ) → get_or (map (all_values T) (range_with_len 0 (length T.variables))) v [] ≡ all_values T v
-  listed_at v =
+  pub no_values : (v : ℕ) → length T.variables ≤ v → all_values T v ≡ []
+  no_values v past = ap (λ o. range_with_len 0 (length (option_map_or (λ (u : Variable). u) o (record { layer = None; facts = [] })).facts)) (slice_get_past T.variables v past)
+
+  -- a list for each variable, written out
+  pub listed_at : (list : ℕ → List ℕ) → ((v : ℕ) → length T.variables ≤ v → list v ≡ []) → (v : ℕ) → get_or (map list (range_with_len 0 (length T.variables))) v [] ≡ list v
+  listed_at list none v =
       elim (cases_lt v (length T.variables)) [
-        | inl below ↦ let e : 0 + v ≡ v = omega arith in get_or-map-range_with_len (all_values T) 0 (length T.variables) v v [] below e
+        | inl below ↦ let e : 0 + v ≡ v = omega arith in get_or-map-range_with_len list 0 (length T.variables) v v [] below e
         | inr past ↦
-            get_or_past (map (all_values T) (range_with_len 0 (length T.variables))) v [] (subst (λ n. n ≤ v) (sym (length-map-range_with_len (all_values T) 0 (length T.variables))) past)
-            ∙ sym (ap (λ o. range_with_len 0 (length (option_map_or (λ (u : Variable). u) o (record { layer = None; facts = [] })).facts)) (slice_get_past T.variables v past))
+            get_or_past (map list (range_with_len 0 (length T.variables))) v [] (subst (λ n. n ≤ v) (sym (length-map-range_with_len list 0 (length T.variables))) past)
+            ∙ sym (none v past)
       ]
 
   pub chosen_is : (vars : List ℕ) → chosen (everything_of T vars) ≡ everything T vars
-  chosen_is vars = ap (with_values vars) (fun_ext listed_at)
+  chosen_is vars i = record { vars = vars; values = fun_ext (listed_at (all_values T) no_values) i; operators = λ o. true; holder = None }
 
   -- the lists are the task's variables', and rise
   pub all_within : (vars : List ℕ) → All (λ v. v < length T.variables) vars → All (λ v. v < length (everything_of T vars).values) vars

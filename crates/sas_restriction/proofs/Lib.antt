@@ -3,10 +3,8 @@ mod Places
 mod Rising
 mod Shape
 mod Completed
-mod Renumbered
 -- what a pass owes and gets, which crates above cite
 pub mod Pieces
-pub mod Assembled
 pub mod Exact
 pub mod Numbers
 pub mod Alike
@@ -19,6 +17,7 @@ pub mod Arranged
 pub mod Told
 pub mod AllValues
 pub mod Order
+pub mod Renumbered
 pub mod Reordered
 pub mod Relevance
 pub mod Reduced

@@ -9,7 +9,7 @@ use Rattle.sas_task.specs.declared.parts.Group.{Group}
 use Rattle.sas_task.specs.declared.parts.Effect.{Effect}
 use Rattle.sas_task.specs.declared.parts.Operator.{Operator}
 use Rattle.sas_task.specs.declared.parts.Rule.{Rule}
-use Rattle.sas_task.specs.Task.{Task}
+use Rattle.sas_task.specs.Task.{Task, of_parts}
 use Rattle.sas_task.specs.Valid.{IsValid, IsValidGroup}
 use Rattle.sas_task.specs.Solution.{system}
 use Rattle.sas_task.specs.Keeps.{Keeps}
@@ -28,12 +28,11 @@ use Rattle.sas_restriction.specs.Everything.{everything}
 use Rattle.sas_restriction.specs.KeepsCosts.{KeepsCosts}
 use Rattle.sas_restriction.specs.KeepsPart.{KeepsPart}
 use Rattle.sas_restriction.specs.Relevant.{AreRelevant}
-use Rattle.sas_restriction.specs.Reordered.{renumbered_pairs, renumbered_effect, renumbered_rule}
+use Rattle.sas_restriction.specs.Reordered.{renumbered_effect, renumbered_rule}
 use Rattle.sas_restriction.specs.Reduced.{reduced_group, changes_some, reduced_operator, reduced, HasRelevantAlone, IsReduced}
 use Rattle.sas_restriction.proofs.AllValues.{facts_left}
 use Rattle.sas_restriction.proofs.Relevance.{one_list, relevant_below, busy_is, busy_effect, choice, may}
-use Rattle.sas_restriction.proofs.Renumbered.{agree, left_agree, an_operator, pairs_are, group_is, effect_left, effect_is, rule_left, rule_is, variable_is, start_is}
-use Rattle.sas_restriction.proofs.Assembled.{assembled}
+use Rattle.sas_restriction.proofs.Renumbered.{agree, left_agree, pairs_are, group_is, effect_left, effect_is, rule_left, rule_is, variable_is, start_is}
 use Rattle.sas_restriction.proofs.Valid.{restriction_valid}
 use Rattle.sas_restriction.proofs.Arranged.{restricts}
 use Rattle.sas_restriction.proofs.Steps.{Shows, followed_busy}
@@ -54,12 +53,11 @@ module _ (T : Task) (valid : IsValid T) (vars : List ℕ) (are : AreRelevant T v
   -- what an operator with an effect on a relevant variable needs is relevant
   operator_is : (o : Operator) → Contains T.operators o → changes_some vars o ≡ true → new_operator some_go C o ≡ reduced_operator vars o
   operator_is o in-o busy =
-      ap (λ ps. an_operator o ps (in_order effect_cmp (map (new_effect C) (filter (effect_stays C) o.effects))))
-      (pairs_are T valid vars o.conditions (operator_law T valid o in-o).conditions.facts (λ p in'. let e = busy_effect T valid vars are o busy in are.closed.operators o e.0 p in-o e.1 e.2 in'))
-      ∙ ap (λ es. an_operator o (renumbered_pairs vars o.conditions) (in_order effect_cmp es))
-      (left_agree (effect_stays C) (λ (e : Effect). is_among eqb vars e.var) (new_effect C) (renumbered_effect vars) o.effects
+      let conditions = pairs_are T valid vars o.conditions (operator_law T valid o in-o).conditions.facts (λ p in'. let e = busy_effect T valid vars are o busy in are.closed.operators o e.0 p in-o e.1 e.2 in') in
+      let effects = left_agree (effect_stays C) (λ (e : Effect). is_among eqb vars e.var) (new_effect C) (renumbered_effect vars) o.effects
       (λ e in-e. effect_left T valid vars e (effect_law T valid o in-o e in-e))
-      (λ e in-e is. effect_is T valid vars e (effect_law T valid o in-o e in-e) (λ p in'. are.closed.effects o e p in-o in-e is in')))
+      (λ e in-e is. effect_is T valid vars e (effect_law T valid o in-o e in-e) (λ p in'. are.closed.effects o e p in-o in-e is in')) in
+      λ i. record { name = o.name; conditions = conditions i; effects = in_order effect_cmp (effects i); cost = o.cost }
 
   operators_are : map (new_operator some_go C) (filter (operator_stays C) T.operators) ≡ map (reduced_operator vars) (filter (changes_some vars) T.operators)
   operators_are =
@@ -77,15 +75,14 @@ module _ (T : Task) (valid : IsValid T) (vars : List ℕ) (are : AreRelevant T v
   var_below v in' = All-contains (λ v. v < length T.variables) vars v (relevant_below T valid vars are) in'
 
   pub reduced_is : reduced vars T ≡ restriction some_go (busy_alone (everything T vars)) T
-  reduced_is =
-      let new = reduced vars T in
-      assembled some_go C T new.metric new.variables new.groups new.state new.goal new.operators new.rules refl
-      (sym (append-nil (map (new_variable C T) vars) ∙ agree (new_variable C T) (variable_at T) vars (λ v in'. variable_is T valid vars v)))
-      (sym (ap (sorted group_cmp) groups_are))
-      (sym (append-nil (map (λ v. new_val C v (get_or T.state v 0)) vars) ∙ agree (λ v. new_val C v (get_or T.state v 0)) (λ v. get_or T.state v 0) vars (λ v in'. start_is T valid vars v (var_below v in'))))
-      (sym (pairs_are T valid vars T.goal valid.goal.facts (λ p in'. are.closed.goal p in')))
-      (sym (ap (sorted operator_cmp) operators_are))
-      (sym (ap (in_order rule_cmp) rules_are))
+  reduced_is i =
+      of_parts T.metric
+      (sym (append-nil (map (new_variable C T) vars) ∙ agree (new_variable C T) (variable_at T) vars (λ v in'. variable_is T valid vars v)) i)
+      (sorted group_cmp (sym groups_are i))
+      (sym (append-nil (map (λ v. new_val C v (get_or T.state v 0)) vars) ∙ agree (λ v. new_val C v (get_or T.state v 0)) (λ v. get_or T.state v 0) vars (λ v in'. start_is T valid vars v (var_below v in'))) i)
+      (sym (pairs_are T valid vars T.goal valid.goal.facts (λ p in'. are.closed.goal p in')) i)
+      (sorted operator_cmp (sym operators_are i))
+      (in_order rule_cmp (sym rules_are i))
 
   is_restriction : Restricts C T (restriction some_go C T)
   is_restriction = restricts some_go C T valid (choice T valid vars are)
@@ -120,36 +117,29 @@ empty_or_not : (ps : List Pair) → (ps ≡ []) ⊎ (ps ≢ [])
 empty_or_not [] = inl refl
 empty_or_not (p ∷ ps) = inr (λ e. cc)
 
--- so of the whole
-pub reduced_valid : (T T' : Task) → IsValid T → IsReduced T T' → IsValid T'
-reduced_valid T T' valid is =
+-- what holds of the task itself, and of what is left of it with its relevant variables, holds of what the pass makes of it
+of_either : (P : Task → Type 0) (T T' : Task) → IsReduced T T' → P T → ((vars : List ℕ) → AreRelevant T vars → P (reduced vars T)) → P T'
+of_either P T T' is own alone =
     elim (empty_or_not T.goal) [
-      | inl none ↦ subst IsValid (sym (is.empty_goal none)) valid
-      | inr some ↦ let part = is.some_goal some in subst IsValid (sym part.same) (part_valid T valid part.vars part.are)
+      | inl none ↦ subst P (sym (is.empty_goal none)) own
+      | inr some ↦ let part = is.some_goal some in subst P (sym part.same) (alone part.vars part.are)
     ]
 
+pub reduced_valid : (T T' : Task) → IsValid T → IsReduced T T' → IsValid T'
+reduced_valid T T' valid is = of_either IsValid T T' is valid (part_valid T valid)
+
 pub reduced_keeps : (T T' : Task) → IsValid T → IsReduced T T' → Keeps T T'
-reduced_keeps T T' valid is =
-    elim (empty_or_not T.goal) [
-      | inl none ↦ subst (Keeps T) (sym (is.empty_goal none)) (keeps_itself T)
-      | inr some ↦ let part = is.some_goal some in subst (Keeps T) (sym part.same) (part_keeps T valid part.vars part.are)
-    ]
+reduced_keeps T T' valid is = of_either (Keeps T) T T' is (keeps_itself T) (part_keeps T valid)
 
 pub reduced_solves : (T T' : Task) → IsValid T → (part : HasRelevantAlone T T') → KeepsPart (changes_some part.vars) T T'
 reduced_solves T T' valid part = subst (KeepsPart (changes_some part.vars) T) (sym part.same) (part_solves T valid part.vars part.are)
 
 -- operators have the names and costs of the task's
 pub reduced_costs : (T T' : Task) → IsReduced T T' → KeepsCosts T T'
-reduced_costs T T' is o' in' =
-    elim (empty_or_not T.goal) [
-      | inl none ↦ (o', subst (λ (t : Task). Contains t.operators o') (is.empty_goal none) in', refl, refl)
-      | inr some ↦ of_part (is.some_goal some)
-    ]
-  where
-    of_part : HasRelevantAlone T T' → (o : Operator) × Contains T.operators o × (o.name ≡ o'.name) × (o.cost ≡ o'.cost)
-    of_part part =
-        let from = map_member (reduced_operator part.vars) (filter (changes_some part.vars) T.operators) o' (sorted_member operator_cmp operator_total (map (reduced_operator part.vars) (filter (changes_some part.vars) T.operators)) o' (subst (λ (t : Task). Contains t.operators o') part.same in')) in
-        (from.0, (filter_member (changes_some part.vars) T.operators from.0 from.1).0, ap (λ (o : Operator). o.name) from.2, ap (λ (o : Operator). o.cost) from.2)
+reduced_costs T T' is =
+    of_either (KeepsCosts T) T T' is (λ o' in'. (o', in', refl, refl)) (λ vars are o' in'.
+    let from = map_member (reduced_operator vars) (filter (changes_some vars) T.operators) o' (sorted_member operator_cmp operator_total (map (reduced_operator vars) (filter (changes_some vars) T.operators)) o' in') in
+    (from.0, (filter_member (changes_some vars) T.operators from.0 from.1).0, ap (λ (o : Operator). o.name) from.2, ap (λ (o : Operator). o.cost) from.2))
 
 -- and it is one task
 pub reduced_once : (T T' T'' : Task) → IsReduced T T' → IsReduced T T'' → T' ≡ T''

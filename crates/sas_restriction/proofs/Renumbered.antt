@@ -1,11 +1,9 @@
 -- Where all values and all of some variables are left, what is left of a task is what stands there, with new numbers for the variables.
-use Rattle.std.proofs.Common.{◌≡◌, ◌≢◌, ℕ, ◌<◌, Bool, true, cond, ◌&&◌, List, [], ◌∷◌, map, filter, length, get_or, Option, None, refl, sym, ap, ◌∙◌, subst, arith}
+use Rattle.std.proofs.Common.{◌≡◌, ◌≢◌, ℕ, ◌<◌, Bool, true, cond, ◌&&◌, List, [], ◌∷◌, map, filter, length, get_or, None, refl, sym, ap, ◌∙◌}
 use Rattle.std.specs.List.{Contains, All, AllPairs, range_with_len}
-use Rattle.std.proofs.lemmas.List.{ext_get_or}
-use Rattle.std.proofs.lemmas.List.FromFn.{get_or-map-range_with_len, length-map-range_with_len}
+use Rattle.std.proofs.lemmas.List.FromFn.{fill_by_all}
 use Rattle.std.proofs.lemmas.List.Elements.{All-contains}
 use Rattle.sas_task.specs.declared.parts.Pair.{Pair}
-use Rattle.sas_task.specs.declared.parts.Variable.{Variable}
 use Rattle.sas_task.specs.declared.parts.Group.{Group}
 use Rattle.sas_task.specs.declared.parts.Effect.{Effect}
 use Rattle.sas_task.specs.declared.parts.Operator.{Operator}
@@ -16,7 +14,7 @@ use Rattle.sas_task.specs.Orders.{pair_cmp}
 use Rattle.sas_task.proofs.States.{is_variable}
 use Rattle.sas_task.proofs.ValidParts.{rule_law}
 use Rattle.lists.proofs.Items.{contains_among, same_map}
-use Rattle.lists.proofs.Members.{member_first, member_later, filter_member}
+use Rattle.lists.proofs.Members.{member_first, member_later, filter_every, filter_member}
 use Rattle.sas_orders.specs.InOrder.{sorted}
 use Rattle.sas_restriction.specs.Choice.{Choice, IsChoice, is_shown, is_left, all_left, new_val, new_pair, new_pairs, variable_at, new_variable, fact_stays, new_group, effect_stays, new_effect, rule_stays, new_rule}
 use Rattle.sas_restriction.specs.Everything.{all_values, everything}
@@ -41,28 +39,7 @@ left_agree p q f g xs same each = ap (map f) (same_filter p q xs same) ∙ agree
 
 -- a list read place by place
 by_place : (xs : List (List ℕ)) → map (λ i. get_or xs i []) (range_with_len 0 (length xs)) ≡ xs
-by_place xs =
-    ext_get_or [] (map (λ i. get_or xs i []) (range_with_len 0 (length xs))) xs (length-map-range_with_len (λ i. get_or xs i []) 0 (length xs)) (λ i below.
-    get_or-map-range_with_len (λ i. get_or xs i []) 0 (length xs) i i [] (subst (λ n. i < n) (length-map-range_with_len (λ i. get_or xs i []) 0 (length xs)) below) (omega arith))
-
--- parts by what changes in them
-abbrev a_pair : ℕ → ℕ → Pair
-a_pair var val = record { var = var; val = val }
-
-abbrev a_group : List Pair → Group
-a_group facts = record { facts = facts }
-
-abbrev an_effect : List Pair → ℕ → ℕ → Effect
-an_effect conditions var after = record { conditions = conditions; var = var; after = after }
-
-abbrev pub an_operator : Operator → List Pair → List Effect → Operator
-an_operator o conditions effects = record { name = o.name; conditions = conditions; effects = effects; cost = o.cost }
-
-abbrev a_rule : List Pair → ℕ → ℕ → ℕ → Rule
-a_rule conditions var before after = record { conditions = conditions; var = var; before = before; after = after }
-
-abbrev a_variable : Option ℕ → List (List ℕ) → Variable
-a_variable layer facts = record { layer = layer; facts = facts }
+by_place xs = sym (fill_by_all (λ i. get_or xs i []) xs (length xs) [] refl (λ i low. refl))
 
 -- a test that is one of two, the other of which passes
 passing : (a b : Bool) → a ≡ true → (a && b) ≡ b
@@ -77,23 +54,19 @@ module _ (T : Task) (valid : IsValid T) (vars : List ℕ) where
   AreShown ps = (p : Pair) → Contains ps p → is_shown (everything T vars) p.var ≡ true
 
   pair_is : (ps : List Pair) → All (IsFact T) ps → (p : Pair) → Contains ps p → new_pair C p ≡ renumbered_pair vars p
-  pair_is ps facts p in' = ap (a_pair (place_in vars p.var)) (value_stays T p.var p.val (All-contains (IsFact T) ps p facts in'))
+  pair_is ps facts p in' i = record { var = place_in vars p.var; val = value_stays T p.var p.val (All-contains (IsFact T) ps p facts in') i }
 
   pub pairs_are : (ps : List Pair) → All (IsFact T) ps → AreShown ps → new_pairs (everything T vars) ps ≡ renumbered_pairs vars ps
   pairs_are ps facts shown =
-      ap (sorted pair_cmp) (ap (map (new_pair C)) (filter_shown ps shown) ∙ agree (new_pair C) (renumbered_pair vars) ps (pair_is ps facts))
-    where
-      filter_shown : (ps : List Pair) → AreShown ps → filter (λ (p : Pair). is_shown C p.var) ps ≡ ps
-      filter_shown [] shown = refl
-      filter_shown (p ∷ ps) shown =
-          ap (λ b. cond b (p ∷ filter (λ (q : Pair). is_shown C q.var) ps) (filter (λ (q : Pair). is_shown C q.var) ps)) (shown p (member_first p ps)) ∙ ap (λ l. p ∷ l) (filter_shown ps (λ q in'. shown q (member_later p q ps in')))
+      ap (sorted pair_cmp) (ap (map (new_pair C)) (filter_every (λ (p : Pair). is_shown C p.var) ps shown) ∙ agree (new_pair C) (renumbered_pair vars) ps (pair_is ps facts))
 
   -- of a group the facts on these variables stay
   pub group_is : (g : Group) → IsValidGroup T g → new_group (everything T vars) g ≡ renumbered_group vars (record { facts = filter (λ (p : Pair). is_shown (everything T vars) p.var) g.facts })
   group_is g law =
-      ap a_group (ap (sorted pair_cmp) (left_agree (fact_stays C) (λ (p : Pair). is_shown C p.var) (new_pair C) (renumbered_pair vars) g.facts
+      let facts = left_agree (fact_stays C) (λ (p : Pair). is_shown C p.var) (new_pair C) (renumbered_pair vars) g.facts
       (λ p in'. passing (is_left C p.var p.val) (is_shown C p.var) (value_left T p.var p.val (All-contains (IsFact T) g.facts p law.facts in')))
-      (λ p in' is. pair_is g.facts law.facts p in')))
+      (λ p in' is. pair_is g.facts law.facts p in') in
+      λ i. record { facts = sorted pair_cmp (facts i) }
 
   -- an effect stays where its variable is shown
   pub effect_left : (e : Effect) → IsValidEffect T e → effect_stays (everything T vars) e ≡ is_shown (everything T vars) e.var
@@ -101,19 +74,15 @@ module _ (T : Task) (valid : IsValid T) (vars : List ℕ) where
       passing (all_left C e.conditions) (is_left C e.var e.after && is_shown C e.var) (facts_left T e.conditions law.conditions.facts) ∙ passing (is_left C e.var e.after) (is_shown C e.var) (value_left T e.var e.after law.value)
 
   pub effect_is : (e : Effect) → IsValidEffect T e → AreShown e.conditions → new_effect (everything T vars) e ≡ renumbered_effect vars e
-  effect_is e law shown =
-      ap (λ ps. an_effect ps (place_in vars e.var) (new_val C e.var e.after)) (pairs_are e.conditions law.conditions.facts shown)
-      ∙ ap (an_effect (renumbered_pairs vars e.conditions) (place_in vars e.var)) (value_stays T e.var e.after law.value)
+  effect_is e law shown i = record { conditions = pairs_are e.conditions law.conditions.facts shown i; var = place_in vars e.var; after = value_stays T e.var e.after law.value i }
 
   -- so does a rule
   pub rule_left : (r : Rule) → Contains T.rules r → rule_stays (everything T vars) r ≡ is_shown (everything T vars) r.var
   rule_left r in' = passing (all_left C r.conditions) (is_shown C r.var) (facts_left T r.conditions (rule_law T valid r in').conditions.facts)
 
   pub rule_is : (r : Rule) → Contains T.rules r → AreShown r.conditions → new_rule (everything T vars) r ≡ renumbered_rule vars r
-  rule_is r in' shown =
-      ap (λ ps. a_rule ps (place_in vars r.var) (new_val C r.var r.before) (new_val C r.var r.after)) (pairs_are r.conditions law.conditions.facts shown)
-      ∙ ap (λ x. a_rule (renumbered_pairs vars r.conditions) (place_in vars r.var) x (new_val C r.var r.after)) before
-      ∙ ap (a_rule (renumbered_pairs vars r.conditions) (place_in vars r.var) r.before) (value_stays T r.var r.after law.value)
+  rule_is r in' shown i =
+      record { conditions = pairs_are r.conditions law.conditions.facts shown i; var = place_in vars r.var; before = before i; after = value_stays T r.var r.after law.value i }
     where
       law : IsValidRule T r
       law = rule_law T valid r in'
@@ -125,7 +94,7 @@ module _ (T : Task) (valid : IsValid T) (vars : List ℕ) where
       before = ap (new_val C r.var) law.default ∙ value_stays T r.var (get_or T.state r.var 0) (valid.state r.var low) ∙ sym law.default
 
   pub variable_is : (v : ℕ) → new_variable (everything T vars) T v ≡ variable_at T v
-  variable_is v = ap (a_variable (variable_at T v).layer) (by_place (variable_at T v).facts)
+  variable_is v i = record { layer = (variable_at T v).layer; facts = by_place (variable_at T v).facts i }
 
   pub start_is : (v : ℕ) → v < length T.variables → new_val (everything T vars) v (get_or T.state v 0) ≡ get_or T.state v 0
   start_is v low = value_stays T v (get_or T.state v 0) (valid.state v low)

@@ -1,5 +1,5 @@
 -- The task with its variables in their order is its restriction to all of them in this order, with all values and all operators.
-use Rattle.std.proofs.Common.{◌≡◌, ℕ, ◌<◌, true, false, ◌&&◌, ltb, List, map, filter, length, get_or, refl, sym, ap, ◌∙◌, subst, inl, inr, arith}
+use Rattle.std.proofs.Common.{◌≡◌, ℕ, ◌<◌, true, false, ◌&&◌, ltb, List, map, filter, length, get_or, sym, ap, ◌∙◌, subst, inl, inr, arith}
 use Rattle.std.specs.List.{Contains, All}
 use Rattle.std.proofs.lemmas.Bool.{cases_lt, lt-ltb}
 use Rattle.std.proofs.lemmas.List.{append-nil}
@@ -7,7 +7,7 @@ use Rattle.std.proofs.lemmas.List.Elements.{All-contains, Contains-get_or}
 use Rattle.sas_task.specs.declared.parts.Pair.{Pair}
 use Rattle.sas_task.specs.declared.parts.Group.{Group}
 use Rattle.sas_task.specs.declared.parts.Operator.{Operator}
-use Rattle.sas_task.specs.Task.{Task}
+use Rattle.sas_task.specs.Task.{Task, of_parts}
 use Rattle.sas_task.specs.Valid.{IsValid, IsFact, ComesBefore, IsValidGroup}
 use Rattle.sas_task.specs.Keeps.{Keeps}
 use Rattle.sas_task.specs.Orders.{pair_cmp, group_cmp, effect_cmp, operator_cmp, rule_cmp}
@@ -23,13 +23,12 @@ use Rattle.sas_restriction.specs.Choice.{Choice, is_shown, new_val, variable_at,
 use Rattle.sas_restriction.specs.Restriction.{restriction, new_operator, new_groups}
 use Rattle.sas_restriction.specs.Everything.{everything}
 use Rattle.sas_restriction.specs.KeepsCosts.{KeepsCosts}
-use Rattle.sas_restriction.specs.Reordered.{place_in, variable_order, renumbered_pair, renumbered_pairs, renumbered_group, renumbered_effect, renumbered_operator, renumbered_rule, renumbered, IsReordered}
+use Rattle.sas_restriction.specs.Reordered.{place_in, variable_order, renumbered_pair, renumbered_group, renumbered_effect, renumbered_operator, renumbered_rule, renumbered, IsReordered}
 use Rattle.sas_restriction.proofs.Exact.{pair_exact}
 use Rattle.sas_restriction.proofs.Numbers.{one_member, place_of}
 use Rattle.sas_restriction.proofs.AllValues.{facts_left}
 use Rattle.sas_restriction.proofs.Order.{below_count, order_has, shown, choice, may}
-use Rattle.sas_restriction.proofs.Renumbered.{agree, an_operator, AreShown, pairs_are, group_is, effect_left, effect_is, rule_left, rule_is, variable_is, start_is}
-use Rattle.sas_restriction.proofs.Assembled.{assembled}
+use Rattle.sas_restriction.proofs.Renumbered.{agree, AreShown, pairs_are, group_is, effect_left, effect_is, rule_left, rule_is, variable_is, start_is}
 use Rattle.sas_restriction.proofs.Valid.{restriction_valid}
 use Rattle.sas_restriction.proofs.Arranged.{restricts}
 use Rattle.sas_restriction.proofs.Stands.{keeps}
@@ -104,10 +103,10 @@ module _ (T : Task) (valid : IsValid T) where
   -- operators
   operator_is : (o : Operator) → Contains T.operators o → new_operator all_stay C o ≡ renumbered_operator order o
   operator_is o in' =
-      ap (λ ps. an_operator o ps (in_order effect_cmp (map (new_effect C) (filter (effect_stays C) o.effects)))) (pairs_are T valid order o.conditions (operator_law T valid o in').conditions.facts (all_shown o.conditions (operator_law T valid o in').conditions.facts))
-      ∙ ap (λ es. an_operator o (renumbered_pairs order o.conditions) (in_order effect_cmp es))
-      (ap (map (new_effect C)) (filter_every (effect_stays C) o.effects (λ e in-e. let law = effect_law T valid o in' e in-e in effect_left T valid order e law ∙ shown T e.var (is_variable T e.var e.after law.value)))
-      ∙ agree (new_effect C) (renumbered_effect order) o.effects (λ e in-e. let law = effect_law T valid o in' e in-e in effect_is T valid order e law (all_shown e.conditions law.conditions.facts)))
+      let conditions = pairs_are T valid order o.conditions (operator_law T valid o in').conditions.facts (all_shown o.conditions (operator_law T valid o in').conditions.facts) in
+      let effects = ap (map (new_effect C)) (filter_every (effect_stays C) o.effects (λ e in-e. let law = effect_law T valid o in' e in-e in effect_left T valid order e law ∙ shown T e.var (is_variable T e.var e.after law.value)))
+      ∙ agree (new_effect C) (renumbered_effect order) o.effects (λ e in-e. let law = effect_law T valid o in' e in-e in effect_is T valid order e law (all_shown e.conditions law.conditions.facts)) in
+      λ i. record { name = o.name; conditions = conditions i; effects = in_order effect_cmp (effects i); cost = o.cost }
 
   operators_are : map (new_operator all_stay C) (filter (operator_stays C) T.operators) ≡ map (renumbered_operator order) T.operators
   operators_are =
@@ -121,15 +120,14 @@ module _ (T : Task) (valid : IsValid T) where
       ∙ agree (new_rule C) (renumbered_rule order) T.rules (λ r in'. rule_is T valid order r in' (all_shown r.conditions (rule_law T valid r in').conditions.facts))
 
   pub reordered_is : renumbered order T ≡ restriction all_stay C T
-  reordered_is =
-      let new = renumbered order T in
-      assembled all_stay C T new.metric new.variables new.groups new.state new.goal new.operators new.rules refl
-      (sym (append-nil (map (new_variable C T) order) ∙ agree (new_variable C T) (variable_at T) order (λ v in'. variable_is T valid order v)))
-      (sym (ap (in_order group_cmp) groups_are))
-      (sym (append-nil (map (λ v. new_val C v (get_or T.state v 0)) order) ∙ agree (λ v. new_val C v (get_or T.state v 0)) (λ v. get_or T.state v 0) order (λ v in'. start_is T valid order v (below_count T v in'))))
-      (sym (pairs_are T valid order T.goal valid.goal.facts (all_shown T.goal valid.goal.facts)))
-      (sym (ap (in_order operator_cmp) operators_are))
-      (sym (ap (in_order rule_cmp) rules_are))
+  reordered_is i =
+      of_parts T.metric
+      (sym (append-nil (map (new_variable C T) order) ∙ agree (new_variable C T) (variable_at T) order (λ v in'. variable_is T valid order v)) i)
+      (in_order group_cmp (sym groups_are i))
+      (sym (append-nil (map (λ v. new_val C v (get_or T.state v 0)) order) ∙ agree (λ v. new_val C v (get_or T.state v 0)) (λ v. get_or T.state v 0) order (λ v in'. start_is T valid order v (below_count T v in'))) i)
+      (sym (pairs_are T valid order T.goal valid.goal.facts (all_shown T.goal valid.goal.facts)) i)
+      (in_order operator_cmp (sym operators_are i))
+      (in_order rule_cmp (sym rules_are i))
 
 -- so it is valid and may stand for the task
 pub reordered_valid : (T T' : Task) → IsValid T → IsReordered T T' → IsValid T'

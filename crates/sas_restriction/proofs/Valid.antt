@@ -6,7 +6,7 @@ use Rattle.std.specs.List.Sorted.{IsStrictlyIncreasing}
 use Rattle.std.specs.Option.{option_map_or}
 use Rattle.std.specs.declared.cmp.Ordering.{Ordering}
 use Rattle.std.specs.declared.cmp.Ordering.TheVariants.{Less, Equal, Greater}
-use Rattle.std.specs.Ordering.{MatchOrdering, nat_cmp, ordering_then}
+use Rattle.std.specs.Ordering.{nat_cmp, ordering_then}
 use Rattle.std.proofs.lemmas.Bool.{cases_lt, and_parts}
 use Rattle.std.proofs.lemmas.Cmp.{ranked}
 use Rattle.std.proofs.lemmas.Option.{slice_get_within, get_or_from_slice_get}
@@ -21,6 +21,7 @@ use Rattle.sas_task.specs.declared.parts.Operator.{Operator}
 use Rattle.sas_task.specs.declared.parts.Rule.{Rule}
 use Rattle.sas_task.specs.Task.{Task}
 use Rattle.sas_task.specs.Valid.{IsValid, IsValue, IsFact, AreConditions, IsValidVariable, ComesBefore, IsValidGroup, IsValidEffect, IsValidOperator, IsBelow, IsValidRule, layer_of}
+use Rattle.sas_task.specs.Alike.{RulesAgree}
 use Rattle.sas_task.specs.Orders.{pair_cmp}
 use Rattle.sas_task.proofs.Orders.{pair_total}
 use Rattle.sas_task.proofs.ValidParts.{operator_law, rule_law}
@@ -40,14 +41,6 @@ use Rattle.lists.specs.Names.{IsName}
 pub increasing : (xs : List ℕ) → AllPairs (λ x y. x < y) xs → IsStrictlyIncreasing xs
 increasing xs all k below = all k (k + 1) 0 (omega arith) below
 
-nat_less : (x y : ℕ) → nat_cmp x y ≡ Less → x < y
-nat_less x y e = by_order (nat_cmp x y) (ranked x y (nat_cmp x y) refl) e
-  where
-    by_order : (o : Ordering) → MatchOrdering o (x < y) (x ≡ y) (y < x) → o ≡ Less → x < y
-    by_order Less is e = is
-    by_order Equal is e = cc
-    by_order Greater is e = cc
-
 then_less : (a b : Ordering) → ordering_then a b ≡ Less → (a ≡ Less) ⊎ ((a ≡ Equal) × (b ≡ Less))
 then_less Less b e = inl refl
 then_less Equal b e = inr (refl, e)
@@ -57,8 +50,8 @@ then_less Greater b e = cc
 pair_less : (p q : Pair) → pair_cmp p q ≡ Less → ComesBefore p q
 pair_less p q e =
     elim (then_less (nat_cmp p.var q.var) (nat_cmp p.val q.val) e) [
-      | inl var ↦ inl (nat_less p.var q.var var)
-      | inr both ↦ inr (nat_exact p.var q.var both.0, nat_less p.val q.val both.1)
+      | inl var ↦ inl (ranked p.var q.var Less (sym var))
+      | inr both ↦ inr (nat_exact p.var q.var both.0, ranked p.val q.val Less (sym both.1))
     ]
 
 pub sorted_pairs : (ps : List Pair) → AllPairs ComesBefore (sorted pair_cmp ps)
@@ -85,6 +78,12 @@ one_after T valid r q in-r in-q same =
       | inl one ↦ ap (λ (z : Rule). z.after) one
       | inr either ↦ elim either [ inl ahead ↦ ahead same | inr behind ↦ sym (behind (sym same)) ]
     ]
+
+pub valid_rules : (T : Task) → IsValid T → RulesAgree T
+valid_rules T valid a b in-a in-b same = (
+  (rule_law T valid a in-a).default ∙ ap (λ v. get_or T.state v 0) same ∙ sym (rule_law T valid b in-b).default,
+  one_after T valid a b in-a in-b same,
+)
 
 module _ (C : Choice) (T T' : Task) (valid : IsValid T) (choice : IsChoice C T) (r : Restricts C T T') where
   -- new facts
