@@ -1,5 +1,5 @@
 -- what the pass owes and gets, which crates above cite
-pub mod Reached
+mod Reached
 pub mod Alone
 pub mod Pruned
 pub mod OneProof

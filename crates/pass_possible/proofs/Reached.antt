@@ -5,6 +5,7 @@ use Rattle.std.specs.List.{Contains, All, list_all, list_any}
 use Rattle.std.proofs.lemmas.Bool.{cases_Bool, cases_eq, false≢true, eq-eqb, ne_eqb, eqb-true, and_parts, and_from, or_left, or_right, not-true}
 use Rattle.std.proofs.lemmas.List.Elements.{All-contains}
 use Rattle.runs.specs.Runs.{Leads}
+use Rattle.lists.proofs.Items.{contains_among, none_passes}
 use Rattle.lists.proofs.Members.{all_pass, each_passes, all_from_members, any_member, member_any}
 use Rattle.sas_task.specs.declared.parts.Pair.{Pair}
 use Rattle.sas_task.specs.declared.parts.Variable.{Variable}
@@ -26,13 +27,6 @@ use Rattle.sas_task.proofs.RisingPairs.{pair_is}
 empty_list : {X : Type 0} (xs : List X) → eqb (length xs) 0 ≡ true → xs ≡ []
 empty_list [] e = refl
 empty_list (x ∷ xs) e = let n : length (x ∷ xs) ≡ 0 = eqb-true (length (x ∷ xs)) 0 e in absurd (omega arith)
-
-none_passes : {X : Type 0} (p : X → Bool) (xs : List X) → ((x : X) → Contains xs x → p x ≡ true → ⊥) → list_any p xs ≡ false
-none_passes p xs none =
-    elim (cases_Bool (list_any p xs)) [
-      | inl is ↦ let x = any_member p xs is in absurd (none x.0 x.1 x.2)
-      | inr fails ↦ fails
-    ]
 
 nobody_passes : {X : Type 0} (p : X → Bool) (xs : List X) → list_any p xs ≡ false → (x : X) → Contains xs x → p x ≡ true → ⊥
 nobody_passes p xs none x in' is = false≢true (sym none ∙ member_any p xs x in' is)
@@ -173,7 +167,8 @@ module _ (T : Task) (valid : IsValid T) (plain : Plain T) (has : Pairs) (closed 
           pair_is (fact s v) (fact t v) refl (sym (step.successor.keeps v (subst (λ n. v < n) (sym held.count) below) (all_from_members (λ e. Fires T s e → e.var ≢ v) o.effects none)))
 
       unchanged : (v : ℕ) → ((e : Effect) → Contains o.effects e → Fires T s e → e.var ≢ v) → changes o v ≡ false
-      unchanged v none = none_passes (λ (e : Effect). eqb e.var v) o.effects (λ e in' on. none e in' (fires s o e step.of_task in') (eqb-true e.var v on))
+      unchanged v none =
+          none_passes (λ (e : Effect). eqb e.var v) o.effects (λ e among on. let in' = contains_among o.effects e among in none e in' (fires s o e step.of_task in') (eqb-true e.var v on))
 
       -- an effect beside a fact that stays
       beside : (v w : ℕ) → w < length T.variables → FiringOn T s o.effects v → ((e : Effect) → Contains o.effects e → Fires T s e → e.var ≢ w) → has (fact t v) (fact t w) ≡ true
