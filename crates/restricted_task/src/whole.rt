@@ -3,6 +3,7 @@
 ghost use Rattle.std.specs.Prelude.{◌≡◌, ◌++◌, ◌<◌, Bool, nat_lt, [], ◌∷◌, map, length, All, IfOk, OnOk, if◌then◌else◌, slice_index};
 ghost use Rattle.std.specs.Option.{option_map_or};
 ghost use Rattle.sas_task.specs.declared.parts.Operator.{Operator as AnOperator};
+ghost use Rattle.sas_task.specs.Task.{of_parts};
 ghost use Rattle.sas_task.specs.Valid.{IsValid};
 ghost use Rattle.sas_restriction.specs.Listed.{chosen, with_operators};
 ghost use Rattle.sas_restriction.specs.Choice.{IsChoice};
@@ -118,24 +119,8 @@ impl Drop for Beside {
 impl Beside {
     /// The task with these operators too.
     fn with(self, operators: List<Operator>) -> SasTask
-        requires { IsValid record {
-          metric = self.metric;
-          variables = self.variables;
-          groups = self.groups;
-          state = self.state;
-          goal = self.goal;
-          operators = operators;
-          rules = self.rules;
-        } }
-        ensures { result ≡ record {
-          metric = self.metric;
-          variables = self.variables;
-          groups = self.groups;
-          state = self.state;
-          goal = self.goal;
-          operators = operators;
-          rules = self.rules;
-        } }
+        requires { IsValid (of_parts self.metric self.variables self.groups self.state self.goal operators self.rules) }
+        ensures { result ≡ of_parts self.metric self.variables self.groups self.state self.goal operators self.rules }
     {
         let Beside {
             metric,
