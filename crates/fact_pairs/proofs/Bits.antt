@@ -1,14 +1,16 @@
 -- Marks as the bits of words: with one bit more, there is one mark more.
-use Rattle.std.proofs.Common.{◌≡◌, ◌≢◌, ℕ, zero, suc, ◌+◌, ◌-◌, ◌*◌, ◌/◌, ◌%◌, ◌^◌, ◌<◌, ◌≤◌, Bool, true, false, not, cond, eqb, List, [], ◌∷◌, ◌++◌, map, filter, length, get_or, set, replicate, bit_and, bit_or, append-nil, refl, sym, ap, ◌∙◌, subst, inl, inr, arith}
+use Rattle.std.proofs.Common.{◌≡◌, ◌≢◌, ℕ, zero, suc, ◌+◌, ◌-◌, ◌*◌, ◌/◌, ◌%◌, ◌^◌, ◌<◌, ◌≤◌, Bool, true, false, not, cond, eqb, List, [], ◌∷◌, ◌++◌, map, filter, length, get_or, set, replicate, bit_and, bit_or, append-nil, sym, ap, ◌∙◌, subst, inl, inr, arith}
 use Rattle.std.specs.Prelude.{min}
 use Rattle.std.specs.Int.{bit_at}
 use Rattle.std.specs.List.{range_with_len}
 use Rattle.std.proofs.lemmas.Bool.{cases_eq, cases_lt, ne_eqb}
 use Rattle.std.proofs.lemmas.Nat.{and_or_self, and_or_apart, and_le_l, pow_apart, pow_pos, shr-shr}
 use Rattle.std.proofs.lemmas.List.{ext_get_or, length-set, length-replicate, get_or-set_same, get_or-set_other, get_or-replicate, get_or_past, set_past}
-use Rattle.std.proofs.lemmas.List.FromFn.{get_or-map-range_with_len, length-map-range_with_len, fill_by_all}
+use Rattle.std.proofs.lemmas.List.FromFn.{get_or-map-range_with_len, length-map-range_with_len}
 use Rattle.std.proofs.lemmas.List.Elements.{filter-append}
+use Rattle.lists.proofs.Members.{range_member}
 use Rattle.lists.proofs.LoopSteps.{range_next}
+use Rattle.sas_restriction.proofs.Renumbered.{same_filter, agree}
 use Rattle.fact_pairs.specs.Bits.{has_bit, mark_at, marks_of, with_bit}
 use Rattle.fact_pairs.specs.MarkLists.{places}
 use Rattle.fact_pairs.proofs.OneBit.{is_set, has_bit_is}
@@ -97,11 +99,6 @@ no_marks n count =
           | inr past ↦ get_or_past (replicate n 0) i 0 (subst (λ m. m ≤ i) (sym (length-replicate n 0)) past)
         ]
 
--- two functions that agree below a number map the range to the same list
-same_below : (f g : ℕ → Bool) (n : ℕ) → ((i : ℕ) → i < n → f i ≡ g i) → map f (range_with_len 0 n) ≡ map g (range_with_len 0 n)
-same_below f g n same =
-    fill_by_all g (map f (range_with_len 0 n)) n false (length-map-range_with_len f 0 n) (λ i low. let e : 0 + i ≡ i = omega arith in get_or-map-range_with_len f 0 n i i false low e ∙ same i low)
-
 -- ---- two lists of marks, word by word
 
 module _ (on : ℕ → ℕ → ℕ) (test : Bool → Bool → Bool) (of_bits : (a b bit : ℕ) → has_bit (on a b) bit ≡ test (has_bit a bit) (has_bit b bit)) where
@@ -111,9 +108,15 @@ module _ (on : ℕ → ℕ → ℕ) (test : Bool → Bool → Bool) (of_bits : (
   abbrev on_marks : List Bool → List Bool → List Bool
   on_marks front back = map (λ i. test (get_or front i false) (get_or back i false)) (range_with_len 0 (min (length front) (length back)))
 
-  pub by_words : (front back : List ℕ) (n m : ℕ) → n ≤ 64 * length front → marks_of (on_words front back) (min n m) ≡ on_marks (marks_of front n) (marks_of back m)
+  -- the words made of two lists' words suffice for the marks that both have
+  pub enough : (front back made : List ℕ) (n m count : ℕ) → made ≡ on_words front back → count ≡ min n m → n ≤ 64 * length front → count ≤ 64 * length made
+  enough front back made n m count is few within =
+      let long : length made ≡ length front = ap length is ∙ length-map-range_with_len (λ i. on (get_or front i 0) (get_or back i 0)) 0 (length front) in
+      omega (arith, few, long, within)
+
+  by_words : (front back : List ℕ) (n m : ℕ) → n ≤ 64 * length front → marks_of (on_words front back) (min n m) ≡ on_marks (marks_of front n) (marks_of back m)
   by_words front back n m within =
-      same_below (mark_at (on_words front back)) (λ i. test (get_or (marks_of front n) i false) (get_or (marks_of back m) i false)) (min n m) at
+      agree (mark_at (on_words front back)) (λ i. test (get_or (marks_of front n) i false) (get_or (marks_of back m) i false)) (range_with_len 0 (min n m)) (λ i in'. at i (range_member (min n m) i in'))
       ∙ sym (ap (λ k. map (λ i. test (get_or (marks_of front n) i false) (get_or (marks_of back m) i false)) (range_with_len 0 k)) (ap (λ k. min k (length (marks_of back m))) (count_is front n) ∙ ap (min n) (count_is back m)))
     where
       at : (i : ℕ) → i < min n m → mark_at (on_words front back) i ≡ test (get_or (marks_of front n) i false) (get_or (marks_of back m) i false)
@@ -125,6 +128,11 @@ module _ (on : ℕ → ℕ → ℕ) (test : Bool → Bool → Bool) (of_bits : (
           ap (λ word. has_bit word (i % 64)) (get_or-map-range_with_len (λ i. on (get_or front i 0) (get_or back i 0)) 0 (length front) (i / 64) (i / 64) 0 word e)
           ∙ of_bits (get_or front (i / 64) 0) (get_or back (i / 64) 0) (i % 64)
           ∙ sym (ap (λ x. test x (get_or (marks_of back m) i false)) (marked_below front n i false low-n) ∙ ap (test (mark_at front i)) (marked_below back m i false low-m))
+
+  -- and so they mark, place by place
+  pub both : (front back made : List ℕ) (n m count : ℕ) (fronts backs : List Bool) → made ≡ on_words front back → count ≡ min n m → n ≤ 64 * length front → marks_of front n ≡ fronts → marks_of back m ≡ backs → marks_of made count ≡ on_marks fronts backs
+  both front back made n m count fronts backs is few within front-is back-is =
+      ap (marks_of made) few ∙ ap (λ words. marks_of words (min n m)) is ∙ by_words front back n m within ∙ (λ i. on_marks (front-is i) (back-is i))
 
 -- ---- the places that have a mark
 
@@ -153,18 +161,8 @@ bit_from words place i from low none =
     ∙ ap (λ n. is_set (n % 2)) (sym (shr-shr (get_or words (place / 64) 0) (place % 64) (i - place)))
     ∙ ap is_set none
 
--- tests that agree below a number keep the same numbers below it
-same_kept : (p q : ℕ → Bool) (n : ℕ) → ((i : ℕ) → i < n → p i ≡ q i) → filter p (range_with_len 0 n) ≡ filter q (range_with_len 0 n)
-same_kept p q zero same = refl
-same_kept p q (suc n) same =
-    let e : suc n ≡ n + 1 = omega arith in
-    ap (λ k. filter p (range_with_len 0 k)) e ∙ next_place p n
-    ∙ ap (λ kept. kept ++ cond (p n) (n ∷ []) []) (same_kept p q n (λ i low. same i (omega (arith, low))))
-    ∙ ap (λ b. filter q (range_with_len 0 n) ++ cond b (n ∷ []) []) (same n (omega arith))
-    ∙ sym (next_place q n) ∙ sym (ap (λ k. filter q (range_with_len 0 k)) e)
-
 -- the places are those of the marks
 pub places_are : (words : List ℕ) (count : ℕ) → filter (mark_at words) (range_with_len 0 count) ≡ places (marks_of words count)
 places_are words count =
-    same_kept (mark_at words) (λ i. get_or (marks_of words count) i false) count (λ i low. sym (marked_below words count i false low))
+    same_filter (mark_at words) (λ i. get_or (marks_of words count) i false) (range_with_len 0 count) (λ i in'. sym (marked_below words count i false (range_member count i in')))
     ∙ sym (ap (λ n. filter (λ i. get_or (marks_of words count) i false) (range_with_len 0 n)) (count_is words count))

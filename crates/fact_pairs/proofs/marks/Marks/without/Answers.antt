@@ -1,29 +1,17 @@
-use Rattle.std.proofs.Common.{◌≡◌, ◌&&◌, not, bit_and, length, get_or, ap, ◌∙◌, arith}
-use Rattle.std.specs.Prelude.{bit_xor, min}
-use Rattle.std.proofs.lemmas.List.FromFn.{length-map-range_with_len}
-use Rattle.fact_pairs.specs.Bits.{marks_of, without_words}
-use Rattle.fact_pairs.specs.MarkLists.{without}
+use Rattle.std.proofs.Common.{◌≡◌, ◌&&◌, not, bit_and, ◌∙◌}
+use Rattle.std.specs.Prelude.{bit_xor}
+use Rattle.fact_pairs.specs.Bits.{without_words}
 use Rattle.fact_pairs.proofs.OneBit.{bit_without}
-use Rattle.fact_pairs.proofs.Bits.{by_words}
+use Rattle.fact_pairs.proofs.Bits.{enough, both}
 use Rattle.fact_pairs.proofs.marks.Marks.without.Goals as goal
 
 pub of_words-requires : goal.of_words-requires
 of_words-requires c =
-    let front = c.self.inside.words.items in
-    let back = c.other.inside.words.items in
-    let made = c.in_ok-words.ensures ∙ ap (λ front. without_words front c.as_slice-2.result.now) c.as_slice.ensures.value in
-    let count : length c.in_ok-words.words.items ≡ length front = ap length made ∙ length-map-range_with_len (λ i. bit_xor (get_or front i 0) (bit_and (get_or front i 0) (get_or c.as_slice-2.result.now i 0))) 0 (length front) in
-    omega (arith, c.min.ensures, count, c.self.invariant)
+    let made : c.in_ok-words.words.items ≡ without_words c.self.inside.words.items c.other.inside.words.items = c.in_ok-words.ensures ∙ (λ i. without_words (c.as_slice.ensures.value i) (c.as_slice-2.ensures.value i)) in
+    enough (λ a b. bit_xor a (bit_and a b)) (λ a b. a && not b) bit_without c.self.inside.words.items c.other.inside.words.items c.in_ok-words.words.items c.self.inside.count c.other.inside.count c.min.result made c.min.ensures c.self.invariant
 
 pub returns : goal.returns
 returns c =
-    let front = c.self.inside.words.items in
-    let back = c.other.inside.words.items in
-    let n = c.self.inside.count in
-    let m = c.other.inside.count in
+    let made : c.in_ok-words.words.items ≡ without_words c.self.inside.words.items c.other.inside.words.items = c.in_ok-words.ensures ∙ (λ i. without_words (c.as_slice.ensures.value i) (c.as_slice-2.ensures.value i)) in
     c.of_words.ensures
-    ∙ ap (marks_of c.in_ok-words.words.items) c.min.ensures
-    ∙ ap (λ words. marks_of words (min n m)) (c.in_ok-words.ensures ∙ ap (λ front. without_words front c.as_slice-2.result.now) c.as_slice.ensures.value ∙ ap (without_words front) c.as_slice-2.ensures.value)
-    ∙ by_words (λ a b. bit_xor a (bit_and a b)) (λ a b. a && not b) bit_without front back n m c.self.invariant
-    ∙ ap (λ front. without front (marks_of back m)) c.self.view_is
-    ∙ ap (without c.args.self.now) c.other.view_is
+    ∙ both (λ a b. bit_xor a (bit_and a b)) (λ a b. a && not b) bit_without c.self.inside.words.items c.other.inside.words.items c.in_ok-words.words.items c.self.inside.count c.other.inside.count c.min.result c.args.self.now c.args.other.now made c.min.ensures c.self.invariant c.self.view_is c.other.view_is
