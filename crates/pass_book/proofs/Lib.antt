@@ -1,3 +1,3 @@
--- laws, which other crates may cite
-pub mod Chains
+-- lemmas of this crate
+mod Chains
 mod Held

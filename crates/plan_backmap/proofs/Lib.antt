@@ -1,6 +1,5 @@
--- laws, which other crates may cite
-pub mod SolutionCosts
 -- lemmas of this crate
+mod SolutionCosts
 mod CostTables
 mod PassedLines
 mod Ends
