@@ -1,23 +1,18 @@
 -- What the code holds of the possible pairs is the choice of the pass.
-use Rattle.std.proofs.Common.{◌≡◌, ℕ, ◌+◌, ◌<◌, ◌≤◌, List, [], map, filter, length, get_or, None, sym, ap, ◌∙◌, subst, inl, inr, arith}
+use Rattle.std.proofs.Common.{◌≡◌, ℕ, ◌<◌, List, map, filter, length, None, sym, ap, ◌∙◌, subst}
 use Rattle.std.specs.List.{All, range_with_len}
 use Rattle.std.specs.List.Sorted.{IsStrictlyIncreasing}
-use Rattle.std.specs.Option.{option_map_or}
 use Rattle.std.proofs.Math.Path.{fun_ext}
-use Rattle.std.proofs.lemmas.Bool.{cases_lt}
-use Rattle.std.proofs.lemmas.Option.{slice_get_past}
-use Rattle.std.proofs.lemmas.List.{get_or_past}
-use Rattle.std.proofs.lemmas.List.FromFn.{get_or-map-range_with_len, length-map-range_with_len}
+use Rattle.std.proofs.lemmas.List.FromFn.{length-map-range_with_len}
 use Rattle.std.proofs.lemmas.List.Kept.{IsStrictlyIncreasing-filter}
 use Rattle.lists.proofs.Members.{range_member, all_from_members, map_member}
-use Rattle.sas_task.specs.declared.parts.Variable.{Variable}
 use Rattle.sas_task.specs.Task.{Task}
-use Rattle.sas_restriction.specs.Choice.{Choice}
 use Rattle.sas_restriction.specs.Listed.{Listed, with_operators}
 use Rattle.sas_restriction.specs.Everything.{all_values}
 use Rattle.pass_possible.specs.Possible.{Pairs, is_possible}
 use Rattle.pass_possible.specs.Pruned.{is_wanted, possible_alone}
 use Rattle.lists.proofs.Ordered.{range_increasing}
+use Rattle.sas_restriction.proofs.AllValues.{no_values, listed_at}
 
 module _ (T : Task) (pairs : Pairs) where
   abbrev pub wanted : ℕ → List ℕ
@@ -30,26 +25,13 @@ module _ (T : Task) (pairs : Pairs) where
   abbrev pub listed : List ℕ → List (List ℕ) → Listed
   listed vars values = record { vars = vars; values = values; holder = None }
 
-  -- a list for each variable, and none behind
-  listed_at : (v : ℕ) → get_or (map wanted variables) v [] ≡ wanted v
-  listed_at v =
-      elim (cases_lt v (length T.variables)) [
-        | inl below ↦ let e : 0 + v ≡ v = omega arith in get_or-map-range_with_len wanted 0 (length T.variables) v v [] below e
-        | inr past ↦
-            get_or_past (map wanted variables) v [] (subst (λ n. n ≤ v) (sym (length-map-range_with_len wanted 0 (length T.variables))) past)
-            ∙ sym (ap (λ o. filter (is_wanted pairs T v) (range_with_len 0 (length (option_map_or (λ (u : Variable). u) o (record { layer = None; facts = [] })).facts))) (slice_get_past T.variables v past))
-      ]
-
-  abbrev with_values : List ℕ → (ℕ → List ℕ) → Choice
-  with_values vars values = record { vars = vars; values = values; operators = is_possible pairs; holder = None }
-
   module _ (vars : List ℕ) (values : List (List ℕ)) (vars-are : vars ≡ variables) (values-are : values ≡ map wanted variables) where
     pub choice_is : (shown : Listed) → shown ≡ listed vars values → with_operators shown (is_possible pairs) ≡ possible_alone pairs T
     choice_is shown is =
         ap (λ (shown : Listed). with_operators shown (is_possible pairs)) is
         ∙ ap (λ vars. with_operators (listed vars values) (is_possible pairs)) vars-are
         ∙ ap (λ values. with_operators (listed variables values) (is_possible pairs)) values-are
-        ∙ ap (with_values variables) (fun_ext listed_at)
+        ∙ (λ i. record { vars = variables; values = fun_ext (listed_at T wanted (λ v past. ap (filter (is_wanted pairs T v)) (no_values T v past))) i; operators = is_possible pairs; holder = None })
 
     -- each variable has a list, and each list rises
     pub inside : All (λ v. v < length values) vars
