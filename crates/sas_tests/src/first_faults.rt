@@ -1,47 +1,10 @@
-//! The text of the switch, a task with one variable and one operator, and the first line at fault where it is changed or cut.
+//! The text of the lamp, a task with one variable and one operator, and the first line at fault where it is changed or cut.
 
 use crate::reading::{Refused, assert_refused, is_cut, is_read_as, is_refused, with_line};
+use crate::tasks::LAMP;
 use sas_reader::SasPlace;
-use std::alloc::{AllocError, Global};
+use std::alloc::AllocError;
 use std::test::*;
-
-const SWITCH: &[u8] = b"begin_version
-3
-end_version
-begin_metric
-0
-end_metric
-1
-begin_variable
-var0
--1
-2
-Atom on()
-Atom off()
-end_variable
-1
-begin_mutex_group
-2
-0 0
-0 1
-end_mutex_group
-begin_state
-1
-end_state
-begin_goal
-1
-0 0
-end_goal
-1
-begin_operator
-flip
-0
-1
-0 0 1 0
-1
-end_operator
-0
-";
 
 static REFUSED: [Refused; 7] = [
     (19, b"0 2", 19, SasPlace::Groups),
@@ -78,27 +41,23 @@ static PLACE_TEXTS: [(SasPlace, &str); 9] = [
     (SasPlace::End, "text after the end"),
 ];
 
-fn is_spaced_switch_read(alloc: Global) -> Result<bool, AllocError> {
-    let spaced = with_line(alloc, SWITCH, 30, b"flip ")?;
-    is_read_as(alloc, spaced.as_slice(), SWITCH)
+#[test]
+fn the_lamp_is_read(rt: HostRuntime) -> Result<(), AllocError> {
+    let lamp = LAMP.as_bytes();
+    let spaced = with_line(rt.alloc(), lamp, 30, b"flip ")?;
+    assert!(rt; is_read_as(rt.alloc(), lamp, lamp)? && is_read_as(rt.alloc(), &spaced, lamp)?);
+    Ok(())
 }
 
 #[test]
-fn the_switch_is_read(rt: HostRuntime) {
-    assert!(rt;
-        matches!(is_read_as(rt.alloc(), SWITCH, SWITCH), Ok(true))
-            && matches!(is_spaced_switch_read(rt.alloc()), Ok(true))
-    );
-}
-
-#[test]
-fn the_first_line_at_fault_is_told(rt: HostRuntime) {
-    assert_refused(&rt, rt.alloc(), SWITCH, &REFUSED);
+fn the_first_line_at_fault_is_told(rt: HostRuntime) -> Result<(), AllocError> {
+    assert_refused(&rt, rt.alloc(), LAMP.as_bytes(), &REFUSED);
     assert!(rt;
         is_refused(rt.alloc(), b"", 1, SasPlace::Version)
             && is_refused(rt.alloc(), FEW_LINES, 11, SasPlace::Variables)
-            && matches!(is_cut(rt.alloc(), SWITCH, 22, SasPlace::State), Ok(true))
+            && is_cut(rt.alloc(), LAMP.as_bytes(), 22, SasPlace::State)?
     );
+    Ok(())
 }
 
 #[test]

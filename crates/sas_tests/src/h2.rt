@@ -1,7 +1,6 @@
 //! The h2 pass over tasks that are written out by hand.
 
-use crate::tasks::{BACK, GATE, Making, RESTING, SAFE, assert_made, task};
-use crate::text::ROOM;
+use crate::tasks::{BACK, GATE, Making, RESTING, ROOM, SAFE, assert_made, task};
 use std::test::*;
 
 /// A house with a cellar in which a lamp can be lit, which goes out on the way up. Nobody can fly to the attic or read,

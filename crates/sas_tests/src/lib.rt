@@ -33,5 +33,3 @@ mod reading;
 mod relevance;
 #[cfg(test)]
 mod tasks;
-#[cfg(test)]
-mod text;

@@ -1,32 +1,12 @@
 //! Steps of a task that are worked by hand.
 
-use crate::tasks::{task, task_of};
+use crate::tasks::{room, task, task_of};
 use sas_task::SasTask;
 use std::alloc::{AllocError, Global};
 use std::test::*;
 
-/// The room with a lamp, and one more operator: who is in the room turns the lamp on and off at once, which is a
-/// disagreement.
-const ROOM: &str = task! {
-    metric 1
-    variables 4
-        ["var0", -1, 2, "Atom at(hall)", "Atom at(room)"]
-        ["var1", -1, 2, "Atom lit()", "NegatedAtom lit()"]
-        ["var2", 0, 2, "Atom seeing()", "NegatedAtom seeing()"]
-        ["var3", 1, 2, "Atom safe()", "NegatedAtom safe()"]
-    groups 1
-        [2, "0 0", "0 1"]
-    state 0 1 1 1
-    goal 1 "3 0"
-    operators 4
-        ["enter room", 0, 1, "0 0 0 1", 3]
-        ["press", 1, "0 1", 1, "0 1 1 0", 0]
-        ["toggle", 0, 2, "2 0 1 2 0 1 -1 1", "1 1 1 1 -1 0", 10]
-        ["flicker", 0, 2, "1 0 1 1 -1 0", "0 1 -1 1", 1]
-    rules 2
-        [2, "0 1", "1 0", "2 1 0"]
-        [1, "2 0", "3 1 0"]
-};
+/// The room, where who is in it may turn the lamp on and off at once, which is a disagreement.
+const ROOM: &str = room!(operators 4 ["flicker", 0, 2, "1 0 1 1 -1 0", "0 1 -1 1", 1]);
 
 /// What is asked of the room in a state, with the answer.
 #[derive(Clone, Copy)]
@@ -36,7 +16,7 @@ enum Asked {
     /// Whether the lamp can be pressed.
     IsPressed(bool),
     /// The state to which the operator at a place leads, or none where its effects disagree.
-    Leads(u64, Option<[u64; 4]>),
+    Leads(u64, Option<&'static [u64]>),
 }
 
 /// Effects are read in the old state.
@@ -47,10 +27,10 @@ static ASKED: [([u64; 4], Asked); 11] = [
     ([1, 1, 1, 1], Asked::IsPressed(true)),
     ([0, 1, 1, 1], Asked::IsPressed(false)),
     ([1, 0, 1, 1], Asked::IsPressed(false)),
-    ([0, 1, 1, 1], Asked::Leads(0, Some([1, 1, 1, 1]))),
-    ([1, 1, 1, 1], Asked::Leads(2, Some([1, 0, 1, 1]))),
-    ([1, 0, 1, 1], Asked::Leads(2, Some([1, 1, 1, 1]))),
-    ([0, 0, 1, 1], Asked::Leads(3, Some([0, 1, 1, 1]))),
+    ([0, 1, 1, 1], Asked::Leads(0, Some(&[1, 1, 1, 1]))),
+    ([1, 1, 1, 1], Asked::Leads(2, Some(&[1, 0, 1, 1]))),
+    ([1, 0, 1, 1], Asked::Leads(2, Some(&[1, 1, 1, 1]))),
+    ([0, 0, 1, 1], Asked::Leads(3, Some(&[0, 1, 1, 1]))),
     ([1, 0, 1, 1], Asked::Leads(3, None)),
 ];
 
@@ -82,14 +62,6 @@ fn successor(
     }
 }
 
-fn is_state(found: &Option<Vec<u64>>, wanted: &Option<[u64; 4]>) -> bool {
-    match (found, wanted) {
-        (Some(found), Some(wanted)) => found.as_slice() == wanted.as_slice(),
-        (None, None) => true,
-        _ => false,
-    }
-}
-
 fn are_values(
     alloc: Global,
     task: &SasTask,
@@ -105,10 +77,10 @@ fn leads(
     task: &SasTask,
     state: &[u64; 4],
     place: u64,
-    wanted: &Option<[u64; 4]>,
+    wanted: Option<&[u64]>,
 ) -> Result<bool, AllocError> {
     let found = successor(alloc, task, state, place)?;
-    Ok(is_state(&found, wanted))
+    Ok(found.as_deref() == wanted)
 }
 
 fn is_answered(
@@ -120,7 +92,7 @@ fn is_answered(
     match asked {
         Asked::Values(wanted) => are_values(alloc, task, state, &wanted),
         Asked::IsPressed(wanted) => Ok(is_applicable(alloc, task, state)? == wanted),
-        Asked::Leads(place, wanted) => leads(alloc, task, state, place, &wanted),
+        Asked::Leads(place, wanted) => leads(alloc, task, state, place, wanted),
     }
 }
 

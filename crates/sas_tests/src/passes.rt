@@ -1,7 +1,6 @@
 //! Copies, the order of variables, and books of passes, whose passes are applied in turn.
 
-use crate::tasks::{GATE, HALL, Making, SWITCH, assert_made, last_text, task, task_of};
-use crate::text::ROOM;
+use crate::tasks::{GATE, HALL, LAMP, Making, ROOM, SWITCH, assert_made, has_text, task, task_of};
 use order_variables::order_variables;
 use pass_book::PassKind::{self, H2, Order, Relevance};
 use pass_book::{AddEnd, ApplyEnd, Book, Pass};
@@ -10,20 +9,6 @@ use pass_relevance::relevant;
 use sas_task::SasTask;
 use std::alloc::{AllocError, Global};
 use std::test::*;
-
-/// A lamp.
-const LAMP: &str = task! {
-    metric 0
-    variables 1
-        ["var0", -1, 2, "Atom on()", "Atom off()"]
-    groups 1
-        [2, "0 0", "0 1"]
-    state 1
-    goal 1 "0 0"
-    operators 1
-        ["flip", 0, 1, "0 0 1 0", 1]
-    rules 0
-};
 
 /// The room with its variables ordered by how many operators change them.
 const REORDERED: &str = task! {
@@ -176,31 +161,19 @@ static BOOK_OF_EVERY_PASS: [Row; 8] = [
     (&[H2, Relevance, Order], HALL, Ok(WALK)),
 ];
 
-fn is_text(
-    alloc: Global,
-    new: SasTask,
-    wanted: Result<&str, ApplyEnd>,
-) -> Result<bool, AllocError> {
-    let text = last_text(alloc, new)?;
-    Ok(matches!(wanted, Ok(wanted) if text.as_slice() == wanted.as_bytes()))
-}
-
-/// Whether the book applies passes as the row says.
+/// Whether the book applies passes as the row says. No task has the empty text.
 fn is_applied(alloc: Global, book: &Book, row: &Row) -> Result<bool, AllocError> {
     match book.apply(alloc, row.0, task_of(alloc, row.1.as_bytes())?) {
-        Ok(new) => is_text(alloc, new, row.2),
+        Ok(new) => has_text(alloc, new, row.2.unwrap_or("").as_bytes()),
         Err(end) => Ok(matches!(row.2, Err(wanted) if end == wanted)),
     }
 }
 
 /// Whether the book has the order of variables or not, and applies passes as the rows say.
 fn are_applied(alloc: Global, book: &Book, has_order: bool, rows: &[Row]) -> bool {
-    for row in rows {
-        if !matches!(is_applied(alloc, book, row), Ok(true)) {
-            return false;
-        }
-    }
-    book.has(Order) == has_order
+    rows.iter()
+        .all(|row| matches!(is_applied(alloc, book, row), Ok(true)))
+        && book.has(Order) == has_order
 }
 
 /// Whether an empty book has no pass.
@@ -248,19 +221,12 @@ fn is_in_turn(alloc: Global) -> Result<bool, AllocError> {
     let relevance = Box::new(alloc, |alloc: Global, task: &SasTask| relevant(alloc, task))?;
     let h2 = Box::new(alloc, |alloc: Global, task: &SasTask| prune(alloc, task))?;
     let mut book = Book::new(alloc);
-    let has_order = book
-        .add(Pass {
-            kind: Order,
-            run: order,
-        })
-        .is_ok();
-    let has_relevance = book
-        .add(Pass {
-            kind: Relevance,
-            run: relevance,
-        })
-        .is_ok();
-    let has_h2 = book.add(Pass { kind: H2, run: h2 }).is_ok();
+    let (kind, run) = (Order, order);
+    let has_order = book.add(Pass { kind, run }).is_ok();
+    let (kind, run) = (Relevance, relevance);
+    let has_relevance = book.add(Pass { kind, run }).is_ok();
+    let (kind, run) = (H2, h2);
+    let has_h2 = book.add(Pass { kind, run }).is_ok();
     let is_applied = are_applied(alloc, &book, true, &BOOK_OF_EVERY_PASS);
     Ok(has_order && has_relevance && has_h2 && is_applied)
 }

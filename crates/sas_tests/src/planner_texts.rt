@@ -1,84 +1,28 @@
 //! A text as the planner's own translator writes it: an operator without objects has a space at the end of its name.
 
 use crate::reading::{Refused, assert_refused, is_read_as, with_line};
+use crate::tasks::task;
 use sas_reader::SasPlace;
-use std::alloc::{AllocError, Global};
+use std::alloc::AllocError;
 use std::test::*;
 
-const BELL: &[u8] = b"begin_version
-3
-end_version
-begin_metric
-1
-end_metric
-3
-begin_variable
-var0
--1
-2
-Atom at(a)
-Atom at(b)
-end_variable
-begin_variable
-var1
--1
-2
-Atom rung()
-NegatedAtom rung()
-end_variable
-begin_variable
-var2
-0
-2
-Atom heard()
-NegatedAtom heard()
-end_variable
-1
-begin_mutex_group
-2
-0 0
-0 1
-end_mutex_group
-begin_state
-0
-1
-1
-end_state
-begin_goal
-2
-0 0
-2 0
-end_goal
-3
-begin_operator
-move a b
-0
-1
-0 0 0 1
-5
-end_operator
-begin_operator
-move b a
-0
-1
-0 0 1 0
-5
-end_operator
-begin_operator
-ring 
-1
-0 1
-1
-0 1 -1 0
-0
-end_operator
-1
-begin_rule
-1
-1 0
-2 1 0
-end_rule
-";
+const BELL: &str = task! {
+    metric 1
+    variables 3
+        ["var0", -1, 2, "Atom at(a)", "Atom at(b)"]
+        ["var1", -1, 2, "Atom rung()", "NegatedAtom rung()"]
+        ["var2", 0, 2, "Atom heard()", "NegatedAtom heard()"]
+    groups 1
+        [2, "0 0", "0 1"]
+    state 0 1 1
+    goal 2 "0 0" "2 0"
+    operators 3
+        ["move a b", 0, 1, "0 0 0 1", 5]
+        ["move b a", 0, 1, "0 0 1 0", 5]
+        ["ring ", 1, "0 1", 1, "0 1 -1 0", 0]
+    rules 1
+        [1, "1 0", "2 1 0"]
+};
 
 // What other translators may write and isn't read.
 static REFUSED: [Refused; 10] = [
@@ -104,13 +48,13 @@ static REFUSED: [Refused; 10] = [
     (71, b"2 0", 72, SasPlace::Rules),
 ];
 
-fn is_bell_read(alloc: Global) -> Result<bool, AllocError> {
-    let unspaced = with_line(alloc, BELL, 61, b"ring")?;
-    is_read_as(alloc, BELL, unspaced.as_slice())
-}
-
 #[test]
-fn what_the_planner_writes_is_read_and_what_others_may_write_is_refused(rt: HostRuntime) {
-    assert!(rt; matches!(is_bell_read(rt.alloc()), Ok(true)));
-    assert_refused(&rt, rt.alloc(), BELL, &REFUSED);
+fn what_the_planner_writes_is_read_and_what_others_may_write_is_refused(
+    rt: HostRuntime,
+) -> Result<(), AllocError> {
+    let bell = BELL.as_bytes();
+    let unspaced = with_line(rt.alloc(), bell, 61, b"ring")?;
+    assert!(rt; is_read_as(rt.alloc(), bell, &unspaced)?);
+    assert_refused(&rt, rt.alloc(), bell, &REFUSED);
+    Ok(())
 }

@@ -1,7 +1,6 @@
 //! Tables of plan files: what each comes to beside a small task.
 
-use crate::tasks::{SWITCH, task_of};
-use crate::text::ROOM;
+use crate::tasks::{ROOM, SWITCH, task_of};
 use plan_backmap::{MapEnd, map_plan};
 use plan_lines::{Mapped, Step, plan_text};
 use sas_task::SasTask;
@@ -70,34 +69,31 @@ static ROOM_STEPS: [(&[&[u8]], u64); 4] = [
 /// Whether the step has these words and this cost.
 fn is_step(step: &Step, words: &[&[u8]], cost: u64) -> bool {
     let found = step.words.as_slice();
-    for (word, expected) in found.iter().zip(words) {
-        if word.as_slice() != *expected {
-            return false;
-        }
-    }
-    step.cost == cost && found.len() == words.len()
+    step.cost == cost
+        && found.len() == words.len()
+        && found
+            .iter()
+            .zip(words)
+            .all(|(word, wanted)| word.as_slice() == *wanted)
 }
 
 /// Whether the plan flips the switch so often, and does nothing else.
 fn are_flips(mapped: &Mapped, flips: u64) -> bool {
     let steps = mapped.steps.as_slice();
-    for step in steps {
-        if !is_step(step, &[b"flip"], 1) {
-            return false;
-        }
-    }
-    steps.len() as u64 == flips && mapped.total == flips
+    steps.len() as u64 == flips
+        && mapped.total == flips
+        && steps.iter().all(|step| is_step(step, &[b"flip"], 1))
 }
 
 /// Whether the plan is that for the room.
 fn is_room_plan(mapped: &Mapped) -> bool {
     let steps = mapped.steps.as_slice();
-    for (step, row) in steps.iter().zip(&ROOM_STEPS) {
-        if !is_step(step, row.0, row.1) {
-            return false;
-        }
-    }
-    steps.len() == ROOM_STEPS.len() && mapped.total == 16
+    steps.len() == ROOM_STEPS.len()
+        && mapped.total == 16
+        && steps
+            .iter()
+            .zip(&ROOM_STEPS)
+            .all(|(step, row)| is_step(step, row.0, row.1))
 }
 
 /// Whether this comes of a plan.
@@ -151,14 +147,11 @@ fn has_steps_and_lines(alloc: Global, mapped: &Mapped) -> Result<bool, AllocErro
     Ok(is_room_plan(mapped) && has_own && has_units)
 }
 
-fn is_room_mapped(alloc: Global) -> Result<bool, AllocError> {
-    match &mapped_beside(alloc, ROOM, ROOM_PLAN) {
-        Ok(mapped) => has_steps_and_lines(alloc, mapped),
-        Err(_) => Ok(false),
-    }
-}
-
 #[test]
-fn a_mapped_plan_has_its_steps_and_a_line_for_each(rt: HostRuntime) {
-    assert!(rt; matches!(is_room_mapped(rt.alloc()), Ok(true)));
+fn a_mapped_plan_has_its_steps_and_a_line_for_each(rt: HostRuntime) -> Result<(), AllocError> {
+    match &mapped_beside(rt.alloc(), ROOM, ROOM_PLAN) {
+        Ok(mapped) => assert!(rt; has_steps_and_lines(rt.alloc(), mapped)?),
+        Err(_) => panic!(rt; "no plan"),
+    }
+    Ok(())
 }

@@ -1,7 +1,6 @@
 //! Tasks that are their own projections, since each value of each variable is kept.
 
-use crate::tasks::{SWITCH, has_text, task_of};
-use crate::text::ROOM;
+use crate::tasks::{ROOM, SWITCH, has_text, task_of};
 use std::alloc::{AllocError, Global};
 use std::test::*;
 use task_simplifier::simplify;

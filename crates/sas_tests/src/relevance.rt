@@ -1,7 +1,6 @@
 //! The relevance pass over tasks that are written out by hand.
 
-use crate::tasks::{self, Making, assert_made, task};
-use crate::text::ROOM;
+use crate::tasks::{self, Making, ROOM, assert_made, task};
 use std::test::*;
 
 /// `b` is to have `p`: that `a` has it is of no account.

@@ -1,4 +1,4 @@
-//! Tasks that are written out by hand: a switch, a gate, a hall, and others whose texts are those of small PDDL tasks.
+//! Tasks that are written out by hand: a lamp, a room, a gate, a hall, and others whose texts are those of small PDDL tasks.
 
 use order_variables::order_variables;
 use pass_h2::prune;
@@ -36,7 +36,21 @@ macro_rules! task {
 
 pub(crate) use task;
 
-/// A lamp that is off and can be switched on, with one variable for each fact.
+/// A lamp that is off and can be switched on.
+pub(crate) const LAMP: &str = task! {
+    metric 0
+    variables 1
+        ["var0", -1, 2, "Atom on()", "Atom off()"]
+    groups 1
+        [2, "0 0", "0 1"]
+    state 1
+    goal 1 "0 0"
+    operators 1
+        ["flip", 0, 1, "0 0 1 0", 1]
+    rules 0
+};
+
+/// The same with one variable for each fact.
 pub(crate) const SWITCH: &str = task! {
     metric 0
     variables 2
@@ -91,6 +105,37 @@ pub(crate) const GATE: &str = task! {
     rules 1
         [1, "1 0", "5 1 0"]
 };
+
+/// The room with a lamp, with one more operator or none.
+macro_rules! room {
+    (operators $operators:literal $([$($operator:literal),*])*) => {
+        task! {
+            metric 1
+            variables 4
+                ["var0", -1, 2, "Atom at(hall)", "Atom at(room)"]
+                ["var1", -1, 2, "Atom lit()", "NegatedAtom lit()"]
+                ["var2", 0, 2, "Atom seeing()", "NegatedAtom seeing()"]
+                ["var3", 1, 2, "Atom safe()", "NegatedAtom safe()"]
+            groups 1
+                [2, "0 0", "0 1"]
+            state 0 1 1 1
+            goal 1 "3 0"
+            operators $operators
+                ["enter room", 0, 1, "0 0 0 1", 3]
+                ["press", 1, "0 1", 1, "0 1 1 0", 0]
+                ["toggle", 0, 2, "2 0 1 2 0 1 -1 1", "1 1 1 1 -1 0", 10]
+                $([$($operator),*])*
+            rules 2
+                [2, "0 1", "1 0", "2 1 0"]
+                [1, "2 0", "3 1 0"]
+        }
+    };
+}
+
+pub(crate) use room;
+
+/// Who is in the room while it is lit can see, and who can see is safe.
+pub(crate) const ROOM: &str = room!(operators 3);
 
 /// The hall, with one more variable, operator and rule, or none.
 macro_rules! hall {
@@ -158,10 +203,7 @@ pub(crate) fn read(alloc: Global, text: &[u8]) -> Result<SasTask, ReadTaskEnd> {
 
 /// The task of the text. A text that isn't one gives none, as where memory is wanting.
 pub(crate) fn task_of(alloc: Global, text: &[u8]) -> Result<SasTask, AllocError> {
-    match read(alloc, text) {
-        Ok(task) => Ok(task),
-        Err(_) => Err(AllocError),
-    }
+    read(alloc, text).map_err(|_| AllocError)
 }
 
 /// The text of the task, without what is known of it, so that no proof of a test carries that.
