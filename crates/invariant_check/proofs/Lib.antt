@@ -2,7 +2,7 @@
 pub mod FormedParts
 pub mod OnePredicate
 pub mod Extended
-pub mod Listed
+mod Listed
 pub mod Sound
 pub mod Weights
 pub mod Verdicts
