@@ -6,13 +6,10 @@ use std::test::*;
 
 /// Whether the searches of these arcs are right, as they always should be. No contract says so.
 fn are_searched(alloc: Global, count: usize, pairs: &[(usize, usize)]) -> Result<bool, AllocError> {
-    let mut arcs = Vec::new(alloc);
-    for (from, to) in pairs {
-        arcs.push(Arc {
-            from: *from,
-            to: *to,
-        })?;
-    }
+    let arcs: Vec<Arc> = pairs
+        .iter()
+        .map(|&(from, to)| Arc { from, to })
+        .collect(alloc)?;
     let searches = Searches::new(alloc, count, &arcs)?;
     Ok(searches.are_right(count, &arcs))
 }
@@ -52,18 +49,14 @@ fn mixed(alloc: Global, seed: u64) -> Result<Vec<(usize, usize)>, AllocError> {
     Ok(pairs)
 }
 
-fn is_mixed_graph_searched(alloc: Global, seed: u64) -> Result<bool, AllocError> {
-    let pairs = mixed(alloc, seed)?;
-    are_searched(alloc, 8, &pairs)
-}
-
 #[test]
-fn searches_of_small_and_of_mixed_graphs_are_right(rt: HostRuntime) {
+fn searches_of_small_and_of_mixed_graphs_are_right(rt: HostRuntime) -> Result<(), AllocError> {
     for graph in &SMALL_GRAPHS {
-        assert!(rt; matches!(are_searched(rt.alloc(), 6, graph), Ok(true)));
+        assert!(rt; are_searched(rt.alloc(), 6, graph)?);
     }
     for seed in 0..2000_u64 {
-        let answer = is_mixed_graph_searched(rt.alloc(), seed);
-        assert!(rt; matches!(answer, Ok(true)), "{seed}");
+        let pairs = mixed(rt.alloc(), seed)?;
+        assert!(rt; are_searched(rt.alloc(), 8, &pairs)?, "{seed}");
     }
+    Ok(())
 }

@@ -92,41 +92,25 @@ fn after_step(
 
 /// The two texts. One that isn't read counts as want of memory.
 fn read(alloc: Global, domain: &str, problem: &str) -> Result<(Domain, Problem), AllocError> {
-    let Ok(domain) = domain_of(alloc, domain) else {
-        return Err(AllocError);
-    };
-    let Ok(problem) = problem_of(alloc, problem) else {
-        return Err(AllocError);
-    };
+    let domain = domain_of(alloc, domain).map_err(|_| AllocError)?;
+    let problem = problem_of(alloc, problem).map_err(|_| AllocError)?;
     Ok((domain, problem))
 }
 
 /// The initial state of a problem.
 fn stated(alloc: Global, problem: &str) -> Result<Vec<GroundAtom>, AllocError> {
-    let Ok(problem) = problem_of(alloc, problem) else {
-        return Err(AllocError);
-    };
+    let problem = problem_of(alloc, problem).map_err(|_| AllocError)?;
     let state = state(alloc, &problem);
     drop(problem);
     state
 }
 
 fn is_within(atom: &GroundAtom, others: &[GroundAtom]) -> bool {
-    for other in others {
-        if atom.predicate == other.predicate && atom.objects == other.objects {
-            return true;
-        }
-    }
-    false
+    others.iter().any(|other| atom.predicate == other.predicate && atom.objects == other.objects)
 }
 
 fn are_within(atoms: &[GroundAtom], others: &[GroundAtom]) -> bool {
-    for atom in atoms {
-        if !is_within(atom, others) {
-            return false;
-        }
-    }
-    true
+    atoms.iter().all(|atom| is_within(atom, others))
 }
 
 fn are_same(atoms: &[GroundAtom], others: &[GroundAtom]) -> bool {
@@ -337,14 +321,16 @@ static COSTS: &[Row] = &[
     (FIT, PRICED, "b", Asked::Costs(Some(0))),
 ];
 
-/// Entries over `a` of type `t` and `b` and `c` of type `u`, which are those of a full state or not.
-macro_rules! states {
-    ($(($state:literal, $is_full:expr),)*) => {
-        &[$((LIGHT, problem!(typed $state), "", Asked::IsFull($is_full)),)*]
+/// Texts in problems of one sort, of which one thing is asked, with the answers.
+macro_rules! asked {
+    ($domain:ident $around:ident $asked:ident $(($text:literal, $wanted:expr),)*) => {
+        &[$(($domain, problem!($around $text), "", Asked::$asked($wanted)),)*]
     };
 }
 
-static FULL_STATES: &[Row] = states! {
+/// Entries over `a` of type `t` and `b` and `c` of type `u`, which are those of a full state or not.
+static FULL_STATES: &[Row] = asked! {
+    LIGHT typed IsFull
     ("(dark)", true),
     ("", false),
     ("(p a) (seen a)", true),
@@ -358,13 +344,8 @@ static FULL_STATES: &[Row] = states! {
 };
 
 /// Goals of a problem with the boat `ship`, (p) twice and (not (q)), which its initial state reaches or not.
-macro_rules! conditions {
-    ($(($goal:literal, $is_reached:expr),)*) => {
-        &[$((PORT, problem!(ship $goal), "", Asked::Reaches($is_reached)),)*]
-    };
-}
-
-static CONDITIONS: &[Row] = conditions! {
+static CONDITIONS: &[Row] = asked! {
+    PORT ship Reaches
     ("()", true),
     ("(and)", true),
     ("(or)", false),

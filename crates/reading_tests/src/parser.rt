@@ -3,7 +3,6 @@
 use crate::reading::{domain_of, problem_of};
 use pddl_lexer::At;
 use pddl_parser::{Action, Condition, Derived, Domain, Effect, Head, Init, Named, Problem, Typed};
-use std::alloc::Global;
 use std::test::*;
 
 const DOMAIN: &str = "(define (domain switch) ; a lamp
@@ -54,24 +53,6 @@ fn is_switch(domain: &Domain) -> bool {
 
 fn is_lamp(problem: &Problem) -> bool {
     !problem.metric && is_off(problem.init.as_slice()) && is_atom(&problem.goal, "on", 3, 9)
-}
-
-fn is_switch_read(alloc: Global) -> bool {
-    let Ok(domain) = domain_of(alloc, DOMAIN) else {
-        return false;
-    };
-    let is_read = is_switch(&domain);
-    drop(domain);
-    is_read
-}
-
-fn is_lamp_read(alloc: Global) -> bool {
-    let Ok(problem) = problem_of(alloc, PROBLEM) else {
-        return false;
-    };
-    let is_read = is_lamp(&problem);
-    drop(problem);
-    is_read
 }
 
 /// Whether the second of three constants has one type, and the third none.
@@ -125,7 +106,7 @@ fn is_typed(domain: &Domain) -> bool {
 /// Sections and keys stand in any order.
 #[test]
 fn files_are_read(rt: HostRuntime) {
-    assert!(rt; is_switch_read(rt.alloc()));
-    assert!(rt; is_lamp_read(rt.alloc()));
+    assert!(rt; matches!(&domain_of(rt.alloc(), DOMAIN), Ok(domain) if is_switch(domain)));
+    assert!(rt; matches!(&problem_of(rt.alloc(), PROBLEM), Ok(problem) if is_lamp(problem)));
     assert!(rt; matches!(&domain_of(rt.alloc(), TYPED), Ok(domain) if is_typed(domain)));
 }

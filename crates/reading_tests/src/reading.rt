@@ -12,19 +12,15 @@ use std::alloc::Global;
 pub(crate) fn domain_of(alloc: Global, text: &str) -> Result<Domain, ParseEnd>
     ensures { IfOk result IsWellSpelled }
 {
-    match read_tree(alloc, text.as_bytes()) {
-        Ok(tree) => parse_domain(alloc, &tree),
-        Err(_) => Err(ParseEnd::NoMemory),
-    }
+    let tree = read_tree(alloc, text.as_bytes()).map_err(|_| ParseEnd::NoMemory)?;
+    parse_domain(alloc, &tree)
 }
 
 pub(crate) fn problem_of(alloc: Global, text: &str) -> Result<Problem, ParseEnd>
     ensures { IfOk result IsWellSpelledProblem }
 {
-    match read_tree(alloc, text.as_bytes()) {
-        Ok(tree) => parse_problem(alloc, &tree),
-        Err(_) => Err(ParseEnd::NoMemory),
-    }
+    let tree = read_tree(alloc, text.as_bytes()).map_err(|_| ParseEnd::NoMemory)?;
+    parse_problem(alloc, &tree)
 }
 
 /// Which sort of file a text is.

@@ -1,6 +1,7 @@
 //! The first fault of one file, by the two calls that read it.
 
-use crate::reading::{File, has_first_fault};
+use crate::reading::File::{self, Domain, Problem};
+use crate::reading::has_first_fault;
 use pddl_lexer::Kind::{
     self, BadName, MissingSection, NotWhole, NumberTooLarge, RepeatedSection, ReservedWord,
     UnsupportedRequirement, UnsupportedSection,
@@ -224,10 +225,8 @@ static ENTRIES: &[Row] = &[
 fn has_fault(alloc: Global, file: File, (before, after): (&str, &str), row: &Row) -> bool {
     let (inside, kind, line, column) = *row;
     let at = At { line, column };
-    match format!(in alloc; "{before}{inside}{after}") {
-        Ok(text) => has_first_fault(alloc, file, &text, Fault { kind, at }),
-        Err(_) => false,
-    }
+    let text = format!(in alloc; "{before}{inside}{after}");
+    matches!(text, Ok(text) if has_first_fault(alloc, file, &text, Fault { kind, at }))
 }
 
 /// Asserts of each row that its text, between those before and after it, has the row's fault as its first.
@@ -244,23 +243,11 @@ fn first_faults_of_one_file(rt: HostRuntime) {
     let effect = "(define (domain d) (:action a :effect\n";
     let init = "(define (problem p) (:init\n";
     let alloc = rt.alloc();
-    assert_faults(&rt, alloc, File::Domain, ("(define (domain ", "))"), NAMES);
-    assert_faults(
-        &rt,
-        alloc,
-        File::Domain,
-        ("(define (domain d)\n", ")"),
-        SECTIONS,
-    );
-    assert_faults(
-        &rt,
-        alloc,
-        File::Domain,
-        (parameters, ")))"),
-        VARIABLE_TYPES,
-    );
-    assert_faults(&rt, alloc, File::Domain, (precondition, "))"), CONDITIONS);
-    assert_faults(&rt, alloc, File::Domain, (effect, "))"), EFFECTS);
-    assert_faults(&rt, alloc, File::Problem, ("(define\n", ")"), PROBLEM);
-    assert_faults(&rt, alloc, File::Problem, (init, "))"), ENTRIES);
+    assert_faults(&rt, alloc, Domain, ("(define (domain ", "))"), NAMES);
+    assert_faults(&rt, alloc, Domain, ("(define (domain d)\n", ")"), SECTIONS);
+    assert_faults(&rt, alloc, Domain, (parameters, ")))"), VARIABLE_TYPES);
+    assert_faults(&rt, alloc, Domain, (precondition, "))"), CONDITIONS);
+    assert_faults(&rt, alloc, Domain, (effect, "))"), EFFECTS);
+    assert_faults(&rt, alloc, Problem, ("(define\n", ")"), PROBLEM);
+    assert_faults(&rt, alloc, Problem, (init, "))"), ENTRIES);
 }
