@@ -173,12 +173,9 @@ fn is_printed(console: &mut MemConsole, printing: &Printing) -> bool {
 }
 
 fn are_printed(console: &mut MemConsole, printings: &[Printing]) -> bool {
-    for printing in printings {
-        if !is_printed(console, printing) {
-            return false;
-        }
-    }
-    true
+    printings
+        .iter()
+        .all(|printing| is_printed(console, printing))
 }
 
 // There is room for five bytes.

@@ -18,10 +18,7 @@ fn is_found<F: Files>(alloc: Global, files: &mut F, reading: &Reading<'_>) -> bo
 
 /// Whether reading the files in turn comes to this.
 pub(crate) fn are_found<F: Files>(alloc: Global, files: &mut F, readings: &[Reading<'_>]) -> bool {
-    for reading in readings {
-        if !is_found(alloc, files, reading) {
-            return false;
-        }
-    }
-    true
+    readings
+        .iter()
+        .all(|reading| is_found(alloc, files, reading))
 }
