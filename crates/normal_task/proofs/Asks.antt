@@ -1,6 +1,5 @@
 -- What the parts of a condition and of its new predicates ask for: predicates that the condition asks for, and new ones of the condition's own that are numbered behind.
-use Rattle.std.proofs.Common.{◌≡◌, ℕ, suc, ◌+◌, ◌<◌, ◌≤◌, Bool, true, false, not, List, [], ◌∷◌, ◌++◌, map, length, refl, sym, subst, arith, inl, inr, ◌⊎◌}
-use Rattle.std.specs.Prelude.{if◌then◌else◌}
+use Rattle.std.proofs.Common.{◌≡◌, ℕ, suc, ◌+◌, ◌<◌, ◌≤◌, Bool, true, false, List, [], ◌∷◌, ◌++◌, map, length, refl, sym, subst, arith, inl, inr, ◌⊎◌}
 use Rattle.std.specs.List.{flat_map}
 use Rattle.pddl_parser.specs.declared.types.Condition.{Condition}
 use Rattle.pddl_parser.specs.declared.types.Domain.{Domain}
@@ -8,16 +7,18 @@ use Rattle.pddl_parser.specs.declared.types.Effect.{Effect}
 use Rattle.pddl_parser.specs.declared.types.Named.{Named}
 use Rattle.pddl_parser.specs.declared.types.Problem.{Problem}
 use Rattle.pddl_parser.specs.declared.types.Typed.{Typed}
+use Rattle.pddl_parser.specs.Words.{Name}
 use Rattle.pddl_parser.proofs.ConditionCases.{Each}
-use Rattle.fault_positions.specs.Mentions.{Mention, Asked, asked_predicates, in_condition, condition_step, in_effect, effect_step}
+use Rattle.fault_positions.specs.Mentions.{Mention, Asked, asked_predicates, in_condition, in_effect, effect_step}
 use Rattle.lists.proofs.Items.{Among, among_left, among_right, among_which, map_source, flat_map_piece}
 use Rattle.normal_task.specs.declared.task.Literal.{Literal}
 use Rattle.normal_task.specs.declared.task.Literal.TheVariants.{Holds, Equal}
 use Rattle.normal_task.specs.Numbers.{predicate_number, ranges_of}
-use Rattle.normal_task.specs.Parts.{Slot, Scope, renumbered, Part, Fresh, Made, in_turn, all_of, moved, joined, paired, with_variables, Known, place_of, fresh_number, free_slots, exists_inside, none_inside, known_step, known, parts}
+use Rattle.normal_task.specs.Parts.{Slot, Scope, renumbered, Part, Fresh, Made, in_turn, all_of, moved, joined, paired, with_variables, Known, place_of, fresh_number, free_slots, exists_inside, none_inside, known, parts}
 use Rattle.normal_task.specs.Normalised.{Rows, row_step, rows_of}
+use Rattle.normal_task.proofs.NumberedFresh.{Numbered, numbered-both}
 use Rattle.normal_task.proofs.Scopes.{length-append}
-use Rattle.normal_task.proofs.ThreeFolds.{by_folds}
+use Rattle.normal_task.proofs.CutCases.{Laws, cuts-shown}
 use Rattle.type_checker.proofs.EffectFolds as four
 
 module _ (domain : Domain) (problem : Problem) (all : List Mention) where
@@ -48,9 +49,11 @@ module _ (domain : Domain) (problem : Problem) (all : List Mention) where
   abbrev pub PartsAsk : ℕ → ℕ → List Part → Type 0
   PartsAsk low high parts = (part : Part) → Among part parts → PartAsks low high part
 
+  abbrev AsksAt : ℕ → ℕ → Fresh → Type 0
+  AsksAt high low fresh = PartsAsk (suc low) high fresh.parts
+
   abbrev pub FreshAsks : ℕ → ℕ → List Fresh → Type 0
-  FreshAsks low high [] = Unit {0}
-  FreshAsks low high (fresh ∷ more) = PartsAsk (suc low) high fresh.parts × FreshAsks (suc low) high more
+  FreshAsks low high = Numbered (AsksAt high) low
 
   parts-wider : (low low' high high' : ℕ) → low' ≤ low → high ≤ high' → (parts : List Part) → PartsAsk low high parts → PartsAsk low' high' parts
   parts-wider low low' high high' less more parts ask part among l inside = wider low low' high high' less more l (ask part among l inside)
@@ -58,12 +61,6 @@ module _ (domain : Domain) (problem : Problem) (all : List Mention) where
   fresh-higher : (low high high' : ℕ) → high ≤ high' → (fresh : List Fresh) → FreshAsks low high fresh → FreshAsks low high' fresh
   fresh-higher low high high' more [] ask = tt
   fresh-higher low high high' more (first ∷ fresh) ask = (parts-wider (suc low) (suc low) high high' (omega arith) more first.parts ask.0, fresh-higher (suc low) high high' more fresh ask.1)
-
-  fresh-both : (low high : ℕ) (first second : List Fresh) → FreshAsks low high first → FreshAsks (low + length first) high second → FreshAsks low high (first ++ second)
-  fresh-both low high [] second one other = subst (λ (n : ℕ). FreshAsks n high second) (let same : low + length {A = Fresh} [] ≡ low = omega arith in same) other
-  fresh-both low high (fresh ∷ first) second one other =
-      let later : low + length (fresh ∷ first) ≡ suc low + length first = omega arith in
-      (one.0, fresh-both (suc low) high first second one.1 (subst (λ (n : ℕ). FreshAsks n high second) later other))
 
   -- ---- what is made
 
@@ -77,7 +74,7 @@ module _ (domain : Domain) (problem : Problem) (all : List Mention) where
   fresh-two : (next : ℕ) (f g : List Fresh) → FreshAsks next (next + length f) f → FreshAsks (next + length f) (next + length f + length g) g → FreshAsks next (next + length (f ++ g)) (f ++ g)
   fresh-two next f g one other =
       let size = length-append f g in
-      fresh-both next (next + length (f ++ g)) f g (fresh-higher next (next + length f) (next + length (f ++ g)) (omega (arith, size)) f one)
+      numbered-both (AsksAt (next + length (f ++ g))) next f g (fresh-higher next (next + length f) (next + length (f ++ g)) (omega (arith, size)) f one)
       (fresh-higher (next + length f) (next + length f + length g) (next + length (f ++ g)) (omega (arith, size)) g other)
 
   asks-moved : (low high around by : ℕ) (l : Literal) → Asks low high l → Asks low high (moved around by l)
@@ -174,72 +171,37 @@ module _ (domain : Domain) (problem : Problem) (all : List Mention) where
         );
       }
 
-  abbrev CutAsks : Known → Unit {0} → List Mention → Type 0
-  CutAsks known unused mentions = ((m : Mention) → Among m mentions → Among m all) → (positive : Bool) (scope : Scope) (around : ℕ) → AsksFrom (known.cut positive scope around)
+  abbrev AreAmong : List Mention → Type 0
+  AreAmong mentions = (m : Mention) → Among m mentions → Among m all
 
-  abbrev pub CutOf : Condition → Type 0
-  CutOf condition = CutAsks (known domain problem condition) tt (in_condition condition)
+  abbrev Anywhere : (Name → Bool) → Scope → ℕ → Type 0
+  Anywhere is_free scope around = Unit {0}
 
-  abbrev cuts : Bool → Scope → ℕ → List Known → List (ℕ → Made Part)
-  cuts positive scope around list = map (λ member. member.cut positive scope around) list
+  abbrev Shown : ℕ → ℕ → Made Part → Type 0
+  Shown around = MadeAsks
 
-  members-ask : (positive : Bool) (scope : Scope) (around : ℕ) (members : List Condition) → Each CutOf members → ((m : Mention) → Among m (flat_map (λ mentions. mentions) (map in_condition members)) → Among m all) →
-      Each AsksFrom (cuts positive scope around (map (known domain problem) members))
-  members-ask positive scope around [] each sub = tt
-  members-ask positive scope around (member ∷ members) each sub = (
-    each.0 (λ m among. sub m (among_left m (in_condition member) (flat_map (λ mentions. mentions) (map in_condition members)) among)) positive scope around,
-    members-ask positive scope around members each.1 (λ m among. sub m (among_right m (in_condition member) (flat_map (λ mentions. mentions) (map in_condition members)) among)),
-  )
-
-  pub condition-asks : (condition : Condition) → CutOf condition
-  condition-asks = by_folds Known (Unit {0}) (List Mention) (known_step domain problem) (λ layer. tt) condition_step CutAsks record {
-    at_true = λ at sub positive scope around next. at_truth positive around next;
-    at_atom = λ atom sub positive scope around next.
+  laws : Laws domain problem AreAmong Anywhere Shown
+  laws = record {
+    told_left = λ one other sub m among. sub m (among_left m one other among);
+    told_right = λ one other sub m among. sub m (among_right m one other among);
+    within_left = λ one other scope around within. tt;
+    within_right = λ one other scope around within. tt;
+    at_atom = λ atom sub positive scope around within next.
         record {
           items = one-part next (next + length {A = Fresh} []) (Holds positive (predicate_number domain atom.predicate.name) (map (place_of domain problem scope) atom.terms))
               (inl (record { mention = Asked atom; among = sub (Asked atom) (inl refl); named = atom.predicate; inside = inl refl; same = refl }));
           fresh = tt;
         };
-    at_equal = λ left right at sub positive scope around next.
+    at_equal = λ left right at sub positive scope around within next.
         record { items = one-part next (next + length {A = Fresh} []) (Equal positive (place_of domain problem scope left) (place_of domain problem scope right)) tt; fresh = tt };
-    at_not = λ inside at held sub positive scope around. held sub (not positive) scope around;
-    at_and = λ members at held sub positive scope around next.
-        all_or_turn positive (cuts true scope around (map (known domain problem) members)) (cuts false scope around (map (known domain problem) members)) around next
-        (members-ask true scope around members held sub) (members-ask false scope around members held sub);
-    at_or = λ members at held sub positive scope around next.
-        turn_or_all positive (cuts true scope around (map (known domain problem) members)) (cuts false scope around (map (known domain problem) members)) around next
-        (members-ask true scope around members held sub) (members-ask false scope around members held sub);
-    at_imply = λ premise conclusion at held later sub positive scope around next.
-        let left = held (λ m among. sub m (among_left m (in_condition premise) (in_condition conclusion) among)) in
-        let right = later (λ m among. sub m (among_right m (in_condition premise) (in_condition conclusion) among)) in
-        turn_or_all positive ((known domain problem premise).cut false scope around ∷ (known domain problem conclusion).cut true scope around ∷ [])
-        ((known domain problem premise).cut true scope around ∷ (known domain problem conclusion).cut false scope around ∷ []) around next
-        (left false scope around, (right true scope around, tt)) (left true scope around, (right false scope around, tt));
-    at_forall = λ variables inside at held sub positive scope around next.
-        either positive (none_inside domain problem variables (known domain problem inside) false scope around next) (exists_inside domain problem variables (known domain problem inside) false scope around next) next
-        (none-asks variables (known domain problem inside) false scope around (held (λ m among. sub m (inr among)) false) next)
-        (exists-asks variables (known domain problem inside) false scope around (held (λ m among. sub m (inr among)) false) next);
-    at_exists = λ variables inside at held sub positive scope around next.
-        either positive (exists_inside domain problem variables (known domain problem inside) true scope around next) (none_inside domain problem variables (known domain problem inside) true scope around next) next
-        (exists-asks variables (known domain problem inside) true scope around (held (λ m among. sub m (inr among)) true) next)
-        (none-asks variables (known domain problem inside) true scope around (held (λ m among. sub m (inr among)) true) next);
+    in_turn_shown = λ around. in_turn-asks;
+    all_of_shown = all_of-asks;
+    exists_shown = λ variables inside positive scope around held within. exists-asks variables inside positive scope around (λ scope around. held scope around tt);
+    none_shown = λ variables inside positive scope around held within. none-asks variables inside positive scope around (λ scope around. held scope around tt);
   }
-    where
-      at_truth : (positive : Bool) (around next : ℕ) → MadeAsks next (if positive then all_of around [] next else in_turn [] next)
-      at_truth true around next = all_of-asks around [] tt next
-      at_truth false around next = in_turn-asks [] tt next
 
-      either : (positive : Bool) (one other : Made Part) (next : ℕ) → MadeAsks next one → MadeAsks next other → MadeAsks next (if positive then one else other)
-      either true one other next is is_other = is
-      either false one other next is is_other = is_other
-
-      all_or_turn : (positive : Bool) (ones others : List (ℕ → Made Part)) (around next : ℕ) → Each AsksFrom ones → Each AsksFrom others → MadeAsks next (if positive then all_of around ones next else in_turn others next)
-      all_or_turn true ones others around next each each_other = all_of-asks around ones each next
-      all_or_turn false ones others around next each each_other = in_turn-asks others each_other next
-
-      turn_or_all : (positive : Bool) (ones others : List (ℕ → Made Part)) (around next : ℕ) → Each AsksFrom ones → Each AsksFrom others → MadeAsks next (if positive then in_turn ones next else all_of around others next)
-      turn_or_all true ones others around next each each_other = in_turn-asks ones each next
-      turn_or_all false ones others around next each each_other = all_of-asks around others each_other next
+  pub condition-asks : (condition : Condition) → AreAmong (in_condition condition) → (positive : Bool) (scope : Scope) (around : ℕ) → AsksFrom ((known domain problem condition).cut positive scope around)
+  condition-asks condition sub positive scope around = cuts-shown domain problem AreAmong Anywhere Shown laws condition sub positive scope around tt
 
   -- ---- effects
 
@@ -256,12 +218,12 @@ module _ (domain : Domain) (problem : Problem) (all : List Mention) where
 
   abbrev EffectAsks : Rows domain problem → Unit {0} → Unit {0} → List Mention → Type 0
   EffectAsks rows unused unused' mentions =
-      ((m : Mention) → Among m mentions → Among m all) → (required : List (ℕ → ℕ → Made Part)) → RequiredAsks required → (scope : Scope) (around next : ℕ) → FreshAsks next (next + length (rows required scope around next).fresh) (rows required scope around next).fresh
+      AreAmong mentions → (required : List (ℕ → ℕ → Made Part)) → RequiredAsks required → (scope : Scope) (around next : ℕ) → FreshAsks next (next + length (rows required scope around next).fresh) (rows required scope around next).fresh
 
   abbrev pub EffectOf : Effect → Type 0
   EffectOf effect = EffectAsks (rows_of domain problem effect) tt tt (in_effect effect)
 
-  effects-ask : (members : List Effect) → Each EffectOf members → ((m : Mention) → Among m (flat_map (λ mentions. mentions) (map in_effect members)) → Among m all) → (required : List (ℕ → ℕ → Made Part)) → RequiredAsks required → (scope : Scope) (around next : ℕ) →
+  effects-ask : (members : List Effect) → Each EffectOf members → AreAmong (flat_map (λ mentions. mentions) (map in_effect members)) → (required : List (ℕ → ℕ → Made Part)) → RequiredAsks required → (scope : Scope) (around next : ℕ) →
       FreshAsks next (next + length (in_turn (map (λ member. member required scope around) (map (rows_of domain problem) members)) next).fresh) (in_turn (map (λ member. member required scope around) (map (rows_of domain problem) members)) next).fresh
   effects-ask [] each sub required ask scope around next = tt
   effects-ask (member ∷ members) each sub required ask scope around next =

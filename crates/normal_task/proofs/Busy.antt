@@ -32,10 +32,10 @@ use Rattle.normal_task.specs.Same.{Shows}
 use Rattle.normal_task.proofs.Alls.{all-right}
 use Rattle.normal_task.proofs.Mentioned.{is_known_mention}
 use Rattle.normal_task.proofs.ConditionsMean.{ShowsFull}
-use Rattle.normal_task.proofs.FullStatesMatch.{declared, planning, num, chosen, files-full}
+use Rattle.normal_task.proofs.FullStatesMatch.{planning, num, chosen, files-full}
 use Rattle.normal_task.proofs.Filled.{task-full}
-use Rattle.normal_task.proofs.MadeInTurn.{origin}
-use Rattle.normal_task.proofs.Steps.{is_normal_step, Sound, ActionSound, taken, followed, stand, long, rest-mentioned, given-actions, all-given-in, split-choice, choice-length, names-choice, rows-moved}
+use Rattle.normal_task.proofs.MadeInTurn.{maker}
+use Rattle.normal_task.proofs.Steps.{is_normal_step, Sound, ActionSound, taken, followed, stand, long, rest-mentioned, split-choice, choice-length, names-choice, rows-moved}
 use Rattle.normal_task.proofs.Written.{AreBasic, is_basic_mention, Basic, Image, effect-basic}
 use Rattle.normal_task.proofs.StartsAndGoals.{is_known_entry, goal-of_task, goal-of_files, begins}
 
@@ -127,9 +127,8 @@ module _ (domain : Domain) (problem : Problem) (sound : Sound domain problem) (b
   idle-in_task : IdleWhereFollowed (normal_task (planning domain problem)) (pddl_task domain problem) (λ numbered state. Shows domain problem state numbered)
   idle-in_task numbered_state state shown taken_step numbered_next takes next shown_next =
       let whole = files-full domain problem sound.rules state numbered_state takes.full shown takes.is_full in
-      let given = given-actions domain problem sound takes.full (all-given-in domain problem sound numbered_state takes.full takes.is_full) in
       let is = is_normal_step (planning domain problem) taken_step takes.of_task in
-      let here = origin (schemas domain problem) (declared domain problem) takes.full domain.actions 0 given taken_step.schema (among_contains (planning domain problem).schemas taken_step.schema is.declared) in
+      let here = maker (schemas domain problem) domain.actions 0 taken_step.schema (among_contains (planning domain problem).schemas taken_step.schema is.declared) in
       let action = here.source in
       let parts = precondition_parts domain problem action here.next in
       let later = here.next + length parts.fresh in

@@ -3,9 +3,11 @@ use Rattle.std.proofs.Common.{append-nil, ◌≡◌, ℕ, suc, ◌+◌, Bool, tr
 use Rattle.std.specs.Prelude.{nat_eq, if◌then◌else◌, Option, unwrap_or}
 use Rattle.std.specs.List.{list_all, list_any, flat_map}
 use Rattle.std.specs.Option.{option_map}
+use Rattle.std.specs.Cmp.Lexicographic.{pointwise}
 use Rattle.std.proofs.lemmas.Bool.{and_parts, and_from, or_left, or_right}
 use Rattle.std.proofs.lemmas.Bool.Decides.{nat_tests}
 use Rattle.std.proofs.lemmas.Cmp.{nat_list_eq_equiv}
+use Rattle.std.proofs.lemmas.List.Folds.{flat_map-map}
 use Rattle.lists.specs.Members.{is_among}
 use Rattle.pddl_lexer.specs.declared.position.At.{At}
 use Rattle.pddl_parser.specs.declared.types.Atom.{Atom}
@@ -25,14 +27,15 @@ use Rattle.normal_task.specs.declared.task.Literal.TheVariants.{Holds, Equal}
 use Rattle.normal_task.specs.declared.task.Place.TheVariants.{Variable}
 use Rattle.normal_task.specs.Numbers.{number_in, object_names, predicate_number, ranges_of}
 use Rattle.normal_task.specs.Meaning.{atom_of, State, Binding, object_at, objects_at, choices, answers, is_met}
-use Rattle.normal_task.specs.Parts.{Slot, Scope, renumbered, scope_inside, is_listed, Part, Known, is_term_of, place_of, fresh_number, free_slots, exists_inside, none_inside, cut_step, known_step, known}
+use Rattle.normal_task.specs.Parts.{Slot, Scope, renumbered, scope_inside, Part, Known, is_term_of, place_of, fresh_number, free_slots, exists_inside, none_inside, cut_step, known_step, known}
 use Rattle.normal_task.specs.Normalised.{numbered_atom}
 use Rattle.normal_task.specs.Same.{is_known_atom}
 use Rattle.normal_task.proofs.Anys.{any-map, all-map, any-not, all-not}
 use Rattle.normal_task.proofs.Alls.{all-left, all-right}
 use Rattle.normal_task.proofs.Mentioned.{is_known_mention, is_known_term, is_declared, AreKnown}
 use Rattle.normal_task.proofs.Scopes.{length-append, length-map, Stands, number, is_known, inside-stands, values, slots-stand, slots-typed}
-use Rattle.normal_task.proofs.Fits.{FitsFrom, Fit, members-fit, cuts, InScopes, asked_in, condition-fits}
+use Rattle.normal_task.proofs.CutCases.{asked_in, unlisted-asked, cuts, members-shown}
+use Rattle.normal_task.proofs.Fits.{MadeFits, FitsFrom, Fit, InScopes, laws, condition-fits}
 use Rattle.normal_task.proofs.PartsMean.{some_part, with_variables-met, GivenIn, MeansFrom, EachMeans, in_turn-means, all_of-means}
 use Rattle.normal_task.proofs.ThreeFolds.{by_folds}
 use Rattle.std.proofs.lemmas.Simd.{map-map}
@@ -62,10 +65,6 @@ same-number (first ∷ names) a b known_a known_b = by (is_same a first) (is_sam
     by false true here_a here_b known_a known_b later = let same = nat_list_eq_equiv.congr b first a here_b in let swap = nat_list_eq_equiv.symm first a in let swap2 = nat_list_eq_equiv.symm a b in second_only (number_in names a) ∙ cc
     by false false here_a here_b known_a known_b later = one_later (number_in names a) (number_in names b) ∙ later known_a known_b
 
-flat_map-map : {X Y Z : Type 0} (f : Y → List Z) (g : X → Y) (xs : List X) → flat_map f (map g xs) ≡ flat_map (λ x. f (g x)) xs
-flat_map-map f g [] = refl
-flat_map-map f g (x ∷ xs) = ap (λ l. f (g x) ++ l) (flat_map-map f g xs)
-
 flat_map-same : {X Y : Type 0} (f g : X → List Y) → ((x : X) → f x ≡ g x) → (xs : List X) → flat_map f xs ≡ flat_map g xs
 flat_map-same f g same [] = refl
 flat_map-same f g same (x ∷ xs) = let rest = flat_map-same f g same xs in cc (rest, same x)
@@ -85,6 +84,18 @@ module _ (domain : Domain) (problem : Problem) where
       ∙ map-map (λ (others : List ℕ). num object ∷ others) (map num) (pddl.choices domain problem more)
       ∙ sym (map-map (map num) (λ (others : List Name). object ∷ others) (pddl.choices domain problem more))) names
       ∙ sym (map_flat_map (map num) (λ object. map (λ others. object ∷ others) (pddl.choices domain problem more)) names)
+
+  -- numbers are the same where the names are
+  pub same-objects : (xs ys : List Name) → list_all (is_known domain problem) xs ≡ true → list_all (is_known domain problem) ys ≡ true → pointwise nat_eq (map (number domain problem) xs) (map (number domain problem) ys) ≡ pointwise is_same xs ys
+  same-objects [] [] known_xs known_ys = refl
+  same-objects [] (y ∷ ys) known_xs known_ys = refl
+  same-objects (x ∷ xs) [] known_xs known_ys = refl
+  same-objects (x ∷ xs) (y ∷ ys) known_xs known_ys =
+      let one = and_parts (is_known domain problem x) (list_all (is_known domain problem) xs) known_xs in
+      let other = and_parts (is_known domain problem y) (list_all (is_known domain problem) ys) known_ys in
+      let here = same-number (object_names domain problem) x y one.0 other.0 in
+      let rest = same-objects xs ys one.1 other.1 in
+      cc (here, rest)
 
   -- ---- terms
 
@@ -178,11 +189,8 @@ module _ (domain : Domain) (problem : Problem) where
         subst (λ (n : ℕ). GivenIn declared numbered next (k.cut positive inside n next).fresh → some_part numbered (binding ++ map (number domain problem) names) (k.cut positive inside n next).items ≡ answers positive (truth (pddl.bound variables names named))) long
         (held inside (pddl.bound variables names named) (binding ++ map (number domain problem) names) stand next)
 
-    unlisted-asked : (variables : List Typed) (k : Known) (name : Name) → k.is_free name ≡ true → is_listed variables name ≡ false → asked_in domain problem variables k name ≡ true
-    unlisted-asked variables k name free unlisted = cc (free, unlisted)
-
     exists-means : (variables : List Typed) (k : Known) (truth : pddl.Binding → Bool) (positive : Bool) → Held k truth positive →
-        (scope : Scope) (named : pddl.Binding) (binding : Binding) → Stand (asked_in domain problem variables k) scope named binding →
+        (scope : Scope) (named : pddl.Binding) (binding : Binding) → Stand (asked_in variables k) scope named binding →
         MeansFrom declared numbered binding (exists_inside domain problem variables k positive scope (length binding))
         (list_any (λ names. answers positive (truth (pddl.bound variables names named))) (pddl.choices domain problem variables))
     exists-means variables k truth positive held scope named binding stand next given =
@@ -197,7 +205,7 @@ module _ (domain : Domain) (problem : Problem) where
         (λ name free. inside-stands domain problem variables names (length binding) scope named binding name refl among (λ unlisted. stand name (unlisted-asked variables k name free unlisted))) given)
 
     exists-means-of : (variables : List Typed) (k : Known) (truth : pddl.Binding → Bool) (positive : Bool) → Held k truth positive →
-        (scope : Scope) (named : pddl.Binding) (binding : Binding) (around : ℕ) → length binding ≡ around → Stand (asked_in domain problem variables k) scope named binding →
+        (scope : Scope) (named : pddl.Binding) (binding : Binding) (around : ℕ) → length binding ≡ around → Stand (asked_in variables k) scope named binding →
         MeansFrom declared numbered binding (exists_inside domain problem variables k positive scope around)
         (list_any (λ names. answers positive (truth (pddl.bound variables names named))) (pddl.choices domain problem variables))
     exists-means-of variables k truth positive held scope named binding around long stand next =
@@ -207,7 +215,7 @@ module _ (domain : Domain) (problem : Problem) where
 
     -- some objects of the variables make the inside true exactly where the derived atom is true
     none-means : (variables : List Typed) (k : Known) (truth : pddl.Binding → Bool) (positive : Bool) → Held k truth positive →
-        (scope : Scope) (named : pddl.Binding) (binding : Binding) → Stand (asked_in domain problem variables k) scope named binding →
+        (scope : Scope) (named : pddl.Binding) (binding : Binding) → Stand (asked_in variables k) scope named binding →
         MeansFrom declared numbered binding (none_inside domain problem variables k positive scope (length binding))
         (not (list_any (λ names. answers positive (truth (pddl.bound variables names named))) (pddl.choices domain problem variables)))
     none-means variables k truth positive held scope named binding stand next given =
@@ -216,9 +224,9 @@ module _ (domain : Domain) (problem : Problem) where
         only-met binding (Holds false (fresh_number domain problem next) (map (λ (slot : Slot). Variable slot.place) arguments))
         ∙ ap (λ (os : List ℕ). not (numbered (atom_of (declared + next) os))) (map-map (object_at binding) (λ (slot : Slot). Variable slot.place) arguments)
         ∙ ap not
-        (given.0 objects (slots-typed domain problem (asked_in domain problem variables k) scope named binding stand)
+        (given.0 objects (slots-typed domain problem (asked_in variables k) scope named binding stand)
         ∙ exists-means-of variables k truth positive held (renumbered arguments 0 []) named objects (length arguments) (length-map (λ (slot : Slot). get_or binding slot.place 0) arguments)
-        (λ name asked. slots-stand domain problem (asked_in domain problem variables k) scope named binding name asked (stand name asked)) (suc next) given.1)
+        (λ name asked. slots-stand domain problem (asked_in variables k) scope named binding name asked (stand name asked)) (suc next) given.1)
 
     -- ---- members
 
@@ -230,7 +238,7 @@ module _ (domain : Domain) (problem : Problem) where
 
     members-mean : (positive : Bool) (scope : Scope) (named : pddl.Binding) (binding : Binding) (members : List Condition) → Each Meant members → AreKnown domain problem (flat_map (λ mentions. mentions) (map in_condition members)) →
         Stand (λ name. list_any (λ (member : Known). member.is_free name) (map (known domain problem) members)) scope named binding →
-        EachMeans declared numbered binding (cuts domain problem positive scope (length binding) (map (known domain problem) members)) (truths positive named members)
+        EachMeans declared numbered binding (cuts positive scope (length binding) (map (known domain problem) members)) (truths positive named members)
     members-mean positive scope named binding [] each mentioned stand = tt
     members-mean positive scope named binding (member ∷ members) each mentioned stand = (
       each.0 (all-left _ (in_condition member) (flat_map (λ mentions. mentions) (map in_condition members)) mentioned) positive scope named binding
@@ -248,9 +256,9 @@ module _ (domain : Domain) (problem : Problem) where
 
     each-fits : (positive : Bool) (scope : Scope) (named : pddl.Binding) (binding : Binding) (members : List Condition) → AreKnown domain problem (flat_map (λ mentions. mentions) (map in_condition members)) →
         Stand (λ name. list_any (λ (member : Known). member.is_free name) (map (known domain problem) members)) scope named binding →
-        Each (FitsFrom declared (length binding)) (cuts domain problem positive scope (length binding) (map (known domain problem) members))
+        Each (FitsFrom declared (length binding)) (cuts positive scope (length binding) (map (known domain problem) members))
     each-fits positive scope named binding members mentioned stand =
-        members-fit domain problem positive scope (length binding) members (all-fit members) mentioned (in_scopes _ scope named binding stand)
+        members-shown domain problem (AreKnown domain problem) (InScopes domain problem) (MadeFits declared) (laws domain problem) positive scope (length binding) members (all-fit members) mentioned (in_scopes _ scope named binding stand)
 
     all-truths : (positive : Bool) (named : pddl.Binding) (members : List Condition) → list_all (λ truth. truth) (truths positive named members) ≡ list_all (λ truth. answers positive (truth named)) (map (holds.holds domain problem full) members)
     all-truths positive named members = all-map (λ truth. truth) (λ (truth : pddl.Binding → Bool). answers positive (truth named)) (map (holds.holds domain problem full) members)
@@ -265,23 +273,23 @@ module _ (domain : Domain) (problem : Problem) where
     and-means : (members : List Condition) (at : At) → Each Meant members →
         Means (known_step domain problem (Condition-F.And (map (known domain problem) members) at)) (holds.holds_step domain problem full (Condition-F.And (map (holds.holds domain problem full) members) at)) (condition_step (Condition-F.And (map in_condition members) at))
     and-means members at each mentioned true scope named binding stand next given =
-        all_of-means declared numbered binding (cuts domain problem true scope (length binding) (map (known domain problem) members)) (truths true named members)
+        all_of-means declared numbered binding (cuts true scope (length binding) (map (known domain problem) members)) (truths true named members)
         (each-fits true scope named binding members mentioned stand) (members-mean true scope named binding members each mentioned stand) next given
         ∙ all-truths true named members
     and-means members at each mentioned false scope named binding stand next given =
-        in_turn-means declared numbered binding (cuts domain problem false scope (length binding) (map (known domain problem) members)) (truths false named members) (members-mean false scope named binding members each mentioned stand) next given
+        in_turn-means declared numbered binding (cuts false scope (length binding) (map (known domain problem) members)) (truths false named members) (members-mean false scope named binding members each mentioned stand) next given
         ∙ any-truths false named members
         ∙ any-not (λ (truth : pddl.Binding → Bool). truth named) (map (holds.holds domain problem full) members)
 
     or-means : (members : List Condition) (at : At) → Each Meant members →
         Means (known_step domain problem (Condition-F.Or (map (known domain problem) members) at)) (holds.holds_step domain problem full (Condition-F.Or (map (holds.holds domain problem full) members) at)) (condition_step (Condition-F.Or (map in_condition members) at))
     or-means members at each mentioned false scope named binding stand next given =
-        all_of-means declared numbered binding (cuts domain problem false scope (length binding) (map (known domain problem) members)) (truths false named members)
+        all_of-means declared numbered binding (cuts false scope (length binding) (map (known domain problem) members)) (truths false named members)
         (each-fits false scope named binding members mentioned stand) (members-mean false scope named binding members each mentioned stand) next given
         ∙ all-truths false named members
         ∙ all-not (λ (truth : pddl.Binding → Bool). truth named) (map (holds.holds domain problem full) members)
     or-means members at each mentioned true scope named binding stand next given =
-        in_turn-means declared numbered binding (cuts domain problem true scope (length binding) (map (known domain problem) members)) (truths true named members) (members-mean true scope named binding members each mentioned stand) next given
+        in_turn-means declared numbered binding (cuts true scope (length binding) (map (known domain problem) members)) (truths true named members) (members-mean true scope named binding members each mentioned stand) next given
         ∙ any-truths true named members
 
     imply-means : (premise conclusion : Condition) (at : At) → Meant premise → Meant conclusion →

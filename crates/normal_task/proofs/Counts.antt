@@ -1,6 +1,6 @@
 -- A condition has as many parts as its size says, and so has each quantifier that is replaced.
 use Rattle.std.proofs.Common.{◌≡◌, ℕ, suc, ◌+◌, ◌*◌, Bool, true, false, not, List, [], ◌∷◌, ◌++◌, map, length, sum, refl, sym, ap, ◌∙◌, arith}
-use Rattle.std.specs.List.{flat_map, fold}
+use Rattle.std.specs.List.{flat_map, fold, AllZip}
 use Rattle.pddl_lexer.specs.declared.position.At.{At}
 use Rattle.pddl_parser.specs.declared.types.Condition.{Condition, Condition-F}
 use Rattle.pddl_parser.specs.declared.types.Domain.{Domain}
@@ -8,7 +8,7 @@ use Rattle.pddl_parser.specs.declared.types.Problem.{Problem}
 use Rattle.pddl_parser.specs.declared.types.Typed.{Typed}
 use Rattle.pddl_parser.proofs.ConditionCases.{Each}
 use Rattle.fault_positions.specs.Sizes as sizes
-use Rattle.fault_positions.specs.Sizes.{Size, size_step, size_of, product}
+use Rattle.fault_positions.specs.Sizes.{Size, size_step, size_of}
 use Rattle.normal_task.specs.Numbers.{ranges_of}
 use Rattle.normal_task.specs.Parts.{Scope, Part, Fresh, Made, in_turn, all_of, joined, paired, with_variables, Known, scope_inside, renumbered, free_slots, exists_inside, none_inside, known_step, known}
 use Rattle.normal_task.proofs.Scopes.{length-append, length-map, map-append}
@@ -44,10 +44,7 @@ paired-count around (first ∷ firsts) seconds =
 module _ (around : ℕ) where
   -- what is made has these sizes, wherever its numbers begin
   abbrev EachCounts : List (ℕ → Made Part) → List Size → Type 0
-  EachCounts [] [] = Unit {0}
-  EachCounts [] (size ∷ more) = ⊥
-  EachCounts (make ∷ makes) [] = ⊥
-  EachCounts (make ∷ makes) (size ∷ more) = ((next : ℕ) → Counts (make next) size) × EachCounts makes more
+  EachCounts = AllZip (λ make size. (next : ℕ) → Counts (make next) size)
 
   fresh-count : (first rest : List Fresh) (one : Size) (replaced : List sizes.Cut) → counts first ≡ replaced_counts one → counts rest ≡ map (λ (cut : sizes.Cut). cut.parts) replaced → counts (first ++ rest) ≡ map (λ (cut : sizes.Cut). cut.parts) (one.replaced ++ replaced)
   fresh-count first rest one replaced here there =

@@ -1,31 +1,37 @@
 -- The parts of the new predicates that effects need fit.
-use Rattle.std.proofs.Common.{◌≡◌, ℕ, ◌+◌, Bool, true, false, ◌&&◌, List, [], ◌∷◌, ◌++◌, map, length, refl, arith}
+use Rattle.std.proofs.Common.{◌≡◌, ℕ, ◌+◌, Bool, true, false, ◌&&◌, List, [], ◌∷◌, ◌++◌, map, length, refl, subst, arith}
 use Rattle.std.specs.List.{flat_map}
-use Rattle.std.proofs.lemmas.Bool.{and_parts}
+use Rattle.std.proofs.lemmas.Bool.{and_parts, false≢true}
 use Rattle.pddl_lexer.specs.declared.position.At.{At}
 use Rattle.pddl_parser.specs.declared.types.Atom.{Atom}
 use Rattle.pddl_parser.specs.declared.types.Domain.{Domain}
 use Rattle.pddl_parser.specs.declared.types.Effect.{Effect}
 use Rattle.pddl_parser.specs.declared.types.Problem.{Problem}
+use Rattle.pddl_parser.specs.declared.types.Typed.{Typed}
 use Rattle.pddl_parser.specs.Words.{Name}
 use Rattle.pddl_parser.proofs.ConditionCases.{Each}
 use Rattle.fault_positions.specs.Mentions.{Mention, in_condition, in_effect, effect_step}
 use Rattle.fault_positions.specs.Scopes as scopes
 use Rattle.type_checker.proofs.NoFaults.{left_empty, right_empty}
-use Rattle.normal_task.specs.declared.task.EffectRow.{EffectRow}
 use Rattle.normal_task.specs.Parts.{Scope, scope_inside, Part, Made, in_turn, parts}
-use Rattle.normal_task.specs.Normalised.{Rows, written, row_step, rows_of}
+use Rattle.normal_task.specs.Normalised.{parameter_scope, Rows, written, row_step, rows_of}
 use Rattle.normal_task.proofs.Alls.{all-left, all-right}
 use Rattle.normal_task.proofs.Mentioned.{is_known_mention, AreKnown}
 use Rattle.normal_task.proofs.Scopes.{InScope, wider, inside-in_scope}
 use Rattle.normal_task.proofs.Fits.{all_of-fits, condition-fits, fresh_fit, fresh-both}
 use Rattle.normal_task.proofs.Bound.{is_in, in-inside, free-bound}
-use Rattle.normal_task.proofs.EffectsMean.{declared, RequiredFits, fits-wider, fits-here, fits-also}
+use Rattle.normal_task.proofs.EffectsMean.{declared, turns, RequiredFits, fits-wider, fits-here, fits-also}
 use Rattle.type_checker.proofs.EffectFolds.{by_folds}
 
 module _ (domain : Domain) (problem : Problem) where
   abbrev pub AllInScope : List Name → Scope → ℕ → Type 0
   AllInScope names scope around = (name : Name) → is_in names name ≡ true → InScope scope around name
+
+  -- parameters are in scope
+  pub parameters-in_scope : (variables : List Typed) → AllInScope (scopes.inside_of variables []) (parameter_scope domain problem variables) (length variables)
+  parameters-in_scope variables name inside =
+      subst (λ (n : ℕ). InScope (parameter_scope domain problem variables) n name) (let same : 0 + length variables ≡ length variables = omega arith in same)
+      (inside-in_scope domain problem variables 0 [] name (λ unlisted. absurd (false≢true (in-inside variables [] name inside unlisted))))
 
   abbrev EffectFits : Rows domain problem → Unit {0} → (scopes.Scope → List At) → List Mention → Type 0
   EffectFits rows unused unbound mentions =
@@ -39,16 +45,13 @@ module _ (domain : Domain) (problem : Problem) where
       fresh_fit (declared domain problem) next (written domain problem this atom required scope around next).fresh ≡ true
   written-fits this atom required scope around fit next = (all_of-fits (declared domain problem) around (map (λ cut. cut around) required) (fits-here domain problem around required fit) next).fresh
 
-  abbrev turns : List (ℕ → ℕ → Made Part) → Scope → ℕ → List Effect → List (ℕ → Made EffectRow)
-  turns required scope around members = map (λ member. member required scope around) (map (rows_of domain problem) members)
-
   members-fit : (members : List Effect) → Each Fit members → AreKnown domain problem (flat_map (λ mentions. mentions) (map in_effect members)) → (required : List (ℕ → ℕ → Made Part)) (names : List Name) (scope : Scope) (around : ℕ) →
       flat_map (λ member. member names) (map scopes.in_effect members) ≡ [] → AllInScope names scope around → RequiredFits domain problem around required → (next : ℕ) →
-      fresh_fit (declared domain problem) next (in_turn (turns required scope around members) next).fresh ≡ true
+      fresh_fit (declared domain problem) next (in_turn (turns domain problem required scope around members) next).fresh ≡ true
   members-fit [] each mentioned required names scope around unbound in_scope fit next = refl
   members-fit (member ∷ members) each mentioned required names scope around unbound in_scope fit next =
       let first = rows_of domain problem member required scope around next in
-      fresh-both (declared domain problem) next first.fresh (in_turn (turns required scope around members) (next + length first.fresh)).fresh
+      fresh-both (declared domain problem) next first.fresh (in_turn (turns domain problem required scope around members) (next + length first.fresh)).fresh
       (each.0 (all-left (is_known_mention domain problem) (in_effect member) (flat_map (λ mentions. mentions) (map in_effect members)) mentioned) required names scope around
       (left_empty (scopes.in_effect member names) (flat_map (λ member. member names) (map scopes.in_effect members)) unbound) in_scope fit next)
       (members-fit members each.1 (all-right (is_known_mention domain problem) (in_effect member) (flat_map (λ mentions. mentions) (map in_effect members)) mentioned) required names scope around
@@ -60,7 +63,7 @@ module _ (domain : Domain) (problem : Problem) where
     at_nothing = λ at mentioned required names scope around unbound in_scope fit next. refl;
     at_add = λ atom mentioned required names scope around unbound in_scope fit next. written-fits true atom required scope around fit next;
     at_delete = λ atom mentioned required names scope around unbound in_scope fit next. written-fits false atom required scope around fit next;
-    at_and = λ members at held mentioned required names scope around unbound in_scope fit next. members-fit members held mentioned required names scope around unbound in_scope fit next;
+    at_and = λ members at. members-fit members;
     at_when = λ condition inside at held mentioned required names scope around unbound in_scope fit next.
         let here = left_empty (scopes.in_condition condition names) (scopes.in_effect inside names) unbound in
         held (all-right (is_known_mention domain problem) (in_condition condition) (in_effect inside) mentioned) (required ++ (λ around. parts domain problem condition true scope around) ∷ []) names scope around

@@ -1,8 +1,7 @@
 -- An effect adds and deletes in the files what its rows add and delete in the normal task.
 use Rattle.std.proofs.Common.{append-nil, ◌≡◌, ℕ, ◌+◌, ◌≤◌, Bool, true, false, not, ◌&&◌, ◌||◌, List, [], ◌∷◌, ◌++◌, map, length, refl, sym, ap, ◌∙◌, subst, arith}
-use Rattle.std.specs.Prelude.{nat_eq, if◌then◌else◌}
-use Rattle.std.specs.List.{list_all, list_any, flat_map}
-use Rattle.std.specs.Cmp.Lexicographic.{pointwise}
+use Rattle.std.specs.Prelude.{if◌then◌else◌}
+use Rattle.std.specs.List.{list_all, list_any, flat_map, AllZip}
 use Rattle.std.proofs.lemmas.Bool.{and_parts, and_from}
 use Rattle.std.proofs.lemmas.List.Folds.{list_any-append, list_all-append}
 use Rattle.std.proofs.Math.Bool.{and-false, and-true, and_assoc}
@@ -13,7 +12,7 @@ use Rattle.pddl_parser.specs.declared.types.Domain.{Domain}
 use Rattle.pddl_parser.specs.declared.types.Effect.{Effect, Effect-F}
 use Rattle.pddl_parser.specs.declared.types.Problem.{Problem}
 use Rattle.pddl_parser.specs.declared.types.Typed.{Typed}
-use Rattle.pddl_parser.specs.Words.{Name, is_same}
+use Rattle.pddl_parser.specs.Words.{Name}
 use Rattle.pddl_parser.specs.Objects as pddl
 use Rattle.pddl_parser.specs.Holds as holds
 use Rattle.pddl_parser.specs.Step as step
@@ -24,9 +23,9 @@ use Rattle.type_checker.proofs.NoFaults.{left_empty, right_empty}
 use Rattle.lists.proofs.Items.{same_any}
 use Rattle.normal_task.specs.declared.task.EffectRow.{EffectRow}
 use Rattle.normal_task.specs.declared.task.GroundAtom.{GroundAtom}
-use Rattle.normal_task.specs.Numbers.{object_names, head_names, predicate_number, ranges_of}
+use Rattle.normal_task.specs.Numbers.{head_names, predicate_number, ranges_of}
 use Rattle.normal_task.specs.Meaning as task
-use Rattle.normal_task.specs.Meaning.{atom_of, State, Binding, objects_at, choices, answers, is_met, are_met}
+use Rattle.normal_task.specs.Meaning.{atom_of, State, Binding, objects_at, choices, answers, are_met}
 use Rattle.normal_task.specs.Parts.{Scope, scope_inside, Part, Made, in_turn, all_of, place_of, known, parts}
 use Rattle.normal_task.specs.Normalised.{Rows, effect_row, written, row_with_variables, row_step, rows_of, numbered_atom}
 use Rattle.normal_task.specs.Same.{is_known_atom}
@@ -36,7 +35,8 @@ use Rattle.normal_task.proofs.Chosen.{any-choices_append}
 use Rattle.normal_task.proofs.Mentioned.{is_known_mention, is_known_term, is_declared, AreKnown}
 use Rattle.normal_task.proofs.Scopes.{append-assoc, length-append, length-map, Stands, longer, number, is_known, inside-stands}
 use Rattle.normal_task.proofs.Fits.{FitsFrom, InScopes, condition-fits}
-use Rattle.normal_task.proofs.PartsMean.{part_met, GivenIn, given-left, given-right, MeansFrom, EachMeans, all_of-means}
+use Rattle.normal_task.proofs.PartsMean.{part_met, GivenAt, GivenIn, numbered-left, numbered-right, MeansFrom, EachMeans, all_of-means}
+pub use Rattle.normal_task.proofs.ConditionsMean.{same-objects}
 use Rattle.normal_task.proofs.ConditionsMean.{choices-numbers, terms-objects, ShowsFull, same-number, condition-means, named-choice-length}
 use Rattle.normal_task.proofs.Bound.{is_in, in-inside, terms-bound, free-bound}
 use Rattle.type_checker.proofs.EffectFolds.{by_folds}
@@ -53,24 +53,23 @@ exchange true false false = refl
 exchange false b true = refl
 exchange false b false = refl
 
+answered : (this adds : Bool) → answers adds this ≡ (if this then adds else not adds)
+answered true true = refl
+answered true false = refl
+answered false true = refl
+answered false false = refl
+
 module _ (domain : Domain) (problem : Problem) where
   abbrev pub declared : ℕ
   declared = length domain.predicates
 
+  -- the rows of each member, in turn
+  abbrev pub turns : List (ℕ → ℕ → Made Part) → Scope → ℕ → List Effect → List (ℕ → Made EffectRow)
+  turns required scope around members = map (λ member. member required scope around) (map (rows_of domain problem) members)
+
   -- the names stand for variables in scope
   abbrev pub StandAll : List Name → Scope → pddl.Binding → Binding → Type 0
   StandAll names scope named binding = (name : Name) → is_in names name ≡ true → Stands domain problem scope named binding name
-
-  pub same-objects : (xs ys : List Name) → list_all (is_known domain problem) xs ≡ true → list_all (is_known domain problem) ys ≡ true → pointwise nat_eq (map (number domain problem) xs) (map (number domain problem) ys) ≡ pointwise is_same xs ys
-  same-objects [] [] known_xs known_ys = refl
-  same-objects [] (y ∷ ys) known_xs known_ys = refl
-  same-objects (x ∷ xs) [] known_xs known_ys = refl
-  same-objects (x ∷ xs) (y ∷ ys) known_xs known_ys =
-      let one = and_parts (is_known domain problem x) (list_all (is_known domain problem) xs) known_xs in
-      let other = and_parts (is_known domain problem y) (list_all (is_known domain problem) ys) known_ys in
-      let here = same-number (object_names domain problem) x y one.0 other.0 in
-      let rest = same-objects xs ys one.1 other.1 in
-      cc (here, rest)
 
   -- numbered atoms are the same where the atoms are
   pub same-numbered : (a b : holds.GroundAtom) → is_known_atom domain problem a ≡ true → is_known_atom domain problem b ≡ true → task.is_same_atom (numbered_atom domain problem a) (numbered_atom domain problem b) ≡ holds.is_same_atom a b
@@ -78,7 +77,7 @@ module _ (domain : Domain) (problem : Problem) where
       let one = and_parts (is_declared domain problem a.predicate) (list_all (is_known domain problem) a.objects) known_a in
       let other = and_parts (is_declared domain problem b.predicate) (list_all (is_known domain problem) b.objects) known_b in
       let names = same-number (head_names domain.predicates) a.predicate b.predicate one.0 other.0 in
-      let objects = same-objects a.objects b.objects one.1 other.1 in
+      let objects = same-objects domain problem a.objects b.objects one.1 other.1 in
       cc (names, objects)
 
   -- ---- what is required around an effect
@@ -100,12 +99,12 @@ module _ (domain : Domain) (problem : Problem) where
   fits-also around (first ∷ required) cut fit also = (fit.0, fits-also around required cut fit.1 also)
 
   module _ (full : holds.State) (numbered : State) (shows : ShowsFull domain problem full numbered) where
+    abbrev CutMeans : Binding → (ℕ → ℕ → Made Part) → Bool → Type 0
+    CutMeans binding cut truth = (more : Binding) → MeansFrom declared numbered (binding ++ more) (cut (length (binding ++ more))) truth
+
     -- each condition means so much, whatever stands behind the binding
     abbrev pub Required : Binding → List (ℕ → ℕ → Made Part) → List Bool → Type 0
-    Required binding [] [] = Unit {0}
-    Required binding [] (truth ∷ truths) = ⊥
-    Required binding (cut ∷ required) [] = ⊥
-    Required binding (cut ∷ required) (truth ∷ truths) = ((more : Binding) → MeansFrom declared numbered (binding ++ more) (cut (length (binding ++ more))) truth) × Required binding required truths
+    Required binding = AllZip (CutMeans binding)
 
     required-longer : (binding behind : Binding) (required : List (ℕ → ℕ → Made Part)) (truths : List Bool) → Required binding required truths → Required (binding ++ behind) required truths
     required-longer binding behind [] [] is = tt
@@ -122,7 +121,7 @@ module _ (domain : Domain) (problem : Problem) where
         (subst (λ (b : Binding). MeansFrom declared numbered b (cut (length b)) truth) (append-nil binding) (is.0 []), required-here binding required truths is.1)
 
     required-also : (binding : Binding) (required : List (ℕ → ℕ → Made Part)) (truths : List Bool) (cut : ℕ → ℕ → Made Part) (truth : Bool) → Required binding required truths →
-        ((more : Binding) → MeansFrom declared numbered (binding ++ more) (cut (length (binding ++ more))) truth) → Required binding (required ++ cut ∷ []) (truths ++ truth ∷ [])
+        CutMeans binding cut truth → Required binding (required ++ cut ∷ []) (truths ++ truth ∷ [])
     required-also binding [] [] cut truth is also = (also, tt)
     required-also binding [] (t ∷ truths) cut truth is also = absurd is
     required-also binding (first ∷ required) [] cut truth is also = absurd is
@@ -197,9 +196,6 @@ module _ (domain : Domain) (problem : Problem) where
       abbrev Meant : Effect → Type 0
       Meant effect = EffectMeans (rows_of domain problem effect) (change effect) (scopes.in_effect effect) (in_effect effect)
 
-      abbrev turns : List (ℕ → ℕ → Made Part) → Scope → ℕ → List Effect → List (ℕ → Made EffectRow)
-      turns required scope around members = map (λ member. member required scope around) (map (rows_of domain problem) members)
-
       members-mean : (members : List Effect) → Each Meant members → AreKnown domain problem (flat_map (λ mentions. mentions) (map in_effect members)) →
           (required : List (ℕ → ℕ → Made Part)) (truths : List Bool) (names : List Name) (scope : Scope) (named : pddl.Binding) (binding : Binding) →
           flat_map (λ member. member names) (map scopes.in_effect members) ≡ [] → StandAll names scope named binding → RequiredFits (length binding) required → Required binding required truths →
@@ -212,10 +208,10 @@ module _ (domain : Domain) (problem : Problem) where
           let rest = in_turn (turns required scope (length binding) members) later in
           let here =
           each.0 (all-left (is_known_mention domain problem) (in_effect member) (flat_map (λ mentions. mentions) (map in_effect members)) mentioned) required truths names scope named binding
-          (left_empty (scopes.in_effect member names) (flat_map (λ member. member names) (map scopes.in_effect members)) unbound) stand fit is next (given-left declared numbered next first.fresh rest.fresh given) atom known_atom in
+          (left_empty (scopes.in_effect member names) (flat_map (λ member. member names) (map scopes.in_effect members)) unbound) stand fit is next (numbered-left (GivenAt declared numbered) next first.fresh rest.fresh given) atom known_atom in
           let there =
           members-mean members each.1 (all-right (is_known_mention domain problem) (in_effect member) (flat_map (λ mentions. mentions) (map in_effect members)) mentioned) required truths names scope named binding
-          (right_empty (scopes.in_effect member names) (flat_map (λ member. member names) (map scopes.in_effect members)) unbound) stand fit is later (given-right declared numbered next first.fresh rest.fresh given) atom known_atom in
+          (right_empty (scopes.in_effect member names) (flat_map (λ member. member names) (map scopes.in_effect members)) unbound) stand fit is later (numbered-right (GivenAt declared numbered) next first.fresh rest.fresh given) atom known_atom in
           rows-in_turn binding (numbered_atom domain problem atom) first rest.items
           ∙ ap (λ b. b || some_row binding (numbered_atom domain problem atom) rest.items) here
           ∙ ap (λ b. (all_true truths && change member named atom) || b) there
@@ -290,32 +286,16 @@ module _ (domain : Domain) (problem : Problem) where
           all_right_of : AreKnown domain problem (effect_step (Effect-F.Forall variables (in_effect inside) at)) → AreKnown domain problem (in_effect inside)
           all_right_of known = (and_parts (true && true) _ known).1
 
-      ended : (this : Bool) (b : Bool) (truths : List Bool) → (all_true truths && (answers adds this && b)) ≡ (all_true truths && (if this then adds && b else not adds && b))
-      ended true b truths = by adds
-        where
-          by : (a : Bool) → (all_true truths && (answers a true && b)) ≡ (all_true truths && (a && b))
-          by true = refl
-          by false = refl
-      ended false b truths = by adds
-        where
-          by : (a : Bool) → (all_true truths && (answers a false && b)) ≡ (all_true truths && (not a && b))
-          by true = refl
-          by false = refl
-
-      nothing-means : (truths : List Bool) → false ≡ (all_true truths && false)
-      nothing-means truths = sym (and-false (all_true truths))
-
       -- the rows of an effect write what it writes
       pub effect-means : (effect : Effect) → Meant effect
       effect-means = by_folds (Rows domain problem) (pddl.Binding → holds.State) (scopes.Scope → List At) (List Mention) (row_step domain problem) (step.writes_step domain problem full adds) scopes.effect_step effect_step EffectMeans record {
-        at_nothing = λ at mentioned required truths names scope named binding unbound stand fit is next given atom known_atom. nothing-means truths;
+        at_nothing = λ at mentioned required truths names scope named binding unbound stand fit is next given atom known_atom. sym (and-false (all_true truths));
         at_add = λ written_atom mentioned required truths names scope named binding unbound stand fit is next given atom known_atom.
-            written-means true written_atom mentioned required truths names scope named binding unbound stand fit is next given atom known_atom ∙ ended true (is_written named written_atom atom) truths;
+            written-means true written_atom mentioned required truths names scope named binding unbound stand fit is next given atom known_atom ∙ ap (λ a. all_true truths && (a && is_written named written_atom atom)) (answered true adds);
         at_delete = λ written_atom mentioned required truths names scope named binding unbound stand fit is next given atom known_atom.
-            written-means false written_atom mentioned required truths names scope named binding unbound stand fit is next given atom known_atom ∙ ended false (is_written named written_atom atom) truths;
-        at_and = λ members at held mentioned required truths names scope named binding unbound stand fit is next given atom known_atom.
-            members-mean members held mentioned required truths names scope named binding unbound stand fit is next given atom known_atom;
+            written-means false written_atom mentioned required truths names scope named binding unbound stand fit is next given atom known_atom ∙ ap (λ a. all_true truths && (a && is_written named written_atom atom)) (answered false adds);
+        at_and = λ members at. members-mean members;
         at_when = when-means;
         at_forall = forall-means;
-        at_increase = λ term cost at mentioned required truths names scope named binding unbound stand fit is next given atom known_atom. nothing-means truths;
+        at_increase = λ term cost at mentioned required truths names scope named binding unbound stand fit is next given atom known_atom. sym (and-false (all_true truths));
       }

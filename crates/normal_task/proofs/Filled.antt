@@ -2,7 +2,8 @@
 use Rattle.std.proofs.Common.{append-nil, ◌≡◌, ℕ, suc, ◌+◌, ◌-◌, ◌<◌, ◌≤◌, Bool, true, false, ◌&&◌, ◌||◌, List, [], ◌∷◌, ◌++◌, length, refl, sym, ap, ◌∙◌, subst, arith, inl, inr, ◌⊎◌}
 use Rattle.std.specs.Prelude.{nat_eq, nat_lt, nat_le, ◌==◌, if◌then◌else◌}
 use Rattle.std.specs.List.{list_all, list_any}
-use Rattle.std.proofs.lemmas.Bool.{and_parts, or_cases, ltb-true, ltb-false, leb-true, false≢true}
+use Rattle.std.proofs.lemmas.Bool.{and_parts, or_cases, ltb-true, ltb-false, le-ltb, leb-true, false≢true}
+use Rattle.std.proofs.Math.Bool.{or-false}
 use Rattle.pddl_parser.specs.declared.types.Domain.{Domain}
 use Rattle.pddl_parser.specs.declared.types.Problem.{Problem}
 use Rattle.planning.specs.Task.{IsFull}
@@ -27,10 +28,10 @@ use Rattle.normal_task.proofs.Chosen.{eq-itself}
 use Rattle.normal_task.proofs.Mentioned.{is_declared, AreKnown}
 use Rattle.normal_task.proofs.Scopes.{is_known, append-assoc, length-append}
 use Rattle.normal_task.proofs.Fits.{literal_from, literal_within, fits, part_fits, parts_fit, fresh_fit, predicate-declared}
-use Rattle.normal_task.proofs.PartsMean.{some_part, part_met, GivenIn, given-right}
+use Rattle.normal_task.proofs.PartsMean.{some_part, part_met, GivenAt, GivenIn, numbered-third, numbered-both}
 use Rattle.normal_task.proofs.ConditionsMean.{ShowsFull, condition-means}
 use Rattle.normal_task.proofs.Bound.{free-bound}
-use Rattle.normal_task.proofs.FullStatesMatch.{declared, planning, fresh_all, other-number, rows-behind, AllGiven, from-rows, given-of_all, derived-declared, derived-fresh, derived-below, RuleSound, numbered_derives, rules-mean, rules-elsewhere, known-rules, task-axioms, axiom_items, given-axioms, number-below}
+use Rattle.normal_task.proofs.FullStatesMatch.{declared, planning, fresh_all, other-number, rows-behind, AllGivenAt, AllGiven, from-rows, given-of_all, derived-declared, derived-fresh, derived-below, RuleSound, numbered_derives, rules-mean, rules-elsewhere, known-rules, task-axioms, axiom_items, given-axioms, number-below}
 
 module _ (domain : Domain) (problem : Problem) where
   abbrev base : ℕ
@@ -146,11 +147,6 @@ module _ (domain : Domain) (problem : Problem) where
       ∙ ap (λ (l : List Fresh). schemas ++ l) (sym (append-assoc axioms goal (last_fresh goal_items)))
       ∙ sym (append-assoc schemas (axioms ++ goal) (last_fresh goal_items))
 
-  pub given-both : (state : State) (next : ℕ) (first second : List Fresh) → AllGiven domain problem state next first → AllGiven domain problem state (next + length first) second → AllGiven domain problem state next (first ++ second)
-  given-both state next [] second one other = subst (λ (n : ℕ). AllGiven domain problem state n second) (let same : next + length {A = Fresh} [] ≡ next = omega arith in same) other
-  given-both state next (fresh ∷ first) second one other =
-      (one.0, given-both state (suc next) first second one.1 (subst (λ (n : ℕ). AllGiven domain problem state n second) (let same : next + length (fresh ∷ first) ≡ suc next + length first = omega arith in same) other))
-
   -- ---- from the files to the task
 
   pub record TaskFull (full : holds.State) (numbered : State) : Type 0 where
@@ -202,11 +198,7 @@ module _ (domain : Domain) (problem : Problem) where
       given-goal : GivenIn base (filled 0 first_fresh (by_number full numbered)) (after_axioms domain problem) (goal_parts domain problem).fresh
       given-goal =
           let t = filled 0 first_fresh (by_number full numbered) in
-          let schemas = (made_schemas domain problem).fresh in
-          let axioms = (made_axioms domain problem).fresh in
-          let goal = (goal_parts domain problem).fresh in
-          let rest = given-right base t 0 schemas (axioms ++ goal) (given-of_all domain problem t 0 first_fresh first) in
-          subst (λ (n : ℕ). GivenIn base t n goal) (let same : 0 + length schemas + length axioms ≡ after_axioms domain problem = omega arith in same) (given-right base t (0 + length schemas) axioms goal rest)
+          numbered-third (GivenAt base t) (made_schemas domain problem).fresh (made_axioms domain problem).fresh (goal_parts domain problem).fresh (given-of_all domain problem t 0 first_fresh first)
 
       goal-means : some_part (filled 0 first_fresh (by_number full numbered)) [] goal_items ≡ holds.holds domain problem full problem.goal []
       goal-means =
@@ -220,7 +212,7 @@ module _ (domain : Domain) (problem : Problem) where
       last-one below = (
         λ objects.
             let atom = atom_of (base + (0 + length first_fresh)) objects in
-            let not_old : nat_lt (base + (0 + length first_fresh)) base ≡ false = unless (nat_lt (base + (0 + length first_fresh)) base) refl in
+            let not_old = le-ltb (base + (0 + length first_fresh)) base (omega arith) in
             let new = derived-fresh domain problem (0 + length first_fresh) (omega (arith, below)) in
             untouched 0 first_fresh (by_number full numbered) atom (inr (omega arith))
             ∙ ap (λ b. if b then of_derived full atom (nat_lt atom.predicate base) else numbered atom) new
@@ -229,10 +221,6 @@ module _ (domain : Domain) (problem : Problem) where
         tt,
       )
         where
-          unless : (b : Bool) → nat_lt (base + (0 + length first_fresh)) base ≡ b → b ≡ false
-          unless true e = absurd (omega (arith, ltb-true (base + (0 + length first_fresh)) base e))
-          unless false e = refl
-
           at_objects : (objects : List ℕ) → (is_choice [] objects && holds.holds domain problem full problem.goal []) ≡ (is_choice [] objects && some_part (filled 0 first_fresh (by_number full numbered)) objects goal_items)
           at_objects [] = sym goal-means
           at_objects (object ∷ objects) = refl
@@ -247,7 +235,7 @@ module _ (domain : Domain) (problem : Problem) where
       last (part ∷ other ∷ more) e = last-one (let l = ap (λ (ps : List Part). length (last_fresh ps)) e in omega (arith, lengths, l))
 
       all : AllGiven domain problem (filled 0 first_fresh (by_number full numbered)) 0 (fresh_all domain problem)
-      all = subst (λ (l : List Fresh). AllGiven domain problem (filled 0 first_fresh (by_number full numbered)) 0 l) (sym all-fresh) (given-both (filled 0 first_fresh (by_number full numbered)) 0 first_fresh (last_fresh goal_items) first (last goal_items refl))
+      all = subst (λ (l : List Fresh). AllGiven domain problem (filled 0 first_fresh (by_number full numbered)) 0 l) (sym all-fresh) (numbered-both (AllGivenAt domain problem (filled 0 first_fresh (by_number full numbered))) 0 first_fresh (last_fresh goal_items) first (last goal_items refl))
 
       basic : (atom : GroundAtom) → task.is_derived (planning domain problem) atom.predicate ≡ false → filled 0 first_fresh (by_number full numbered) atom ≡ numbered atom
       basic atom e =
@@ -269,10 +257,6 @@ module _ (domain : Domain) (problem : Problem) where
           filled 0 first_fresh (by_number full numbered) atom ≡ list_any (task.derives (filled 0 first_fresh (by_number full numbered)) atom) (planning domain problem).axioms
       derived atom e = by (nat_lt atom.predicate base) refl
         where
-          ended : (b : Bool) → b ≡ (b || false)
-          ended true = refl
-          ended false = refl
-
           by : (b : Bool) → nat_lt atom.predicate base ≡ b → filled 0 first_fresh (by_number full numbered) atom ≡ list_any (task.derives (filled 0 first_fresh (by_number full numbered)) atom) (planning domain problem).axioms
           by true below =
               let l = ltb-true atom.predicate base below in
@@ -281,7 +265,7 @@ module _ (domain : Domain) (problem : Problem) where
               ∙ ap (λ b. if b then of_derived full atom (nat_lt atom.predicate base) else numbered atom) e
               ∙ ap (of_derived full atom) below
               ∙ sym (rules-mean domain problem full t full-shows domain.axioms sound (after_schemas domain problem) (given-axioms domain problem sound t (given-of_all domain problem t 0 (fresh_all domain problem) all)) atom)
-              ∙ ended (list_any (task.derives t atom) (axiom_items domain problem sound))
+              ∙ sym (or-false (list_any (task.derives t atom) (axiom_items domain problem sound)))
               ∙ ap (λ b. list_any (task.derives t atom) (axiom_items domain problem sound) || b) (sym (rows-behind domain problem t atom 0 (fresh_all domain problem) (omega (arith, l))))
               ∙ sym (task-axioms domain problem sound t atom)
           by false above =

@@ -1,7 +1,7 @@
 -- The parts of a condition name variables that they have, declared predicates, and new predicates that are numbered from where the condition begins.
 use Rattle.std.proofs.Common.{append-nil, ◌≡◌, ℕ, suc, ◌+◌, ◌<◌, ◌≤◌, Bool, true, false, not, ◌&&◌, ◌||◌, List, [], ◌∷◌, ◌++◌, map, length, refl, sym, ap, ◌∙◌, subst, arith, inl, inr, ◌⊎◌}
 use Rattle.std.specs.Prelude.{nat_lt, nat_le, if◌then◌else◌, Option, unwrap_or}
-use Rattle.std.specs.List.{list_all, list_any, flat_map}
+use Rattle.std.specs.List.{list_all, list_any}
 use Rattle.std.specs.Option.{option_map}
 use Rattle.std.proofs.lemmas.Bool.{and_parts, and_from, or_cases, or_left, or_right, ltb-true, leb-true, lt-ltb, le-leb, not-true}
 use Rattle.lists.specs.Members.{is_among}
@@ -14,28 +14,21 @@ use Rattle.pddl_parser.specs.declared.types.Term.TheVariants as terms
 use Rattle.pddl_parser.specs.declared.types.Typed.{Typed}
 use Rattle.pddl_parser.specs.Words.{Name, is_same}
 use Rattle.pddl_parser.proofs.ConditionCases.{Each}
-use Rattle.fault_positions.specs.Mentions.{Mention, Asked, in_condition, condition_step}
+use Rattle.fault_positions.specs.Mentions.{Asked}
 use Rattle.normal_task.specs.declared.task.Literal.{Literal}
 use Rattle.normal_task.specs.declared.task.Literal.TheVariants.{Holds, Equal}
 use Rattle.normal_task.specs.declared.task.Place.{Place}
 use Rattle.normal_task.specs.declared.task.Place.TheVariants.{Variable, Object}
 use Rattle.normal_task.specs.Numbers.{number_in, head_names, predicate_number, ranges_of}
-use Rattle.normal_task.specs.Parts.{Slot, Scope, slots_for, renumbered, scope_inside, is_listed, Part, Fresh, Made, in_turn, all_of, moved_place, moved, joined, paired, with_variables, Known, is_term_of, variable_at, place_of, fresh_number, free_slots, exists_inside, none_inside, known_step, known}
+use Rattle.normal_task.specs.Parts.{Slot, Scope, slots_for, renumbered, scope_inside, Part, Fresh, Made, in_turn, all_of, moved_place, moved, joined, paired, with_variables, Known, is_term_of, variable_at, place_of, fresh_number, free_slots, exists_inside, none_inside, known}
+pub use Rattle.normal_task.specs.Within.{place_within, literal_within}
 use Rattle.normal_task.proofs.Alls.{all-both, all-left, all-right, all-images, all-weaker, all-pieces}
 use Rattle.normal_task.proofs.Mentioned.{is_known_mention, is_known_term, is_declared, AreKnown}
 use Rattle.normal_task.proofs.Scopes.{InScope, slot-here, slot-behind, same-slot, map-append, length-append, length-map, slots-in_scope, inside-in_scope, hides, slots_behind}
-use Rattle.normal_task.proofs.ThreeFolds.{by_folds}
+use Rattle.normal_task.proofs.CutCases.{asked_in, unlisted-asked, CutOf, Laws, cuts-shown}
 use Rattle.pddl_parser.proofs.Steps.{name_same}
 
--- ---- places and literals
-
-abbrev pub place_within : ℕ → Place → Bool
-place_within bound (Variable number) = nat_lt number bound
-place_within bound (Object object) = true
-
-abbrev pub literal_within : ℕ → Literal → Bool
-literal_within bound (Holds positive predicate places) = list_all (place_within bound) places
-literal_within bound (Equal positive left right) = place_within bound left && place_within bound right
+-- ---- literals
 
 -- the literal asks for a declared predicate, of which there are so many, or for a new one from this number on
 abbrev pub literal_from : ℕ → ℕ → Literal → Bool
@@ -198,10 +191,6 @@ module _ (domain : Domain) (problem : Problem) where
   abbrev pub InScopes : (Name → Bool) → Scope → ℕ → Type 0
   InScopes is_free scope around = (name : Name) → is_free name ≡ true → InScope scope around name
 
-  abbrev pub CutFits : Known → Unit {0} → List Mention → Type 0
-  CutFits k unused mentions =
-      AreKnown domain problem mentions → (positive : Bool) (scope : Scope) (around : ℕ) → InScopes k.is_free scope around → FitsFrom declared around (k.cut positive scope around)
-
   variable-within : (scope : Scope) (around : ℕ) (name : Name) → InScope scope around name → place_within around (variable_at scope name) ≡ true
   variable-within scope around name is =
       ap (λ (o : Option Slot). nat_lt (unwrap_or (option_map (λ (slot : Slot). slot.place) o) 0) around) is.found ∙ lt-ltb is.slot.place around is.within
@@ -229,12 +218,6 @@ module _ (domain : Domain) (problem : Problem) where
       and_from (fits declared (around + length {A = List ℕ} []) next literal && true) true (and_from (fits declared (around + length {A = List ℕ} []) next literal) true wide refl) refl
 
   -- ---- quantifiers
-
-  abbrev pub asked_in : List Typed → Known → Name → Bool
-  asked_in variables inside name = not (is_listed variables name) && inside.is_free name
-
-  unlisted-asked : (variables : List Typed) (inside : Known) (name : Name) → inside.is_free name ≡ true → is_listed variables name ≡ false → asked_in variables inside name ≡ true
-  unlisted-asked variables inside name free unlisted = cc (free, unlisted)
 
   exists-fits : (variables : List Typed) (inside : Known) (positive : Bool) (scope : Scope) (around : ℕ) →
       ((scope : Scope) (around : ℕ) → InScopes inside.is_free scope around → FitsFrom declared around (inside.cut positive scope around)) →
@@ -293,29 +276,17 @@ module _ (domain : Domain) (problem : Problem) where
             (subst (λ (n : ℕ). parts_fit declared n (suc next) parts ≡ true) (sym (length-map (λ (slot : Slot). slot.range) arguments)) body.items) body.fresh;
       }
 
-  -- ---- members
+  -- ---- conditions
 
   abbrev pub Fit : Condition → Type 0
-  Fit condition = CutFits (known domain problem condition) tt (in_condition condition)
+  Fit = CutOf domain problem (AreKnown domain problem) InScopes (MadeFits declared)
 
-  abbrev pub cuts : Bool → Scope → ℕ → List Known → List (ℕ → Made Part)
-  cuts positive scope around list = map (λ member. member.cut positive scope around) list
-
-  pub members-fit : (positive : Bool) (scope : Scope) (around : ℕ) (members : List Condition) → Each Fit members → AreKnown domain problem (flat_map (λ mentions. mentions) (map in_condition members)) →
-      InScopes (λ name. list_any (λ (member : Known). member.is_free name) (map (known domain problem) members)) scope around →
-      Each (FitsFrom declared around) (cuts positive scope around (map (known domain problem) members))
-  members-fit positive scope around [] each mentioned in_scope = tt
-  members-fit positive scope around (member ∷ members) each mentioned in_scope = (
-    each.0 (all-left _ (in_condition member) (flat_map (λ mentions. mentions) (map in_condition members)) mentioned) positive scope around
-        (λ name free. in_scope name (or_left ((known domain problem member).is_free name) (list_any (λ (member : Known). member.is_free name) (map (known domain problem) members)) free)),
-    members-fit positive scope around members each.1 (all-right _ (in_condition member) (flat_map (λ mentions. mentions) (map in_condition members)) mentioned)
-        (λ name free. in_scope name (or_right ((known domain problem member).is_free name) (list_any (λ (member : Known). member.is_free name) (map (known domain problem) members)) free)),
-  )
-
-  -- the parts of a condition, and those of its new predicates, fit
-  pub condition-fits : (condition : Condition) → Fit condition
-  condition-fits = by_folds Known (Unit {0}) (List Mention) (known_step domain problem) (λ layer. tt) condition_step CutFits record {
-    at_true = λ at mentioned positive scope around in_scope next. at_truth positive around next;
+  pub laws : Laws domain problem (AreKnown domain problem) InScopes (MadeFits declared)
+  laws = record {
+    told_left = all-left (is_known_mention domain problem);
+    told_right = all-right (is_known_mention domain problem);
+    within_left = λ one other scope around in_scope name free. in_scope name (or_left (one name) (other name) free);
+    within_right = λ one other scope around in_scope name free. in_scope name (or_right (one name) (other name) free);
     at_atom = λ atom mentioned positive scope around in_scope next.
         let parts = and_parts (is_known_mention domain problem (Asked atom)) true mentioned in
         let names = and_parts (is_declared domain problem atom.predicate.name && true) (list_all (is_known_term domain problem) atom.terms) parts.0 in
@@ -336,45 +307,12 @@ module _ (domain : Domain) (problem : Problem) where
               (term-within scope around right (λ name is. in_scope name (or_right (is_term_of name left) (is_term_of name right) is)))) refl;
           fresh = refl;
         };
-    at_not = λ inside at held mentioned positive scope around in_scope. held mentioned (not positive) scope around in_scope;
-    at_and = λ members at held mentioned positive scope around in_scope next.
-        all_or_turn positive (cuts true scope around (map (known domain problem) members)) (cuts false scope around (map (known domain problem) members)) around next
-        (members-fit true scope around members held mentioned in_scope) (members-fit false scope around members held mentioned in_scope);
-    at_or = λ members at held mentioned positive scope around in_scope next.
-        turn_or_all positive (cuts true scope around (map (known domain problem) members)) (cuts false scope around (map (known domain problem) members)) around next
-        (members-fit true scope around members held mentioned in_scope) (members-fit false scope around members held mentioned in_scope);
-    at_imply = λ premise conclusion at held later mentioned positive scope around in_scope next.
-        let left = held (all-left _ (in_condition premise) (in_condition conclusion) mentioned) in
-        let right = later (all-right _ (in_condition premise) (in_condition conclusion) mentioned) in
-        let of_left : InScopes (known domain problem premise).is_free scope around = λ name free. in_scope name (or_left ((known domain problem premise).is_free name) ((known domain problem conclusion).is_free name) free) in
-        let of_right : InScopes (known domain problem conclusion).is_free scope around = λ name free. in_scope name (or_right ((known domain problem premise).is_free name) ((known domain problem conclusion).is_free name) free) in
-        turn_or_all positive ((known domain problem premise).cut false scope around ∷ (known domain problem conclusion).cut true scope around ∷ [])
-        ((known domain problem premise).cut true scope around ∷ (known domain problem conclusion).cut false scope around ∷ []) around next
-        (left false scope around of_left, (right true scope around of_right, tt)) (left true scope around of_left, (right false scope around of_right, tt));
-    at_forall = λ variables inside at held mentioned positive scope around in_scope next.
-        either positive (none_inside domain problem variables (known domain problem inside) false scope around next) (exists_inside domain problem variables (known domain problem inside) false scope around next) around next
-        (none-fits variables (known domain problem inside) false scope around (held mentioned false) in_scope next)
-        (exists-fits variables (known domain problem inside) false scope around (held mentioned false) in_scope next);
-    at_exists = λ variables inside at held mentioned positive scope around in_scope next.
-        either positive (exists_inside domain problem variables (known domain problem inside) true scope around next) (none_inside domain problem variables (known domain problem inside) true scope around next) around next
-        (exists-fits variables (known domain problem inside) true scope around (held mentioned true) in_scope next)
-        (none-fits variables (known domain problem inside) true scope around (held mentioned true) in_scope next);
+    in_turn_shown = in_turn-fits declared;
+    all_of_shown = all_of-fits declared;
+    exists_shown = exists-fits;
+    none_shown = none-fits;
   }
-    where
-      at_truth : (positive : Bool) (around next : ℕ) → MadeFits declared around next (if positive then all_of around [] next else in_turn [] next)
-      at_truth true around next = record { items = refl; fresh = refl }
-      at_truth false around next = record { items = refl; fresh = refl }
 
-      either : (positive : Bool) (one other : Made Part) (around next : ℕ) → MadeFits declared around next one → MadeFits declared around next other → MadeFits declared around next (if positive then one else other)
-      either true one other around next is is_other = is
-      either false one other around next is is_other = is_other
-
-      all_or_turn : (positive : Bool) (ones others : List (ℕ → Made Part)) (around next : ℕ) → Each (FitsFrom declared around) ones → Each (FitsFrom declared around) others →
-          MadeFits declared around next (if positive then all_of around ones next else in_turn others next)
-      all_or_turn true ones others around next each each_other = all_of-fits declared around ones each next
-      all_or_turn false ones others around next each each_other = in_turn-fits declared around others each_other next
-
-      turn_or_all : (positive : Bool) (ones others : List (ℕ → Made Part)) (around next : ℕ) → Each (FitsFrom declared around) ones → Each (FitsFrom declared around) others →
-          MadeFits declared around next (if positive then in_turn ones next else all_of around others next)
-      turn_or_all true ones others around next each each_other = in_turn-fits declared around ones each next
-      turn_or_all false ones others around next each each_other = all_of-fits declared around others each_other next
+  -- the parts of a condition, and those of its new predicates, fit
+  pub condition-fits : (condition : Condition) → Fit condition
+  condition-fits = cuts-shown domain problem (AreKnown domain problem) InScopes (MadeFits declared) laws

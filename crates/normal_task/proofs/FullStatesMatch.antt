@@ -6,7 +6,7 @@ use Rattle.std.specs.Option.{option_map}
 use Rattle.std.specs.Cmp.Lexicographic.{pointwise}
 use Rattle.std.proofs.lemmas.Bool.{and_parts, and_from, or_cases, eqb-true, ltb-true, ltb-false}
 use Rattle.std.proofs.lemmas.Option.{slice_get_past}
-use Rattle.std.proofs.lemmas.Cmp.{nat_list_eq_equiv}
+use Rattle.std.proofs.lemmas.Cmp.{nat_list_eq_equiv, lists_equiv}
 use Rattle.std.proofs.lemmas.List.Folds.{list_any-append}
 use Rattle.std.proofs.Math.Bool.{and-false, or-false, and_assoc}
 use Rattle.lists.specs.Members.{is_among}
@@ -20,7 +20,7 @@ use Rattle.pddl_parser.specs.Objects as pddl
 use Rattle.planning.specs.Task.{IsFull}
 use Rattle.pddl_parser.specs.Holds as holds
 use Rattle.pddl_parser.specs.Plan.{pddl_task}
-use Rattle.pddl_parser.proofs.SameAtoms.{same_name}
+use Rattle.pddl_parser.proofs.SameAtoms.{same_name, same_items}
 use Rattle.pddl_parser.proofs.ConditionCases.{Each}
 use Rattle.fault_positions.specs.Mentions.{in_condition, in_axiom}
 use Rattle.lists.proofs.Items.{Among, passing, same_any, map_source, flat_map_piece, within_left}
@@ -28,9 +28,9 @@ use Rattle.normal_task.specs.declared.task.AxiomRow.{AxiomRow}
 use Rattle.normal_task.specs.declared.task.GroundAtom.{GroundAtom}
 use Rattle.normal_task.specs.declared.task.Normal.{Normal}
 use Rattle.normal_task.specs.declared.task.PredicateRow.{PredicateRow}
-use Rattle.normal_task.specs.Numbers.{number_in, object_names, head_names, predicate_number, ranges_of}
+use Rattle.normal_task.specs.Numbers.{number_in, head_names, predicate_number, ranges_of}
 use Rattle.normal_task.specs.Meaning as task
-use Rattle.normal_task.specs.Meaning.{atom_of, State, Binding, objects_at, choices, answers, is_met, are_met}
+use Rattle.normal_task.specs.Meaning.{atom_of, State, are_met}
 use Rattle.normal_task.proofs.Chosen.{is_choice}
 use Rattle.normal_task.specs.Parts.{is_listed, Part, Fresh, in_turn, fresh_number, known}
 use Rattle.normal_task.specs.Normalised.{numbered_atom, parameter_scope, axiom_row, body_parts, axiom_rows, fresh_rows, fresh_predicates, declared_row, made_schemas, made_axioms, after_schemas, made_goal, all_fresh, normal}
@@ -40,8 +40,8 @@ use Rattle.normal_task.proofs.Chosen.{any-choices_shown, choice-any, eq-itself}
 use Rattle.normal_task.proofs.Mentioned.{is_declared, AreKnown}
 use Rattle.normal_task.proofs.Scopes.{length-map, length-append, number, is_known, inside-stands, range-known}
 use Rattle.normal_task.proofs.Fits.{predicate-declared}
-use Rattle.normal_task.proofs.PartsMean.{some_part, part_met, GivenIn, given-left, given-right}
-use Rattle.normal_task.proofs.ConditionsMean.{choices-numbers, ShowsFull, same-number, condition-means, named-choice-length}
+use Rattle.normal_task.proofs.PartsMean.{some_part, part_met, GivenAt, GivenIn, Numbered, numbered-left, numbered-right, numbered-second}
+use Rattle.normal_task.proofs.ConditionsMean.{choices-numbers, ShowsFull, same-number, same-objects, condition-means, named-choice-length}
 
 pub other-number : (m n : ℕ) → (m ≡ n → ⊥) → nat_eq m n ≡ false
 other-number m n apart = by (nat_eq m n) refl
@@ -89,11 +89,13 @@ module _ (domain : Domain) (problem : Problem) where
       ∙ ap (λ b. b && (is_choice first.arguments atom.objects && some_part state atom.objects first.parts)) (other-number (declared + next) atom.predicate (λ same. omega (arith, same, before))))
       ∙ rows-behind state atom (suc next) fresh (omega (arith, before))
 
-  -- The new predicates, numbered from here on, are those that their axioms give: for all objects.
+  -- the atoms of the new predicate are those that its axioms give, for all objects
+  abbrev pub AllGivenAt : State → ℕ → Fresh → Type 0
+  AllGivenAt state next fresh = (objects : List ℕ) → state (atom_of (declared + next) objects) ≡ (is_choice fresh.arguments objects && some_part state objects fresh.parts)
+
+  -- the same of these, which are numbered on from here
   abbrev pub AllGiven : State → ℕ → List Fresh → Type 0
-  AllGiven state next [] = Unit {0}
-  AllGiven state next (fresh ∷ more) =
-      ((objects : List ℕ) → state (atom_of (declared + next) objects) ≡ (is_choice fresh.arguments objects && some_part state objects fresh.parts)) × AllGiven state (suc next) more
+  AllGiven state = Numbered (AllGivenAt state)
 
   pub given-of_all : (state : State) (next : ℕ) (fresh : List Fresh) → AllGiven state next fresh → GivenIn declared state next fresh
   given-of_all state next [] all = tt
@@ -145,23 +147,25 @@ module _ (domain : Domain) (problem : Problem) where
 
   -- ---- which predicates are derived
 
-  abbrev pub derived_in : List PredicateRow → ℕ → Bool
-  derived_in rows predicate = unwrap_or (option_map (λ (row : PredicateRow). row.derived) (slice_get rows predicate)) false
+  -- what is told of the predicate's row, if it has one
+  abbrev pub told_in : (PredicateRow → Bool) → List PredicateRow → ℕ → Bool
+  told_in tell rows predicate = unwrap_or (option_map tell (slice_get rows predicate)) false
 
-  head-derived : (heads : List Head) (name : Name) → is_among is_same (head_names heads) name ≡ true →
-      derived_in (map (declared_row domain problem) heads) (number_in (head_names heads) name) ≡ holds.is_derived domain name
-  head-derived [] name among = absurd cc
-  head-derived (head ∷ heads) name among = by (is_same name head.name.name) refl among (head-derived heads name)
+  abbrev derived_in : List PredicateRow → ℕ → Bool
+  derived_in = told_in (λ row. row.derived)
+
+  -- what each row tells of its head's name is told of a declared name by the row at its number
+  pub head-told : (tell : PredicateRow → Bool) (of_name : Name → Bool) → ((head : Head) → tell (declared_row domain problem head) ≡ of_name head.name.name) → (heads : List Head) (name : Name) → is_among is_same (head_names heads) name ≡ true →
+      told_in tell (map (declared_row domain problem) heads) (number_in (head_names heads) name) ≡ of_name name
+  head-told tell of_name each [] name among = absurd cc
+  head-told tell of_name each (head ∷ heads) name among = by (is_same name head.name.name) refl among (head-told tell of_name each heads name)
     where
       by : (b : Bool) → is_same name head.name.name ≡ b → (b || is_among is_same (head_names heads) name) ≡ true →
-          (is_among is_same (head_names heads) name ≡ true → derived_in (map (declared_row domain problem) heads) (number_in (head_names heads) name) ≡ holds.is_derived domain name) →
-          derived_in (map (declared_row domain problem) (head ∷ heads)) (if not (is_same name head.name.name) then 1 + number_in (head_names heads) name else 0) ≡ holds.is_derived domain name
-      by true e among later =
-          ap (λ b. derived_in (map (declared_row domain problem) (head ∷ heads)) (if not b then 1 + number_in (head_names heads) name else 0)) e
-          ∙ ap (holds.is_derived domain) (sym (same_name name head.name.name e))
+          (is_among is_same (head_names heads) name ≡ true → told_in tell (map (declared_row domain problem) heads) (number_in (head_names heads) name) ≡ of_name name) →
+          told_in tell (map (declared_row domain problem) (head ∷ heads)) (if not b then 1 + number_in (head_names heads) name else 0) ≡ of_name name
+      by true e among later = each head ∙ ap of_name (sym (same_name name head.name.name e))
       by false e among later =
-          ap (λ b. derived_in (map (declared_row domain problem) (head ∷ heads)) (if not b then 1 + number_in (head_names heads) name else 0)) e
-          ∙ ap (derived_in (map (declared_row domain problem) (head ∷ heads))) (let same : 1 + number_in (head_names heads) name ≡ suc (number_in (head_names heads) name) = omega arith in same)
+          ap (told_in tell (map (declared_row domain problem) (head ∷ heads))) (let same : 1 + number_in (head_names heads) name ≡ suc (number_in (head_names heads) name) = omega arith in same)
           ∙ later among
 
   pub number-below : (name : Name) → is_declared domain problem name ≡ true → predicate_number domain name < declared
@@ -181,7 +185,7 @@ module _ (domain : Domain) (problem : Problem) where
   derived-declared name known =
       ap (λ (o : Option PredicateRow). unwrap_or (option_map (λ (row : PredicateRow). row.derived) o) false)
       (within_left all_heads (fresh_predicates domain problem 0 fresh_all) (predicate_number domain name) (omega (arith, heads-length, number-below name known)))
-      ∙ head-derived domain.predicates name known
+      ∙ head-told (λ row. row.derived) (holds.is_derived domain) (λ head. refl) domain.predicates name known
 
   fresh-row-derived : (next : ℕ) (fresh : List Fresh) (i : ℕ) → i < length fresh → derived_in (fresh_predicates domain problem next fresh) i ≡ true
   fresh-row-derived next [] i below = absurd (omega (arith, below))
@@ -274,9 +278,9 @@ module _ (domain : Domain) (problem : Problem) where
         let later = next + length (body_parts domain problem rule next).fresh in
         list_any-append (task.derives numbered atom) (axiom_rows domain problem rule next).items (in_turn (map (axiom_rows domain problem) rules) later).items
         ∙ ap (λ b. b || list_any (task.derives numbered atom) (in_turn (map (axiom_rows domain problem) rules) later).items)
-        (rule-means rule sound.0 next (given-left declared numbered next (body_parts domain problem rule next).fresh (in_turn (map (axiom_rows domain problem) rules) later).fresh given) atom)
+        (rule-means rule sound.0 next (numbered-left (GivenAt declared numbered) next (body_parts domain problem rule next).fresh (in_turn (map (axiom_rows domain problem) rules) later).fresh given) atom)
         ∙ ap (λ b. numbered_derives full atom rule || b)
-        (rules-mean rules sound.1 later (given-right declared numbered next (body_parts domain problem rule next).fresh (in_turn (map (axiom_rows domain problem) rules) later).fresh given) atom)
+        (rules-mean rules sound.1 later (numbered-right (GivenAt declared numbered) next (body_parts domain problem rule next).fresh (in_turn (map (axiom_rows domain problem) rules) later).fresh given) atom)
 
   -- no axiom of the files is for a new predicate
   pub rules-elsewhere : (state : State) (rules : List Derived) → Each RuleSound rules → (next : ℕ) (atom : GroundAtom) → declared ≤ atom.predicate → list_any (task.derives state atom) (in_turn (map (axiom_rows domain problem) rules) next).items ≡ false
@@ -292,28 +296,6 @@ module _ (domain : Domain) (problem : Problem) where
 
   -- ---- known atoms
 
-  same-objects : (xs ys : List Name) → pointwise is_same xs ys ≡ true → xs ≡ ys
-  same-objects [] [] e = refl
-  same-objects [] (y ∷ ys) e = absurd cc
-  same-objects (x ∷ xs) [] e = absurd cc
-  same-objects (x ∷ xs) (y ∷ ys) e =
-      let parts = and_parts (is_same x y) (pointwise is_same xs ys) e in
-      let here = same_name x y parts.0 in
-      let rest = same-objects xs ys parts.1 in
-      cc (here, rest)
-
-  same-numbers : (names objects : List Name) → list_all (is_known domain problem) names ≡ true → list_all (is_known domain problem) objects ≡ true → pointwise nat_eq (map num names) (map num objects) ≡ pointwise is_same objects names
-  same-numbers [] [] known_names known_objects = refl
-  same-numbers [] (o ∷ objects) known_names known_objects = refl
-  same-numbers (n ∷ names) [] known_names known_objects = refl
-  same-numbers (n ∷ names) (o ∷ objects) known_names known_objects =
-      let one = and_parts (is_known domain problem n) (list_all (is_known domain problem) names) known_names in
-      let other = and_parts (is_known domain problem o) (list_all (is_known domain problem) objects) known_objects in
-      let here = same-number (object_names domain problem) n o one.0 other.0 in
-      let swap = nat_list_eq_equiv.symm n o in
-      let rest = same-numbers names objects one.1 other.1 in
-      cc (here, swap, rest)
-
   pub choices-known : (variables : List Typed) (names : List Name) → Among names (pddl.choices domain problem variables) → list_all (is_known domain problem) names ≡ true
   choices-known [] names (inl none) = ap (list_all (is_known domain problem)) (sym none)
   choices-known [] names (inr never) = absurd never
@@ -327,7 +309,7 @@ module _ (domain : Domain) (problem : Problem) where
   pub chosen : (variables : List Typed) (names : List Name) → pddl.is_choice domain problem variables names ≡ true → Among names (pddl.choices domain problem variables)
   chosen variables names is =
       let found = passing (pointwise is_same names) (pddl.choices domain problem variables) is in
-      subst (λ (ns : List Name). Among ns (pddl.choices domain problem variables)) (sym (same-objects names found.item found.passes)) found.among
+      subst (λ (ns : List Name). Among ns (pddl.choices domain problem variables)) (sym (same_items is_same same_name names found.item found.passes)) found.among
 
   known-derives : (full : holds.State) (rule : Derived) → RuleSound rule → (atom : holds.GroundAtom) → is_known_atom domain problem atom ≡ true →
       numbered_derives full (numbered_atom domain problem atom) rule ≡ holds.derives domain problem full atom rule
@@ -338,13 +320,13 @@ module _ (domain : Domain) (problem : Problem) where
       (same-number (head_names domain.predicates) rule.head.name.name atom.predicate (head-declared rule sound) parts.0)
       ∙ ap (λ b. is_same rule.head.name.name atom.predicate && b)
       (same_any (λ names. pointwise nat_eq (map num names) (map num atom.objects) && rule_holds full rule names) (λ names. pointwise is_same atom.objects names && rule_holds full rule atom.objects) (pddl.choices domain problem variables)
-      (λ names among. one names (same-numbers names atom.objects (choices-known variables names among) parts.1) (pointwise is_same atom.objects names) refl)
+      (λ names among. one names (same-objects domain problem names atom.objects (choices-known variables names among) parts.1 ∙ (lists_equiv nat_list_eq_equiv).symm names atom.objects) (pointwise is_same atom.objects names) refl)
       ∙ any-and_right (rule_holds full rule atom.objects) (pointwise is_same atom.objects) (pddl.choices domain problem variables))
       ∙ sym (and_assoc (is_same rule.head.name.name atom.predicate) (pddl.is_choice domain problem variables atom.objects) (rule_holds full rule atom.objects))
     where
       one : (names : List Name) → pointwise nat_eq (map num names) (map num atom.objects) ≡ pointwise is_same atom.objects names → (b : Bool) → pointwise is_same atom.objects names ≡ b →
           (pointwise nat_eq (map num names) (map num atom.objects) && rule_holds full rule names) ≡ (pointwise is_same atom.objects names && rule_holds full rule atom.objects)
-      one names same true e = let equal = ap (rule_holds full rule) (same-objects atom.objects names e) in cc (same, e, equal)
+      one names same true e = let equal = ap (rule_holds full rule) (same_items is_same same_name atom.objects names e) in cc (same, e, equal)
       one names same false e = cc (same, e)
 
   pub known-rules : (full : holds.State) (rules : List Derived) → Each RuleSound rules → (atom : holds.GroundAtom) → is_known_atom domain problem atom ≡ true →
@@ -396,11 +378,7 @@ module _ (domain : Domain) (problem : Problem) where
         ∙ ap (λ b. b || list_any (task.derives full atom) (fresh_rows domain problem 0 fresh_all)) (rules-elsewhere full domain.axioms sound (after_schemas domain problem) atom (omega arith)))
 
     pub given-axioms : (state : State) → GivenIn declared state 0 fresh_all → GivenIn declared state (after_schemas domain problem) (made_axioms domain problem).fresh
-    given-axioms state given =
-        let schemas = (made_schemas domain problem).fresh in
-        let rest = given-right declared state 0 schemas ((made_axioms domain problem).fresh ++ (made_goal domain problem).fresh) given in
-        subst (λ (n : ℕ). GivenIn declared state n (made_axioms domain problem).fresh) (let same : 0 + length schemas ≡ length schemas = omega arith in same)
-        (given-left declared state (0 + length schemas) (made_axioms domain problem).fresh (made_goal domain problem).fresh rest)
+    given-axioms state = numbered-second (GivenAt declared state) (made_schemas domain problem).fresh (made_axioms domain problem).fresh (made_goal domain problem).fresh
 
     pub record FilesFull (state : holds.State) (numbered_full : State) : Type 0 where
       pub full : holds.State

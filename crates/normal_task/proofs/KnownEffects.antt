@@ -34,10 +34,10 @@ use Rattle.normal_task.proofs.Mentioned.{is_known_mention, AreKnown}
 use Rattle.normal_task.proofs.Scopes.{length-append, length-map, wider, inside-in_scope}
 use Rattle.normal_task.proofs.Fits.{part_fits, place_within, within-wider, terms-within, all_of-fits, condition-fits}
 use Rattle.normal_task.proofs.Bound.{in-inside, free-bound, terms-bound}
-use Rattle.normal_task.proofs.EffectsMean.{RequiredFits, fits-wider, fits-here, fits-also}
+use Rattle.normal_task.proofs.EffectsMean.{turns, RequiredFits, fits-wider, fits-here, fits-also}
 use Rattle.normal_task.proofs.EffectsFit.{AllInScope}
 use Rattle.type_checker.proofs.EffectFolds.{by_folds}
-use Rattle.normal_task.proofs.PredicateTable.{HaveRows, rows-left, rows-right}
+use Rattle.normal_task.proofs.PredicateTable.{HasRow, HaveRows, numbered-left, numbered-right}
 use Rattle.normal_task.proofs.KnownParts.{all-by_both, place_known, place-lawful, literal_known, literals-lawful, part_known, fresh_known, KnownFrom, all_of-known, ScopeKnown, HasTables, ranges-known, inside-known, terms-known, well_mentioned, AreWell, condition-known}
 
 -- ---- lawful rows
@@ -214,29 +214,16 @@ module _ (domain : Domain) (problem : Problem) (task : Normal) (tables : HasTabl
 
   -- ---- members
 
-  abbrev turns : List (ℕ → ℕ → Made Part) → Scope → ℕ → List Effect → List (ℕ → Made EffectRow)
-  turns required scope around members = map (λ member. member required scope around) (map (rows_of domain problem) members)
-
   abbrev mentions_of : List Effect → List Mention
   mentions_of members = flat_map (λ mentions. mentions) (map in_effect members)
 
   -- the same of a part of what is mentioned
-  left-told : (first second : List Mention) (required : List (ℕ → ℕ → Made Part)) (in_scope : List Name) (scope : Scope) (around : ℕ) → Around (first ++ second) required in_scope scope around → Around first required in_scope scope around
-  left-told first second required in_scope scope around told = record {
-    declared = all-left (is_known_mention domain problem) first second told.declared;
-    well = all-left (well_mentioned domain problem task tables) first second told.well;
-    changes = all-left (λ mention. list_all is_change (written_predicates mention)) first second told.changes;
-    bound = told.bound;
-    ranges = told.ranges;
-    fit = told.fit;
-    required_known = told.required_known;
-  }
-
-  right-told : (first second : List Mention) (required : List (ℕ → ℕ → Made Part)) (in_scope : List Name) (scope : Scope) (around : ℕ) → Around (first ++ second) required in_scope scope around → Around second required in_scope scope around
-  right-told first second required in_scope scope around told = record {
-    declared = all-right (is_known_mention domain problem) first second told.declared;
-    well = all-right (well_mentioned domain problem task tables) first second told.well;
-    changes = all-right (λ mention. list_all is_change (written_predicates mention)) first second told.changes;
+  part-told : {whole part : List Mention} {required : List (ℕ → ℕ → Made Part)} {in_scope : List Name} {scope : Scope} {around : ℕ} →
+      ((test : Mention → Bool) → list_all test whole ≡ true → list_all test part ≡ true) → Around whole required in_scope scope around → Around part required in_scope scope around
+  part-told passes told = record {
+    declared = passes (is_known_mention domain problem) told.declared;
+    well = passes (well_mentioned domain problem task tables) told.well;
+    changes = passes (λ mention. list_all is_change (written_predicates mention)) told.changes;
     bound = told.bound;
     ranges = told.ranges;
     fit = told.fit;
@@ -244,19 +231,19 @@ module _ (domain : Domain) (problem : Problem) (task : Normal) (tables : HasTabl
   }
 
   members-known : (members : List Effect) → Each KnownOf members → (required : List (ℕ → ℕ → Made Part)) (in_scope : List Name) (scope : Scope) (around : ℕ) → flat_map (λ member. member in_scope) (map scopes.in_effect members) ≡ [] →
-      Around (mentions_of members) required in_scope scope around → (next : ℕ) → HaveRows task base next (in_turn (turns required scope around members) next).fresh → RowsKnown around (in_turn (turns required scope around members) next)
+      Around (mentions_of members) required in_scope scope around → (next : ℕ) → HaveRows task base next (in_turn (turns domain problem required scope around members) next).fresh → RowsKnown around (in_turn (turns domain problem required scope around members) next)
   members-known [] each required in_scope scope around unbound told next rows = record { items = refl; fresh = refl }
   members-known (member ∷ members) each required in_scope scope around unbound told next rows =
       let first = rows_of domain problem member required scope around next in
       let later = next + length first.fresh in
-      let others = in_turn (turns required scope around members) later in
+      let others = in_turn (turns domain problem required scope around members) later in
       let unbound_others = flat_map (λ member. member in_scope) (map scopes.in_effect members) in
       let one =
       each.0 required in_scope scope around (left_empty (scopes.in_effect member in_scope) unbound_others unbound)
-      (left-told (in_effect member) (mentions_of members) required in_scope scope around told) next (rows-left task base next first.fresh others.fresh rows) in
+      (part-told (λ test. all-left test (in_effect member) (mentions_of members)) told) next (numbered-left (HasRow task base) next first.fresh others.fresh rows) in
       let rest =
       members-known members each.1 required in_scope scope around (right_empty (scopes.in_effect member in_scope) unbound_others unbound)
-      (right-told (in_effect member) (mentions_of members) required in_scope scope around told) later (rows-right task base next first.fresh others.fresh rows) in
+      (part-told (λ test. all-right test (in_effect member) (mentions_of members)) told) later (numbered-right (HasRow task base) next first.fresh others.fresh rows) in
       record {
         items = all-both (is_effect task around) first.items others.items one.items rest.items;
         fresh = all-both (fresh_known task) first.fresh others.fresh one.fresh rest.fresh;
@@ -278,8 +265,8 @@ module _ (domain : Domain) (problem : Problem) (task : Normal) (tables : HasTabl
     at_and = λ members at held required in_scope scope around unbound told next rows. members-known members held required in_scope scope around unbound told next rows;
     at_when = λ condition inside at held required in_scope scope around unbound told next rows.
         let here = left_empty (scopes.in_condition condition in_scope) (scopes.in_effect inside in_scope) unbound in
-        let one = left-told (in_condition condition) (in_effect inside) required in_scope scope around told in
-        let other = right-told (in_condition condition) (in_effect inside) required in_scope scope around told in
+        let one = part-told (λ test. all-left test (in_condition condition) (in_effect inside)) told in
+        let other = part-told (λ test. all-right test (in_condition condition) (in_effect inside)) told in
         held (required ++ (λ around. parts domain problem condition true scope around) ∷ []) in_scope scope around (right_empty (scopes.in_condition condition in_scope) (scopes.in_effect inside in_scope) unbound)
         record {
           declared = other.declared;

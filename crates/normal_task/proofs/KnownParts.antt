@@ -1,7 +1,7 @@
 -- The parts of a condition and of its new predicates are of objects, of variables with sorted ranges, and of predicates with as many arguments.
 use Rattle.std.proofs.Common.{◌≡◌, ℕ, suc, ◌+◌, Bool, true, false, not, ◌&&◌, List, [], ◌∷◌, ◌++◌, map, length, Option, Some, None, refl, sym, ◌∙◌, subst}
 use Rattle.std.specs.Prelude.{slice_get, ◌==◌, if◌then◌else◌}
-use Rattle.std.specs.List.{list_all, flat_map}
+use Rattle.std.specs.List.{list_all}
 use Rattle.std.proofs.lemmas.Bool.{and_parts, and_from}
 use Rattle.lists.specs.Members.{is_among}
 use Rattle.pddl_parser.specs.declared.types.Condition.{Condition}
@@ -14,7 +14,7 @@ use Rattle.pddl_parser.specs.Words.{Name, is_same}
 use Rattle.pddl_parser.specs.Objects.{objects}
 use Rattle.pddl_parser.specs.Holds.{is_derived}
 use Rattle.pddl_parser.proofs.ConditionCases.{Each}
-use Rattle.fault_positions.specs.Mentions.{Mention, Asked, Compared, Use, use_of, in_condition, condition_step}
+use Rattle.fault_positions.specs.Mentions.{Mention, Asked, Compared, Use, use_of}
 use Rattle.fault_positions.specs.Names as names
 use Rattle.type_checker.specs.Faultless.{has_predicate, is_known, has_objects}
 use Rattle.type_checker.proofs.Declared.{object_among}
@@ -27,19 +27,13 @@ use Rattle.normal_task.specs.declared.task.PredicateRow.{PredicateRow}
 use Rattle.normal_task.specs.Lawful.{has_row, is_object, is_range, is_predicate, has_arity, is_place, is_literal}
 use Rattle.normal_task.specs.Normalised.{is_changed}
 use Rattle.normal_task.specs.Numbers.{object_names, object_number, predicate_number, range_of, ranges_of}
-use Rattle.normal_task.specs.Parts.{Slot, Scope, with_slot, slots_for, renumbered, scope_inside, Part, Fresh, Made, in_turn, all_of, moved_place, moved, joined, paired, with_variables, Known, place_of, fresh_number, free_slots, exists_inside, none_inside, known_step, known}
+use Rattle.normal_task.specs.Parts.{Slot, Scope, with_slot, slots_for, renumbered, scope_inside, Part, Fresh, Made, in_turn, all_of, moved_place, moved, joined, paired, with_variables, Known, place_of, fresh_number, free_slots, exists_inside, none_inside}
+pub use Rattle.normal_task.proofs.Alls.{all-by_both}
 use Rattle.normal_task.proofs.Alls.{all-both, all-left, all-right, all-images, all-pieces}
 use Rattle.normal_task.proofs.Fits.{place_within, literal_within, literal_from, fits}
-use Rattle.normal_task.proofs.PredicateTable.{is_fresh_row, HaveRows, rows-left, rows-right}
+use Rattle.normal_task.proofs.PredicateTable.{is_fresh_row, HasRow, HaveRows, numbered-left, numbered-right}
 use Rattle.normal_task.proofs.Scopes.{length-map, hides}
-use Rattle.normal_task.proofs.ThreeFolds.{by_folds}
-
-pub all-by_both : {X : Type 0} (one other whole : X → Bool) → ((x : X) → one x ≡ true → other x ≡ true → whole x ≡ true) → (xs : List X) → list_all one xs ≡ true → list_all other xs ≡ true → list_all whole xs ≡ true
-all-by_both one other whole both [] p q = refl
-all-by_both one other whole both (x ∷ xs) p q =
-    let first = and_parts (one x) (list_all one xs) p in
-    let second = and_parts (other x) (list_all other xs) q in
-    and_from (whole x) (list_all whole xs) (both x first.0 second.0) (all-by_both one other whole both xs first.1 second.1)
+use Rattle.normal_task.proofs.CutCases.{CutOf, Laws, cuts-shown}
 
 module _ (task : Normal) where
   -- ---- places and literals
@@ -143,8 +137,8 @@ module _ (task : Normal) where
     in_turn-known [] each next rows = record { items = refl; fresh = refl }
     in_turn-known (first ∷ more) each next rows =
         let later = next + length (first next).fresh in
-        let one = each.0 next (rows-left task base next (first next).fresh (in_turn more later).fresh rows) in
-        let rest = in_turn-known more each.1 later (rows-right task base next (first next).fresh (in_turn more later).fresh rows) in
+        let one = each.0 next (numbered-left (HasRow task base) next (first next).fresh (in_turn more later).fresh rows) in
+        let rest = in_turn-known more each.1 later (numbered-right (HasRow task base) next (first next).fresh (in_turn more later).fresh rows) in
         record {
           items = all-both part_known (first next).items (in_turn more later).items one.items rest.items;
           fresh = all-both fresh_known (first next).fresh (in_turn more later).fresh one.fresh rest.fresh;
@@ -154,8 +148,8 @@ module _ (task : Normal) where
     all_of-known around [] each next rows = record { items = refl; fresh = refl }
     all_of-known around (first ∷ more) each next rows =
         let later = next + length (first next).fresh in
-        let one = each.0 next (rows-left task base next (first next).fresh (all_of around more later).fresh rows) in
-        let rest = all_of-known around more each.1 later (rows-right task base next (first next).fresh (all_of around more later).fresh rows) in
+        let one = each.0 next (numbered-left (HasRow task base) next (first next).fresh (all_of around more later).fresh rows) in
+        let rest = all_of-known around more each.1 later (numbered-right (HasRow task base) next (first next).fresh (all_of around more later).fresh rows) in
         record {
           items = paired-known around (first next).items (all_of around more later).items one.items rest.items;
           fresh = all-both fresh_known (first next).fresh (all_of around more later).fresh one.fresh rest.fresh;
@@ -221,8 +215,9 @@ module _ (domain : Domain) (problem : Problem) (task : Normal) (tables : HasTabl
   abbrev pub AreWell : List Mention → Type 0
   AreWell mentions = list_all well_mentioned mentions ≡ true
 
-  abbrev CutKnown : Known → Unit {0} → List Mention → Type 0
-  CutKnown cut unused mentions = AreWell mentions → (positive : Bool) (scope : Scope) (around : ℕ) → ScopeKnown task scope → KnownFrom task base (cut.cut positive scope around)
+  -- what is made is known where its new predicates have their rows
+  abbrev Shown : ℕ → ℕ → Made Part → Type 0
+  Shown around next made = HaveRows task base next made.fresh → MadeKnown task made
 
   exists-known : (variables : List Typed) (inside : Known) (positive : Bool) (scope : Scope) (around : ℕ) → ((scope : Scope) (around : ℕ) → ScopeKnown task scope → KnownFrom task base (inside.cut positive scope around)) →
       ScopeKnown task scope → KnownFrom task base (exists_inside domain problem variables inside positive scope around)
@@ -261,24 +256,15 @@ module _ (domain : Domain) (problem : Problem) (task : Normal) (tables : HasTabl
             (and_from (list_all (is_range task) (map (λ (slot : Slot). slot.range) arguments)) (list_all (part_known task) made.items) ranges body.items) body.fresh;
       }
 
-  abbrev pub CutOf : Condition → Type 0
-  CutOf condition = CutKnown (known domain problem condition) tt (in_condition condition)
+  abbrev ScopeHere : (Name → Bool) → Scope → ℕ → Type 0
+  ScopeHere is_free scope around = ScopeKnown task scope
 
-  abbrev cuts : Bool → Scope → ℕ → List Known → List (ℕ → Made Part)
-  cuts positive scope around list = map (λ member. member.cut positive scope around) list
-
-  members-known : (positive : Bool) (scope : Scope) (around : ℕ) (members : List Condition) → Each CutOf members → AreWell (flat_map (λ mentions. mentions) (map in_condition members)) → ScopeKnown task scope →
-      Each (KnownFrom task base) (cuts positive scope around (map (known domain problem) members))
-  members-known positive scope around [] each mentioned is = tt
-  members-known positive scope around (member ∷ members) each mentioned is = (
-    each.0 (all-left well_mentioned (in_condition member) (flat_map (λ mentions. mentions) (map in_condition members)) mentioned) positive scope around is,
-    members-known positive scope around members each.1 (all-right well_mentioned (in_condition member) (flat_map (λ mentions. mentions) (map in_condition members)) mentioned) is,
-  )
-
-  -- the parts of a condition, and those of its new predicates, are known
-  pub condition-known : (condition : Condition) → CutOf condition
-  condition-known = by_folds Known (Unit {0}) (List Mention) (known_step domain problem) (λ layer. tt) condition_step CutKnown record {
-    at_true = λ at mentioned positive scope around is next rows. at_truth positive around next;
+  laws : Laws domain problem AreWell ScopeHere Shown
+  laws = record {
+    told_left = all-left well_mentioned;
+    told_right = all-right well_mentioned;
+    within_left = λ one other scope around is. is;
+    within_right = λ one other scope around is. is;
     at_atom = λ atom mentioned positive scope around is next rows.
         let parts = and_parts (has_predicate domain (Asked atom)) (has_objects domain problem (Asked atom)) (and_parts (well_mentioned (Asked atom)) true mentioned).0 in
         let declared = (and_parts (names.has_arity domain.predicates (use_of atom)) true parts.0).0 in
@@ -301,44 +287,12 @@ module _ (domain : Domain) (problem : Problem) (task : Normal) (tables : HasTabl
               (term-known scope left one.0) (term-known scope right (and_parts (is_known domain problem right) true one.1).0));
           fresh = refl;
         };
-    at_not = λ inside at held mentioned positive scope around is. held mentioned (not positive) scope around is;
-    at_and = λ members at held mentioned positive scope around is next rows.
-        all_or_turn positive (cuts true scope around (map (known domain problem) members)) (cuts false scope around (map (known domain problem) members)) around next
-        (members-known true scope around members held mentioned is) (members-known false scope around members held mentioned is) rows;
-    at_or = λ members at held mentioned positive scope around is next rows.
-        turn_or_all positive (cuts true scope around (map (known domain problem) members)) (cuts false scope around (map (known domain problem) members)) around next
-        (members-known true scope around members held mentioned is) (members-known false scope around members held mentioned is) rows;
-    at_imply = λ premise conclusion at held later mentioned positive scope around is next rows.
-        let left = held (all-left well_mentioned (in_condition premise) (in_condition conclusion) mentioned) in
-        let right = later (all-right well_mentioned (in_condition premise) (in_condition conclusion) mentioned) in
-        turn_or_all positive ((known domain problem premise).cut false scope around ∷ (known domain problem conclusion).cut true scope around ∷ [])
-        ((known domain problem premise).cut true scope around ∷ (known domain problem conclusion).cut false scope around ∷ []) around next
-        (left false scope around is, (right true scope around is, tt)) (left true scope around is, (right false scope around is, tt)) rows;
-    at_forall = λ variables inside at held mentioned positive scope around is next.
-        either positive (none_inside domain problem variables (known domain problem inside) false scope around next) (exists_inside domain problem variables (known domain problem inside) false scope around next) next
-        (none-known variables (known domain problem inside) false scope around (held mentioned false) is next)
-        (exists-known variables (known domain problem inside) false scope around (held mentioned false) is next);
-    at_exists = λ variables inside at held mentioned positive scope around is next.
-        either positive (exists_inside domain problem variables (known domain problem inside) true scope around next) (none_inside domain problem variables (known domain problem inside) true scope around next) next
-        (exists-known variables (known domain problem inside) true scope around (held mentioned true) is next)
-        (none-known variables (known domain problem inside) true scope around (held mentioned true) is next);
+    in_turn_shown = λ around. in_turn-known task base;
+    all_of_shown = all_of-known task base;
+    exists_shown = exists-known;
+    none_shown = none-known;
   }
-    where
-      at_truth : (positive : Bool) (around next : ℕ) → MadeKnown task (if positive then all_of around [] next else in_turn [] next)
-      at_truth true around next = record { items = refl; fresh = refl }
-      at_truth false around next = record { items = refl; fresh = refl }
 
-      either : (positive : Bool) (one other : Made Part) (next : ℕ) → (HaveRows task base next one.fresh → MadeKnown task one) → (HaveRows task base next other.fresh → MadeKnown task other) →
-          HaveRows task base next (if positive then one else other).fresh → MadeKnown task (if positive then one else other)
-      either true one other next is is_other = is
-      either false one other next is is_other = is_other
-
-      all_or_turn : (positive : Bool) (ones others : List (ℕ → Made Part)) (around next : ℕ) → Each (KnownFrom task base) ones → Each (KnownFrom task base) others →
-          HaveRows task base next (if positive then all_of around ones next else in_turn others next).fresh → MadeKnown task (if positive then all_of around ones next else in_turn others next)
-      all_or_turn true ones others around next each each_other = all_of-known task base around ones each next
-      all_or_turn false ones others around next each each_other = in_turn-known task base others each_other next
-
-      turn_or_all : (positive : Bool) (ones others : List (ℕ → Made Part)) (around next : ℕ) → Each (KnownFrom task base) ones → Each (KnownFrom task base) others →
-          HaveRows task base next (if positive then in_turn ones next else all_of around others next).fresh → MadeKnown task (if positive then in_turn ones next else all_of around others next)
-      turn_or_all true ones others around next each each_other = in_turn-known task base ones each next
-      turn_or_all false ones others around next each each_other = all_of-known task base around others each_other next
+  -- the parts of a condition, and those of its new predicates, are known
+  pub condition-known : (condition : Condition) → CutOf domain problem AreWell ScopeHere Shown condition
+  condition-known = cuts-shown domain problem AreWell ScopeHere Shown laws

@@ -21,14 +21,14 @@ use Rattle.normal_task.specs.Parts.{Scope, Part, Fresh, fresh_number}
 use Rattle.normal_task.specs.Normalised.{parameter_scope, axiom_row, body_parts, axiom_rows, fresh_rows, normal}
 use Rattle.normal_task.proofs.Alls.{all-both, all-images, all-weaker}
 use Rattle.normal_task.proofs.Bound.{free-bound}
-use Rattle.normal_task.proofs.Faultless.{rules_sound}
+use Rattle.normal_task.proofs.EffectsFit.{parameters-in_scope}
+use Rattle.normal_task.proofs.Faultless.{rule_sound}
 use Rattle.normal_task.proofs.Fits.{literal_within, literal_from, fits, part_fits, parts_fit, fresh_fit, MadeFits, condition-fits}
-use Rattle.normal_task.proofs.FullStatesMatch.{RuleSound, body-mentioned}
+use Rattle.normal_task.proofs.FullStatesMatch.{body-mentioned}
 use Rattle.normal_task.proofs.KnownParts.{all-by_both, literal_known, literal-lawful, part_known, fresh_known, MadeKnown, ranges-known, inside-known, well_mentioned, condition-known}
 use Rattle.normal_task.proofs.PredicateTable.{HaveRows, declared-derived}
-use Rattle.normal_task.proofs.Ranks.{each-among}
 use Rattle.normal_task.proofs.Scopes.{length-append, length-map}
-use Rattle.normal_task.proofs.WellMentioned.{parameters-in_scope, tables, rule-well}
+use Rattle.normal_task.proofs.WellMentioned.{tables, rule-well}
 use Rattle.pddl_parser.proofs.Steps.{name_same}
 
 -- ---- variables below their bounds, wherever new predicates begin
@@ -111,7 +111,7 @@ module _ (domain : Domain) (problem : Problem) where
 
     body-fits : (next : ℕ) → MadeFits base (length rule.head.variables) next (body_parts domain problem rule next)
     body-fits next =
-        condition-fits domain problem rule.body (body-mentioned domain problem rule (each-among (RuleSound domain problem) domain.axioms rule (rules_sound domain problem none) among)) true scope (length rule.head.variables)
+        condition-fits domain problem rule.body (body-mentioned domain problem rule (rule_sound domain problem none rule among)) true scope (length rule.head.variables)
         (λ name free.
         parameters-in_scope domain problem rule.head.variables name
         (free-bound domain problem rule.body (scopes.inside_of rule.head.variables []) (axiom_bound domain problem none rule among) name free)) next

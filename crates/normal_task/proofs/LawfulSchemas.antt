@@ -31,16 +31,16 @@ use Rattle.normal_task.specs.Parts.{Scope, Part, place_of}
 use Rattle.normal_task.specs.Normalised.{parameter_scope, increase_row, action_cost, moved_row, schema, precondition_parts, effect_rows, schemas, normal}
 use Rattle.normal_task.proofs.Alls.{all-both, all-left, all-right, all-images}
 use Rattle.normal_task.proofs.Bound.{free-bound, terms-bound}
-use Rattle.normal_task.proofs.EffectsFit.{AllInScope}
+use Rattle.normal_task.proofs.EffectsFit.{AllInScope, parameters-in_scope}
 use Rattle.normal_task.proofs.Faultless.{action_mentioned}
 use Rattle.normal_task.proofs.Fits.{part_fits, MadeFits, place_within, within-wider, terms-within, condition-fits}
 use Rattle.normal_task.proofs.KnownEffects.{row-moved, RowsKnown, effect-known}
 use Rattle.normal_task.proofs.KnownParts.{all-by_both, place_known, place-lawful, literal_known, literals-lawful, part_known, fresh_known, MadeKnown, ranges-known, inside-known, terms-known, well_mentioned, condition-known}
 use Rattle.normal_task.proofs.Mentioned.{is_known_mention}
 use Rattle.normal_task.proofs.NameWords.{spelled-word}
-use Rattle.normal_task.proofs.PredicateTable.{HaveRows, rows-left, rows-right}
+use Rattle.normal_task.proofs.PredicateTable.{HasRow, HaveRows, numbered-left, numbered-right}
 use Rattle.normal_task.proofs.Scopes.{length-append, length-map}
-use Rattle.normal_task.proofs.WellMentioned.{parameters-in_scope, tables, action-well, action-changes}
+use Rattle.normal_task.proofs.WellMentioned.{tables, action-well, action-changes}
 
 module _ (domain : Domain) (problem : Problem) (none : check_faults domain problem ≡ []) where
   abbrev task : Normal
@@ -181,8 +181,8 @@ module _ (domain : Domain) (problem : Problem) (none : check_faults domain probl
         let later = next + length first.fresh in
         let second = effect_rows domain problem action later in
         let fit = precondition-fits next in
-        let is = precondition-known next (rows-left task base next first.fresh second.fresh rows) in
-        let effects = effects-known later (rows-right task base next first.fresh second.fresh rows) in
+        let is = precondition-known next (numbered-left (HasRow task base) next first.fresh second.fresh rows) in
+        let effects = effects-known later (numbered-right (HasRow task base) next first.fresh second.fresh rows) in
         let test : Part → Bool = λ part. is_schema task (schema domain problem action second.items part) in (
           all-images test (is_schema task) (schema domain problem action second.items) (λ part one. one) first.items
               (all-by_both (part_fits base count next) (part_known task) test (schema-lawful spelled second.items effects.items next) first.items fit.items is.items),

@@ -25,7 +25,7 @@ use Rattle.normal_task.proofs.LawfulAxioms.{part_within, fresh_within, parts-wit
 use Rattle.normal_task.proofs.LawfulSchemas.{schemas-lawful}
 use Rattle.normal_task.proofs.NameWords.{objects-words}
 use Rattle.normal_task.proofs.OnceEach.{once-differ, same_atom-swap, same_value-swap}
-use Rattle.normal_task.proofs.PredicateTable.{is_fresh_row, HaveRows, rows-left, rows-right, all-rows, predicates-are}
+use Rattle.normal_task.proofs.PredicateTable.{is_fresh_row, HasRow, HaveRows, numbered-left, numbered-right, numbered-second, numbered-third, all-rows, predicates-are}
 use Rattle.normal_task.proofs.Ranks.{rank}
 use Rattle.normal_task.proofs.RanksFall.{ranks-fall}
 use Rattle.normal_task.proofs.WellMentioned.{tables, goal-well}
@@ -39,8 +39,8 @@ turns-lawful task base make test (x ∷ xs) each next rows =
     let first = make x next in
     let later = next + length first.fresh in
     let others = in_turn (map make xs) later in
-    let one = each x (inl refl) next (rows-left task base next first.fresh others.fresh rows) in
-    let rest = turns-lawful task base make test xs (λ y among. each y (inr among)) later (rows-right task base next first.fresh others.fresh rows) in
+    let one = each x (inl refl) next (numbered-left (HasRow task base) next first.fresh others.fresh rows) in
+    let rest = turns-lawful task base make test xs (λ y among. each y (inr among)) later (numbered-right (HasRow task base) next first.fresh others.fresh rows) in
     (all-both test first.items others.items one.0 rest.0, all-both (fresh_known task) first.fresh others.fresh one.1 rest.1)
 
 module _ (domain : Domain) (problem : Problem) (none : check_faults domain problem ≡ []) where
@@ -55,20 +55,15 @@ module _ (domain : Domain) (problem : Problem) (none : check_faults domain probl
   abbrev behind_schemas : List Fresh
   behind_schemas = (made_axioms domain problem).fresh ++ (made_goal domain problem).fresh
 
-  rows-behind : HaveRows task base (after_schemas domain problem) behind_schemas
-  rows-behind =
-      subst (λ (n : ℕ). HaveRows task base n behind_schemas) (let same : 0 + length (made_schemas domain problem).fresh ≡ after_schemas domain problem = omega arith in same)
-      (rows-right task base 0 (made_schemas domain problem).fresh behind_schemas (all-rows domain problem))
-
   schemas-are : IsWellSpelled domain → (list_all (is_schema task) (made_schemas domain problem).items ≡ true) × (list_all (fresh_known task) (made_schemas domain problem).fresh ≡ true)
   schemas-are spelled =
       turns-lawful task base (schemas domain problem) (is_schema task) domain.actions (λ action among. schemas-lawful domain problem none action among spelled) 0
-      (rows-left task base 0 (made_schemas domain problem).fresh behind_schemas (all-rows domain problem))
+      (numbered-left (HasRow task base) 0 (made_schemas domain problem).fresh behind_schemas (all-rows domain problem))
 
   rules-are : (list_all (is_axiom task) (made_axioms domain problem).items ≡ true) × (list_all (fresh_known task) (made_axioms domain problem).fresh ≡ true)
   rules-are =
       turns-lawful task base (axiom_rows domain problem) (is_axiom task) domain.axioms (λ rule among. rule-lawful domain problem none rule among) (after_schemas domain problem)
-      (rows-left task base (after_schemas domain problem) (made_axioms domain problem).fresh (made_goal domain problem).fresh rows-behind)
+      (numbered-second (HasRow task base) (made_schemas domain problem).fresh (made_axioms domain problem).fresh (made_goal domain problem).fresh (all-rows domain problem))
 
   -- ---- the goal
 
@@ -78,12 +73,12 @@ module _ (domain : Domain) (problem : Problem) (none : check_faults domain probl
   goal-rows : HaveRows task base (after_axioms domain problem) ((goal_parts domain problem).fresh ++ last_fresh domain problem (goal_parts domain problem).items)
   goal-rows =
       subst (HaveRows task base (after_axioms domain problem)) (goal-last domain problem (goal_parts domain problem).items)
-      (rows-right task base (after_schemas domain problem) (made_axioms domain problem).fresh (made_goal domain problem).fresh rows-behind)
+      (numbered-third (HasRow task base) (made_schemas domain problem).fresh (made_axioms domain problem).fresh (made_goal domain problem).fresh (all-rows domain problem))
 
   goal-known : MadeKnown task (goal_parts domain problem)
   goal-known =
       condition-known domain problem task (tables domain problem none) problem.goal (goal-well domain problem none) true [] 0 refl (after_axioms domain problem)
-      (rows-left task base (after_axioms domain problem) (goal_parts domain problem).fresh (last_fresh domain problem (goal_parts domain problem).items) goal-rows)
+      (numbered-left (HasRow task base) (after_axioms domain problem) (goal_parts domain problem).fresh (last_fresh domain problem (goal_parts domain problem).items) goal-rows)
 
   goal-fits : MadeFits base 0 (after_axioms domain problem) (goal_parts domain problem)
   goal-fits =
@@ -124,7 +119,7 @@ module _ (domain : Domain) (problem : Problem) (none : check_faults domain probl
   goal-is : list_all (is_literal task 0) (made_goal domain problem).items ≡ true
   goal-is =
       goal-of (goal_parts domain problem).items goal-within goal-known.items
-      (rows-right task base (after_axioms domain problem) (goal_parts domain problem).fresh (last_fresh domain problem (goal_parts domain problem).items) goal-rows)
+      (numbered-right (HasRow task base) (after_axioms domain problem) (goal_parts domain problem).fresh (last_fresh domain problem (goal_parts domain problem).items) goal-rows)
 
   -- ---- new predicates
 

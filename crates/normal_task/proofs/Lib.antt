@@ -3,6 +3,8 @@ pub mod Alls
 pub mod Chosen
 pub mod Scopes
 mod ThreeFolds
+mod CutCases
+mod NumberedFresh
 pub mod Mentioned
 mod Fits
 pub mod PartsMean
@@ -12,7 +14,7 @@ mod Filled
 mod Bound
 pub mod EffectsMean
 mod EffectsFit
-mod MadeInTurn
+pub mod MadeInTurn
 pub mod Steps
 mod StartsAndGoals
 pub mod Faultless

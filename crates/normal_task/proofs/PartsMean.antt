@@ -1,7 +1,7 @@
 -- A condition holds exactly where some part of it is met, for some objects of its variables.
 use Rattle.std.proofs.Common.{◌≡◌, ℕ, suc, ◌+◌, ◌-◌, Bool, true, false, ◌&&◌, ◌||◌, List, [], ◌∷◌, ◌++◌, map, length, get_or, refl, sym, ap, ◌∙◌, subst, arith, inl, inr}
 use Rattle.std.specs.Prelude.{nat_eq, nat_lt, if◌then◌else◌}
-use Rattle.std.specs.List.{list_all, list_any}
+use Rattle.std.specs.List.{list_all, list_any, AllZip}
 use Rattle.std.proofs.lemmas.Bool.{and_parts, ltb-true, ltb-false}
 use Rattle.std.proofs.lemmas.List.{get_or_append_left}
 use Rattle.std.proofs.Math.Seq.{get_or-append_right}
@@ -15,6 +15,7 @@ use Rattle.normal_task.specs.declared.task.Place.TheVariants.{Variable, Object}
 use Rattle.normal_task.specs.Meaning.{atom_of, State, Binding, object_at, objects_at, choices, answers, is_met, are_met}
 use Rattle.normal_task.proofs.Chosen.{is_choice}
 use Rattle.normal_task.specs.Parts.{Part, Fresh, Made, in_turn, all_of, moved_place, moved, joined, paired, with_variables}
+pub use Rattle.normal_task.proofs.NumberedFresh.{Numbered, numbered-left, numbered-right, numbered-both, numbered-second, numbered-third}
 use Rattle.normal_task.proofs.Anys.{any-map, any-flat_map, any-same, any-swap, any-both}
 use Rattle.normal_task.proofs.Alls.{all-weaker}
 use Rattle.normal_task.proofs.Chosen.{any-choices_append}
@@ -72,15 +73,15 @@ place-moved binding first second (Variable number) = by (nat_lt number (length b
         ∙ ap (λ (n : ℕ). get_or second n 0) (let same : number + length first - length binding - length first ≡ number - length binding = omega (arith, l) in same)
         ∙ sym (get_or-append_right binding second number 0 (omega (arith, l)))
 
-places-moved : (binding first second : Binding) (places : List Place) → objects_at (binding ++ (first ++ second)) (map (moved_place (length binding) (length first)) places) ≡ objects_at (binding ++ second) places
-places-moved binding first second [] = refl
-places-moved binding first second (place ∷ places) =
+pub moved-places : (binding first second : Binding) (places : List Place) → objects_at (binding ++ (first ++ second)) (map (moved_place (length binding) (length first)) places) ≡ objects_at (binding ++ second) places
+moved-places binding first second [] = refl
+moved-places binding first second (place ∷ places) =
     let here = place-moved binding first second place in
-    let rest = places-moved binding first second places in
+    let rest = moved-places binding first second places in
     cc (here, rest)
 
 met-moved : (state : State) (binding first second : Binding) (literal : Literal) → is_met state (binding ++ (first ++ second)) (moved (length binding) (length first) literal) ≡ is_met state (binding ++ second) literal
-met-moved state binding first second (Holds positive predicate places) = ap (λ (os : List ℕ). answers positive (state (atom_of predicate os))) (places-moved binding first second places)
+met-moved state binding first second (Holds positive predicate places) = ap (λ (os : List ℕ). answers positive (state (atom_of predicate os))) (moved-places binding first second places)
 met-moved state binding first second (Equal positive left right) =
     ap (λ (n : ℕ). answers positive (nat_eq n (object_at (binding ++ (first ++ second)) (moved_place (length binding) (length first) right)))) (place-moved binding first second left)
     ∙ ap (λ (n : ℕ). answers positive (nat_eq (object_at (binding ++ second) left) n)) (place-moved binding first second right)
@@ -91,9 +92,6 @@ all-met-moved state binding first second [] = refl
 all-met-moved state binding first second (literal ∷ literals) =
     ap (λ b. b && are_met state (binding ++ (first ++ second)) (map (moved (length binding) (length first)) literals)) (met-moved state binding first second literal)
     ∙ ap (λ b. is_met state (binding ++ second) literal && b) (all-met-moved state binding first second literals)
-
-pub moved-places : (binding first second : Binding) (places : List Place) → objects_at (binding ++ (first ++ second)) (map (moved_place (length binding) (length first)) places) ≡ objects_at (binding ++ second) places
-moved-places = places-moved
 
 -- ---- parts
 
@@ -157,31 +155,20 @@ with_variables-met state binding ranges parts =
 -- ---- new predicates
 
 module _ (declared : ℕ) (full : State) where
-  -- the atoms of the new predicates, numbered on from here, are those that the parts of their axioms give
+  -- the atoms of the new predicate are those that the parts of its axioms give
+  abbrev pub GivenAt : ℕ → Fresh → Type 0
+  GivenAt next fresh = (objects : List ℕ) → is_choice fresh.arguments objects ≡ true → full (atom_of (declared + next) objects) ≡ some_part full objects fresh.parts
+
+  -- the same of these, which are numbered on from here
   abbrev pub GivenIn : ℕ → List Fresh → Type 0
-  GivenIn next [] = Unit {0}
-  GivenIn next (fresh ∷ more) =
-      ((objects : List ℕ) → is_choice fresh.arguments objects ≡ true → full (atom_of (declared + next) objects) ≡ some_part full objects fresh.parts) × GivenIn (suc next) more
-
-  pub given-left : (next : ℕ) (first second : List Fresh) → GivenIn next (first ++ second) → GivenIn next first
-  given-left next [] second given = tt
-  given-left next (fresh ∷ first) second given = (given.0, given-left (suc next) first second given.1)
-
-  pub given-right : (next : ℕ) (first second : List Fresh) → GivenIn next (first ++ second) → GivenIn (next + length first) second
-  given-right next [] second given = let same : next ≡ next + length {A = Fresh} [] = omega arith in subst (λ (n : ℕ). GivenIn n second) same given
-  given-right next (fresh ∷ first) second given =
-      let same : suc next + length first ≡ next + length (fresh ∷ first) = omega arith in
-      subst (λ (n : ℕ). GivenIn n second) same (given-right (suc next) first second given.1)
+  GivenIn = Numbered GivenAt
 
   -- what is made says so much of the binding
   abbrev pub MeansFrom : Binding → (ℕ → Made Part) → Bool → Type 0
   MeansFrom binding make truth = (next : ℕ) → GivenIn next (make next).fresh → some_part full binding (make next).items ≡ truth
 
   abbrev pub EachMeans : Binding → List (ℕ → Made Part) → List Bool → Type 0
-  EachMeans binding [] [] = Unit {0}
-  EachMeans binding [] (truth ∷ truths) = ⊥
-  EachMeans binding (make ∷ makes) [] = ⊥
-  EachMeans binding (make ∷ makes) (truth ∷ truths) = MeansFrom binding make truth × EachMeans binding makes truths
+  EachMeans binding = AllZip (MeansFrom binding)
 
   pub in_turn-means : (binding : Binding) (makes : List (ℕ → Made Part)) (truths : List Bool) → EachMeans binding makes truths → MeansFrom binding (in_turn makes) (list_any (λ truth. truth) truths)
   in_turn-means binding [] [] each next given = refl
@@ -190,8 +177,8 @@ module _ (declared : ℕ) (full : State) where
   in_turn-means binding (make ∷ makes) (truth ∷ truths) each next given =
       let later = next + length (make next).fresh in
       list_any-append (part_met full binding) (make next).items (in_turn makes later).items
-      ∙ ap (λ b. b || some_part full binding (in_turn makes later).items) (each.0 next (given-left next (make next).fresh (in_turn makes later).fresh given))
-      ∙ ap (λ b. truth || b) (in_turn-means binding makes truths each.1 later (given-right next (make next).fresh (in_turn makes later).fresh given))
+      ∙ ap (λ b. b || some_part full binding (in_turn makes later).items) (each.0 next (numbered-left GivenAt next (make next).fresh (in_turn makes later).fresh given))
+      ∙ ap (λ b. truth || b) (in_turn-means binding makes truths each.1 later (numbered-right GivenAt next (make next).fresh (in_turn makes later).fresh given))
 
   pub all_of-means : (binding : Binding) (makes : List (ℕ → Made Part)) (truths : List Bool) → Each (FitsFrom declared (length binding)) makes → EachMeans binding makes truths →
       MeansFrom binding (all_of (length binding) makes) (list_all (λ truth. truth) truths)
@@ -202,5 +189,5 @@ module _ (declared : ℕ) (full : State) where
       let later = next + length (make next).fresh in
       let now = fit.0 next in
       paired-met full binding declared next (make next).items (all_of (length binding) makes later).items now.items
-      ∙ ap (λ b. b && some_part full binding (all_of (length binding) makes later).items) (each.0 next (given-left next (make next).fresh (all_of (length binding) makes later).fresh given))
-      ∙ ap (λ b. truth && b) (all_of-means binding makes truths fit.1 each.1 later (given-right next (make next).fresh (all_of (length binding) makes later).fresh given))
+      ∙ ap (λ b. b && some_part full binding (all_of (length binding) makes later).items) (each.0 next (numbered-left GivenAt next (make next).fresh (all_of (length binding) makes later).fresh given))
+      ∙ ap (λ b. truth && b) (all_of-means binding makes truths fit.1 each.1 later (numbered-right GivenAt next (make next).fresh (all_of (length binding) makes later).fresh given))

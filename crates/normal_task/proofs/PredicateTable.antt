@@ -18,7 +18,7 @@ use Rattle.fault_positions.specs.Names as names
 use Rattle.type_checker.specs.Faults.{check_faults}
 use Rattle.type_checker.proofs.Declared.{declared_with_arity, declared_among}
 use Rattle.type_checker.proofs.Once.{predicates_once}
-use Rattle.lists.proofs.Items.{Among, among_map, passing, at_seam, within_left}
+use Rattle.lists.proofs.Items.{Among, passing, at_seam, within_left}
 use Rattle.normal_task.specs.declared.task.Normal.{Normal}
 use Rattle.normal_task.specs.declared.task.PredicateRow.{PredicateRow}
 use Rattle.normal_task.specs.Lawful.{is_word, has_row, is_predicate, has_arity}
@@ -28,14 +28,16 @@ use Rattle.normal_task.specs.Parts.{Fresh}
 use Rattle.normal_task.proofs.Alls.{all-both, all-images}
 use Rattle.normal_task.proofs.Chosen.{eq-itself}
 use Rattle.normal_task.proofs.FullStatesMatch.{heads-length, number-below}
+pub use Rattle.normal_task.proofs.NumberedFresh.{Numbered, numbered-left, numbered-right, numbered-second, numbered-third}
 use Rattle.normal_task.proofs.NameWords.{spelled-word, fresh-word, all-tested}
 use Rattle.normal_task.proofs.RisingRanges.{number-first, number-behind}
 use Rattle.normal_task.proofs.Scopes.{length-append}
 
-apart-among : (name other : Name) (list : List Name) → AllByRecursion (λ known. is_same name known ≡ false) list → Among other list → is_same name other ≡ false
-apart-among name other [] apart among = absurd among
-apart-among name other (first ∷ list) apart (inl here) = subst (λ (known : Name). is_same name known ≡ false) here apart.0
-apart-among name other (first ∷ list) apart (inr there) = apart-among name other list apart.1 there
+-- what all names of some things have, each of them has
+pub passes_all : {X : Type 0} (P : Name → Type 0) (name_of : X → Name) (xs : List X) (x : X) → AllByRecursion P (map name_of xs) → Among x xs → P (name_of x)
+passes_all P name_of [] x all there = absurd there
+passes_all P name_of (y ∷ xs) x all (inl here) = subst (λ z. P (name_of z)) here all.0
+passes_all P name_of (y ∷ xs) x all (inr there) = passes_all P name_of xs x all.1 there
 
 -- ---- new predicates
 
@@ -44,19 +46,12 @@ abbrev pub is_fresh_row : ℕ → PredicateRow → Bool
 is_fresh_row arguments row = row.arity == arguments && row.derived
 
 module _ (task : Normal) (base : ℕ) where
+  abbrev pub HasRow : ℕ → Fresh → Type 0
+  HasRow next fresh = is_predicate task (is_fresh_row (length fresh.arguments)) (base + next) ≡ true
+
   -- the new predicates that are numbered from here have their rows
   abbrev pub HaveRows : ℕ → List Fresh → Type 0
-  HaveRows next [] = Unit {0}
-  HaveRows next (fresh ∷ more) = (is_predicate task (is_fresh_row (length fresh.arguments)) (base + next) ≡ true) × HaveRows (suc next) more
-
-  pub rows-left : (next : ℕ) (first second : List Fresh) → HaveRows next (first ++ second) → HaveRows next first
-  rows-left next [] second rows = tt
-  rows-left next (fresh ∷ first) second rows = (rows.0, rows-left (suc next) first second rows.1)
-
-  pub rows-right : (next : ℕ) (first second : List Fresh) → HaveRows next (first ++ second) → HaveRows (next + length first) second
-  rows-right next [] second rows = subst (λ (n : ℕ). HaveRows n second) (let same : next ≡ next + length {A = Fresh} [] = omega arith in same) rows
-  rows-right next (fresh ∷ first) second rows =
-      subst (λ (n : ℕ). HaveRows n second) (let same : suc next + length first ≡ next + length (fresh ∷ first) = omega arith in same) (rows-right (suc next) first second rows.1)
+  HaveRows = Numbered HasRow
 
 module _ (domain : Domain) (problem : Problem) where
   abbrev base : ℕ
@@ -109,7 +104,7 @@ module _ (domain : Domain) (problem : Problem) where
       not_behind same there =
           let found = passing (λ (other : Head). is_same other.name.name usage.name.name && (length other.variables == usage.arity)) heads there in
           let named = same_name found.item.name.name usage.name.name (and_parts (is_same found.item.name.name usage.name.name) (length found.item.variables == usage.arity) found.passes).0 in
-          let is = apart-among head.name.name found.item.name.name (head_names heads) apart (among_map (λ (other : Head). other.name.name) found.item heads found.among) in
+          let is = passes_all (λ known. is_same head.name.name known ≡ false) (λ (other : Head). other.name.name) heads found.item apart found.among in
           true≢false (sym (nat_list_eq_equiv.symm head.name.name usage.name.name ∙ same) ∙ ap (is_same head.name.name) (sym named) ∙ is)
 
       by : (b : Bool) → is_same usage.name.name head.name.name ≡ b → ((is_same head.name.name usage.name.name && (length head.variables == usage.arity)) ≡ true) ⊎ (names.has_arity heads usage ≡ true) →

@@ -1,15 +1,14 @@
 -- No derived predicate of the normal task of a checked pair depends on itself: predicates have ranks that fall along axioms.
-use Rattle.std.proofs.Common.{◌≡◌, ℕ, zero, suc, ◌+◌, ◌<◌, ◌≤◌, Bool, true, false, ◌&&◌, List, [], ◌∷◌, ◌++◌, map, length, refl, sym, ap, ◌∙◌, subst, arith, inl, inr, ◌⊎◌, nat_eq}
-use Rattle.std.specs.Prelude.{nat_lt, ◌==◌, if◌then◌else◌}
+use Rattle.std.proofs.Common.{◌≡◌, ℕ, zero, suc, max, ◌+◌, ◌<◌, ◌≤◌, Bool, true, false, ◌&&◌, List, [], ◌∷◌, ◌++◌, map, length, refl, sym, ap, ◌∙◌, subst, arith, inl, inr, ◌⊎◌, nat_eq}
+use Rattle.std.specs.Prelude.{◌==◌, if◌then◌else◌}
 use Rattle.std.specs.List.{flat_map}
-use Rattle.std.proofs.lemmas.Bool.{and_parts, ltb-true, ltb-false, eqb-true, eq-eqb}
+use Rattle.std.proofs.lemmas.Bool.{and_parts, cases_lt, eqb-true, eq-eqb}
 use Rattle.pddl_parser.specs.declared.types.Action.{Action}
 use Rattle.pddl_parser.specs.declared.types.Derived.{Derived}
 use Rattle.pddl_parser.specs.declared.types.Domain.{Domain}
 use Rattle.pddl_parser.specs.declared.types.Named.{Named}
 use Rattle.pddl_parser.specs.declared.types.Problem.{Problem}
 use Rattle.pddl_parser.specs.Words.{Name}
-use Rattle.pddl_parser.proofs.ConditionCases.{Each}
 use Rattle.pddl_parser.proofs.SameAtoms.{same_name}
 use Rattle.names.specs.Links.{Link, link}
 use Rattle.names.proofs.Chains.{Ends, chains_end}
@@ -29,49 +28,28 @@ use Rattle.normal_task.specs.Normalised.{parameter_scope, precondition_parts, ef
 use Rattle.normal_task.proofs.Alls.{all-right}
 use Rattle.normal_task.proofs.Asks.{IsAsked, PartsAsk, FreshAsks, MadeAsks, condition-asks, effect-asks}
 use Rattle.normal_task.proofs.ConditionsMean.{same-number}
-use Rattle.normal_task.proofs.Faultless.{rules_sound, action_mentioned, known_in_problem}
+use Rattle.normal_task.proofs.Faultless.{rule_sound, action_mentioned, known_in_problem}
 use Rattle.normal_task.proofs.Filled.{goal_fresh, last_fresh, goal-last}
-use Rattle.normal_task.proofs.FullStatesMatch.{RuleSound, head-declared, body-mentioned, number-below}
+use Rattle.normal_task.proofs.FullStatesMatch.{head-declared, body-mentioned, number-below}
+use Rattle.normal_task.proofs.MadeInTurn.{Origin, origin, maker}
 use Rattle.normal_task.proofs.Mentioned.{is_declared, is_known_mention, AreKnown}
+use Rattle.normal_task.proofs.NumberedFresh.{Numbered, numbered-left, numbered-right, numbered-second, numbered-third}
 use Rattle.normal_task.proofs.Scopes.{length-append}
 
 -- ---- the greatest number of a list
 
-abbrev larger : ℕ → ℕ → ℕ
-larger a b = if nat_lt a b then b else a
-
 abbrev greatest : {X : Type 0} → (X → ℕ) → List X → ℕ
 greatest f [] = 0
-greatest f (x ∷ xs) = larger (f x) (greatest f xs)
-
-larger-first : (a b : ℕ) → a ≤ larger a b
-larger-first a b = by (nat_lt a b) refl
-  where
-    by : (t : Bool) → nat_lt a b ≡ t → a ≤ (if t then b else a)
-    by true e = omega (arith, ltb-true a b e)
-    by false e = omega arith
-
-larger-second : (a b : ℕ) → b ≤ larger a b
-larger-second a b = by (nat_lt a b) refl
-  where
-    by : (t : Bool) → nat_lt a b ≡ t → b ≤ (if t then b else a)
-    by true e = omega arith
-    by false e = omega (arith, ltb-false a b e)
+greatest f (x ∷ xs) = max (f x) (greatest f xs)
 
 at-most : {X : Type 0} (f : X → ℕ) (x : X) (xs : List X) → Among x xs → f x ≤ greatest f xs
 at-most f x [] among = absurd among
-at-most f x (y ∷ xs) (inl here) = let first = larger-first (f y) (greatest f xs) in let same = ap f here in omega (arith, first, same)
-at-most f x (y ∷ xs) (inr there) = let rest = at-most f x xs there in let second = larger-second (f y) (greatest f xs) in omega (arith, rest, second)
+at-most f x (y ∷ xs) (inl here) = let same = ap f here in omega (arith, same)
+at-most f x (y ∷ xs) (inr there) = let rest = at-most f x xs there in omega (arith, rest)
 
 same-greatest : {X : Type 0} (f g : X → ℕ) (xs : List X) → ((x : X) → Among x xs → f x ≡ g x) → greatest f xs ≡ greatest g xs
 same-greatest f g [] same = refl
-same-greatest f g (x ∷ xs) same =
-    ap (λ n. larger n (greatest f xs)) (same x (inl refl)) ∙ ap (λ n. larger (g x) n) (same-greatest f g xs (λ y among. same y (inr among)))
-
-pub each-among : {X : Type 0} (P : X → Type 0) (xs : List X) (x : X) → Each P xs → Among x xs → P x
-each-among P [] x each among = absurd among
-each-among P (y ∷ xs) x each (inl here) = subst P here each.0
-each-among P (y ∷ xs) x each (inr there) = each-among P xs x each.1 there
+same-greatest f g (x ∷ xs) same = let here = same x (inl refl) in let rest = same-greatest f g xs (λ y among. same y (inr among)) in cc (here, rest)
 
 module _ (domain : Domain) (problem : Problem) where
   abbrev task : Normal
@@ -97,16 +75,7 @@ module _ (domain : Domain) (problem : Problem) where
   PlacedAt next fresh = (row : AxiomRow) → Among row task.axioms → row.predicate ≡ base + next → (part : Part) × Among part fresh.parts × (row.condition ≡ part.literals)
 
   abbrev Placed : ℕ → List Fresh → Type 0
-  Placed next [] = Unit {0}
-  Placed next (fresh ∷ more) = PlacedAt next fresh × Placed (suc next) more
-
-  placed-left : (next : ℕ) (xs ys : List Fresh) → Placed next (xs ++ ys) → Placed next xs
-  placed-left next [] ys placed = tt
-  placed-left next (x ∷ xs) ys placed = (placed.0, placed-left (suc next) xs ys placed.1)
-
-  placed-right : (next : ℕ) (xs ys : List Fresh) → Placed next (xs ++ ys) → Placed (next + length xs) ys
-  placed-right next [] ys placed = subst (λ (n : ℕ). Placed n ys) (let same : next ≡ next + length {A = Fresh} [] = omega arith in same) placed
-  placed-right next (x ∷ xs) ys placed = subst (λ (n : ℕ). Placed n ys) (let same : suc next + length xs ≡ next + length (x ∷ xs) = omega arith in same) (placed-right (suc next) xs ys placed.1)
+  Placed = Numbered PlacedAt
 
   pub fresh-range : (next : ℕ) (fresh : List Fresh) (row : AxiomRow) → Among row (fresh_rows domain problem next fresh) → (base + next ≤ row.predicate) × (row.predicate < base + (next + length fresh))
   fresh-range next [] row among = absurd among
@@ -154,11 +123,12 @@ module _ (domain : Domain) (problem : Problem) where
   module _ (all : List Mention) (most : ℕ) (asked-ends : (predicate : ℕ) → IsAsked domain problem all predicate → EndsAt most predicate) where
     fresh-step : (first : Fresh) (fresh : List Fresh) (next high : ℕ) → PlacedAt next first → PartsAsk domain problem all (suc next) high first.parts →
         ((q : ℕ) → base + suc next ≤ q → q < base + high → EndsAt (most + length fresh) q) → (q : ℕ) → base + next ≤ q → q < base + high → EndsAt (most + length (first ∷ fresh)) q
-    fresh-step first fresh next high placed ask later q least below = by (nat_lt (base + next) q) refl
+    fresh-step first fresh next high placed ask later q least below =
+        elim (cases_lt (base + next) q) [
+          | inl behind ↦ ends-more (most + length fresh) (most + length (first ∷ fresh)) q (omega arith) (later q (omega (arith, behind)) below)
+          | inr no_later ↦ ends-more (suc (most + length fresh)) (most + length (first ∷ fresh)) q (omega arith) (here (omega (arith, no_later, least)))
+        ]
       where
-        bigger : suc (most + length fresh) ≡ most + length (first ∷ fresh)
-        bigger = omega arith
-
         of_literal : (asked : ℕ) → IsAsked domain problem all asked ⊎ ((base + suc next ≤ asked) × (asked < base + high)) → EndsAt (most + length fresh) asked
         of_literal asked (inl is) = ends-more most (most + length fresh) asked (omega arith) (asked-ends asked is)
         of_literal asked (inr new) = later asked new.0 new.1
@@ -167,10 +137,6 @@ module _ (domain : Domain) (problem : Problem) where
         here same row among is positive asked places inside =
             let part = placed row among (is ∙ same) in
             of_literal asked (ask part.0 part.1 (Holds positive asked places) (subst (λ (ls : List Literal). Among (Holds positive asked places) ls) part.2 inside))
-
-        by : (b : Bool) → nat_lt (base + next) q ≡ b → EndsAt (most + length (first ∷ fresh)) q
-        by true e = ends-more (most + length fresh) (most + length (first ∷ fresh)) q (omega arith) (later q (omega (arith, ltb-true (base + next) q e)) below)
-        by false e = subst (λ (n : ℕ). EndsAt n q) bigger (here (omega (arith, ltb-false (base + next) q e, least)))
 
     fresh-ends : (fresh : List Fresh) (next high : ℕ) → high ≡ next + length fresh → Placed next fresh → FreshAsks domain problem all next high fresh → (q : ℕ) → base + next ≤ q → q < base + high → EndsAt (most + length fresh) q
     fresh-ends [] next high is placed ask q least below = absurd (omega (arith, is, least, below))
@@ -190,61 +156,17 @@ module _ (domain : Domain) (problem : Problem) where
 
   -- ---- axioms of the files
 
-  record RuleTurn (rules : List Derived) (most : ℕ) (row : AxiomRow) : Type 0 where
-    rule : Derived
-    among : Among rule rules
-    start : ℕ
-    placed : Placed start (body_parts domain problem rule start).fresh
-    short : length (body_parts domain problem rule start).fresh ≤ most
-    inside : Among row (axiom_rows domain problem rule start).items
-
-  rule-turn : (rules : List Derived) (next most : ℕ) → length (in_turn (map (axiom_rows domain problem) rules) next).fresh ≤ most → Placed next (in_turn (map (axiom_rows domain problem) rules) next).fresh →
-      (row : AxiomRow) → Among row (in_turn (map (axiom_rows domain problem) rules) next).items → RuleTurn rules most row
-  rule-turn [] next most short placed row among = absurd among
-  rule-turn (rule ∷ rules) next most short placed row among =
-      by (λ size. rule-turn rules later most size (placed-right next first (in_turn (map (axiom_rows domain problem) rules) later).fresh placed) row)
-      (among_which row (axiom_rows domain problem rule next).items (in_turn (map (axiom_rows domain problem) rules) later).items among)
-    where
-      first : List Fresh
-      first = (body_parts domain problem rule next).fresh
-
-      later : ℕ
-      later = next + length first
-
-      size : length (first ++ (in_turn (map (axiom_rows domain problem) rules) later).fresh) ≡ length first + length (in_turn (map (axiom_rows domain problem) rules) later).fresh
-      size = length-append first (in_turn (map (axiom_rows domain problem) rules) later).fresh
-
-      by : (length (in_turn (map (axiom_rows domain problem) rules) later).fresh ≤ most → Among row (in_turn (map (axiom_rows domain problem) rules) later).items → RuleTurn rules most row) →
-          Among row (axiom_rows domain problem rule next).items ⊎ Among row (in_turn (map (axiom_rows domain problem) rules) later).items → RuleTurn (rule ∷ rules) most row
-      by rest (inl here) = record { rule = rule; among = inl refl; start = next; placed = placed-left next first (in_turn (map (axiom_rows domain problem) rules) later).fresh placed; short = omega (arith, short, size); inside = here }
-      by rest (inr there) =
-          let found = rest (omega (arith, short, size)) there in
-          record { rule = found.rule; among = inr found.among; start = found.start; placed = found.placed; short = found.short; inside = found.inside }
-
   module _ (none : check_faults domain problem ≡ []) where
     abbrev links : List Link
     links = axiom_links domain.axioms
 
-    sound : (rule : Derived) → Among rule domain.axioms → RuleSound domain problem rule
-    sound rule among = each-among (RuleSound domain problem) domain.axioms rule (rules_sound domain problem none) among
-
-    old-rows : (rules : List Derived) → ((rule : Derived) → Among rule rules → Among rule domain.axioms) → (next : ℕ) (row : AxiomRow) → Among row (in_turn (map (axiom_rows domain problem) rules) next).items → row.predicate < base
-    old-rows [] sub next row among = absurd among
-    old-rows (rule ∷ rules) sub next row among =
-        by (old-rows rules (λ r there. sub r (inr there)) later row) (among_which row (axiom_rows domain problem rule next).items (in_turn (map (axiom_rows domain problem) rules) later).items among)
-      where
-        later : ℕ
-        later = next + length (body_parts domain problem rule next).fresh
-
-        by : (Among row (in_turn (map (axiom_rows domain problem) rules) later).items → row.predicate < base) → Among row (axiom_rows domain problem rule next).items ⊎ Among row (in_turn (map (axiom_rows domain problem) rules) later).items → row.predicate < base
-        by rest (inl here) =
-            let from = map_source (axiom_row domain problem (predicate_number domain rule.head.name.name) (ranges_of domain problem rule.head.variables)) (body_parts domain problem rule next).items row here in
-            let same : predicate_number domain rule.head.name.name ≡ row.predicate = ap (λ (r : AxiomRow). r.predicate) from.gives in
-            omega (arith, same, number-below domain problem rule.head.name.name (head-declared domain problem rule (sound rule (sub rule (inl refl)))))
-        by rest (inr there) = rest there
-
     old-row : (row : AxiomRow) → Among row (made_axioms domain problem).items → row.predicate < base
-    old-row = old-rows domain.axioms (λ rule among. among) (after_schemas domain problem)
+    old-row row among =
+        let turn = maker (axiom_rows domain problem) domain.axioms (after_schemas domain problem) row among in
+        let head = turn.source.head in
+        let from = map_source (axiom_row domain problem (predicate_number domain head.name.name) (ranges_of domain problem head.variables)) (body_parts domain problem turn.source turn.next).items row turn.inside in
+        let same : predicate_number domain head.name.name ≡ row.predicate = ap (λ (r : AxiomRow). r.predicate) from.gives in
+        omega (arith, same, number-below domain problem head.name.name (head-declared domain problem turn.source (rule_sound domain problem none turn.source turn.among)))
 
     placed-all : Placed 0 (all_fresh domain problem)
     placed-all = placed-from 0 (all_fresh domain problem) (λ row among least. by row least (among_which row (made_axioms domain problem).items (fresh_rows domain problem 0 (all_fresh domain problem)) among))
@@ -254,18 +176,13 @@ module _ (domain : Domain) (problem : Problem) where
         by row least (inr new) = new
 
     placed-schemas : Placed 0 (made_schemas domain problem).fresh
-    placed-schemas = placed-left 0 (made_schemas domain problem).fresh ((made_axioms domain problem).fresh ++ (made_goal domain problem).fresh) placed-all
-
-    placed-behind : Placed (after_schemas domain problem) ((made_axioms domain problem).fresh ++ (made_goal domain problem).fresh)
-    placed-behind =
-        subst (λ (n : ℕ). Placed n ((made_axioms domain problem).fresh ++ (made_goal domain problem).fresh)) (let same : 0 + length (made_schemas domain problem).fresh ≡ after_schemas domain problem = omega arith in same)
-        (placed-right 0 (made_schemas domain problem).fresh ((made_axioms domain problem).fresh ++ (made_goal domain problem).fresh) placed-all)
+    placed-schemas = numbered-left PlacedAt 0 (made_schemas domain problem).fresh ((made_axioms domain problem).fresh ++ (made_goal domain problem).fresh) placed-all
 
     placed-axioms : Placed (after_schemas domain problem) (made_axioms domain problem).fresh
-    placed-axioms = placed-left (after_schemas domain problem) (made_axioms domain problem).fresh (made_goal domain problem).fresh placed-behind
+    placed-axioms = numbered-second PlacedAt (made_schemas domain problem).fresh (made_axioms domain problem).fresh (made_goal domain problem).fresh placed-all
 
     placed-goal : Placed (after_axioms domain problem) (made_goal domain problem).fresh
-    placed-goal = placed-right (after_schemas domain problem) (made_axioms domain problem).fresh (made_goal domain problem).fresh placed-behind
+    placed-goal = numbered-third PlacedAt (made_schemas domain problem).fresh (made_axioms domain problem).fresh (made_goal domain problem).fresh placed-all
 
     -- the chains that end after so many links in the files end after so many axioms
     abbrev most : ℕ
@@ -283,36 +200,36 @@ module _ (domain : Domain) (problem : Problem) where
     body-asked n rest rule among ends predicate is =
         let to_named : Named → Link = λ named. link rule.head.name.name named.name in
         let linked = among_flat_map dependence_links rule (to_named is.named) domain.axioms among (among_map to_named is.named (flat_map asked_predicates (in_condition rule.body)) (among_flat_map asked_predicates is.mention is.named (in_condition rule.body) is.among is.inside)) in
-        let known = asked-declared is.mention is.named is.inside (all_passes (is_known_mention domain problem) is.mention (in_condition rule.body) is.among (body-mentioned domain problem rule (sound rule among))) in
+        let known = asked-declared is.mention is.named is.inside (all_passes (is_known_mention domain problem) is.mention (in_condition rule.body) is.among (body-mentioned domain problem rule (rule_sound domain problem none rule among))) in
         subst (EndsAt (bound n)) is.same (rest is.named.name known (ends (to_named is.named) linked refl))
 
     rule-row : (n : ℕ) → DeclaredEnds n → (name : Name) → is_declared domain problem name ≡ true → Ends links (suc n) name → (row : AxiomRow) → row.predicate ≡ predicate_number domain name →
-        RuleTurn domain.axioms most row → (positive : Bool) (asked : ℕ) (places : List Place) → Among (Holds positive asked places) row.condition → EndsAt (bound n + most) asked
+        Origin (axiom_rows domain problem) PlacedAt domain.axioms most row → (positive : Bool) (asked : ℕ) (places : List Place) → Among (Holds positive asked places) row.condition → EndsAt (bound n + most) asked
     rule-row n rest name known ends row is turn positive asked places inside =
         by (asks.items from.source from.among (Holds positive asked places) (subst (λ (r : AxiomRow). Among (Holds positive asked places) r.condition) (sym from.gives) inside))
       where
         rule : Derived
-        rule = turn.rule
+        rule = turn.source
 
-        from : Source (axiom_row domain problem (predicate_number domain rule.head.name.name) (ranges_of domain problem rule.head.variables)) (body_parts domain problem rule turn.start).items row
-        from = map_source (axiom_row domain problem (predicate_number domain rule.head.name.name) (ranges_of domain problem rule.head.variables)) (body_parts domain problem rule turn.start).items row turn.inside
+        from : Source (axiom_row domain problem (predicate_number domain rule.head.name.name) (ranges_of domain problem rule.head.variables)) (body_parts domain problem rule turn.next).items row
+        from = map_source (axiom_row domain problem (predicate_number domain rule.head.name.name) (ranges_of domain problem rule.head.variables)) (body_parts domain problem rule turn.next).items row turn.inside
 
-        asks : MadeAsks domain problem (in_condition rule.body) turn.start (body_parts domain problem rule turn.start)
-        asks = condition-asks domain problem (in_condition rule.body) rule.body (λ m among. among) true (parameter_scope domain problem rule.head.variables) (length rule.head.variables) turn.start
+        asks : MadeAsks domain problem (in_condition rule.body) turn.next (body_parts domain problem rule turn.next)
+        asks = condition-asks domain problem (in_condition rule.body) rule.body (λ m among. among) true (parameter_scope domain problem rule.head.variables) (length rule.head.variables) turn.next
 
         head-is : rule.head.name.name ≡ name
         head-is =
             let numbers : predicate_number domain rule.head.name.name ≡ predicate_number domain name = ap (λ (r : AxiomRow). r.predicate) from.gives ∙ is in
-            same_name rule.head.name.name name (sym (same-number (head_names domain.predicates) rule.head.name.name name (head-declared domain problem rule (sound rule turn.among)) known) ∙ eq-eqb (predicate_number domain rule.head.name.name) (predicate_number domain name) numbers)
+            same_name rule.head.name.name name (sym (same-number (head_names domain.predicates) rule.head.name.name name (head-declared domain problem rule (rule_sound domain problem none rule turn.among)) known) ∙ eq-eqb (predicate_number domain rule.head.name.name) (predicate_number domain name) numbers)
 
         asked-ends : (predicate : ℕ) → IsAsked domain problem (in_condition rule.body) predicate → EndsAt (bound n) predicate
         asked-ends = body-asked n rest rule turn.among (subst (Ends links (suc n)) (sym head-is) ends)
 
-        by : IsAsked domain problem (in_condition rule.body) asked ⊎ ((base + turn.start ≤ asked) × (asked < base + (turn.start + length (body_parts domain problem rule turn.start).fresh))) → EndsAt (bound n + most) asked
+        by : IsAsked domain problem (in_condition rule.body) asked ⊎ ((base + turn.next ≤ asked) × (asked < base + (turn.next + length (body_parts domain problem rule turn.next).fresh))) → EndsAt (bound n + most) asked
         by (inl is_asked) = ends-more (bound n) (bound n + most) asked (omega arith) (asked-ends asked is_asked)
         by (inr new) =
-            ends-more (bound n + length (body_parts domain problem rule turn.start).fresh) (bound n + most) asked (omega (arith, turn.short))
-            (fresh-ends (in_condition rule.body) (bound n) asked-ends (body_parts domain problem rule turn.start).fresh turn.start _ refl turn.placed asks.fresh asked new.0 new.1)
+            ends-more (bound n + length (body_parts domain problem rule turn.next).fresh) (bound n + most) asked (omega (arith, turn.few))
+            (fresh-ends (in_condition rule.body) (bound n) asked-ends (body_parts domain problem rule turn.next).fresh turn.next _ refl turn.given asks.fresh asked new.0 new.1)
 
     declared-ends : (n : ℕ) → DeclaredEnds n
     declared-ends zero name known ends = absurd ends
@@ -320,7 +237,7 @@ module _ (domain : Domain) (problem : Problem) where
       where
         by : DeclaredEnds n → (row : AxiomRow) → row.predicate ≡ predicate_number domain name → Among row (made_axioms domain problem).items ⊎ Among row (fresh_rows domain problem 0 (all_fresh domain problem)) →
             (positive : Bool) (asked : ℕ) (places : List Place) → Among (Holds positive asked places) row.condition → EndsAt (bound n + most) asked
-        by rest row is (inl old) = rule-row n rest name known ends row is (rule-turn domain.axioms (after_schemas domain problem) most (omega arith) placed-axioms row old)
+        by rest row is (inl old) = rule-row n rest name known ends row is (origin (axiom_rows domain problem) PlacedAt domain.axioms (after_schemas domain problem) most (omega arith) placed-axioms row old)
         by rest row is (inr new) = absurd (omega (arith, is, (fresh-range 0 (all_fresh domain problem) row new).0, number-below domain problem name known))
 
     abbrev top : ℕ
@@ -339,14 +256,12 @@ module _ (domain : Domain) (problem : Problem) where
     EndIn next fresh = (q : ℕ) → base + next ≤ q → q < base + (next + length fresh) → EndsAt (top + length fresh) q
 
     two-end : (next : ℕ) (f g : List Fresh) → EndIn next f → EndIn (next + length f) g → EndIn next (f ++ g)
-    two-end next f g one other q least below = by (nat_lt q (base + (next + length f))) refl
-      where
-        size : length (f ++ g) ≡ length f + length g
-        size = length-append f g
-
-        by : (b : Bool) → nat_lt q (base + (next + length f)) ≡ b → EndsAt (top + length (f ++ g)) q
-        by true e = ends-more (top + length f) (top + length (f ++ g)) q (omega (arith, size)) (one q least (ltb-true q (base + (next + length f)) e))
-        by false e = let past = ltb-false q (base + (next + length f)) e in ends-more (top + length g) (top + length (f ++ g)) q (omega (arith, size)) (other q (omega (arith, past)) (omega (arith, below, size)))
+    two-end next f g one other q least below =
+        let size = length-append f g in
+        elim (cases_lt q (base + (next + length f))) [
+          | inl early ↦ ends-more (top + length f) (top + length (f ++ g)) q (omega (arith, size)) (one q least early)
+          | inr past ↦ ends-more (top + length g) (top + length (f ++ g)) q (omega (arith, size)) (other q (omega (arith, past)) (omega (arith, below, size)))
+        ]
 
     turns-end : {X A : Type 0} (make : X → ℕ → Made A) (xs : List X) → ((x : X) → Among x xs → (next : ℕ) → Placed next (make x next).fresh → EndIn next (make x next).fresh) →
         (next : ℕ) → Placed next (in_turn (map make xs) next).fresh → EndIn next (in_turn (map make xs) next).fresh
@@ -354,7 +269,7 @@ module _ (domain : Domain) (problem : Problem) where
     turns-end make (x ∷ xs) each next placed =
         let first = (make x next).fresh in
         let rest = (in_turn (map make xs) (next + length first)).fresh in
-        two-end next first rest (each x (inl refl) next (placed-left next first rest placed)) (turns-end make xs (λ y among. each y (inr among)) (next + length first) (placed-right next first rest placed))
+        two-end next first rest (each x (inl refl) next (numbered-left PlacedAt next first rest placed)) (turns-end make xs (λ y among. each y (inr among)) (next + length first) (numbered-right PlacedAt next first rest placed))
 
     action-end : (action : Action) → Among action domain.actions → (next : ℕ) → Placed next (schemas domain problem action next).fresh → EndIn next (schemas domain problem action next).fresh
     action-end action among next placed =
@@ -366,14 +281,14 @@ module _ (domain : Domain) (problem : Problem) where
         let one = condition-asks domain problem mentions action.precondition (λ m there. inr (among_left m (in_condition action.precondition) (in_effect action.effect) there)) true (parameter_scope domain problem action.parameters) (length action.parameters) next in
         let other = effect-asks domain problem mentions action.effect (λ m there. inr (among_right m (in_condition action.precondition) (in_effect action.effect) there)) [] tt (parameter_scope domain problem action.parameters) (length action.parameters) later in
         two-end next first.fresh second.fresh
-        (fresh-ends mentions top asked first.fresh next (next + length first.fresh) refl (placed-left next first.fresh second.fresh placed) one.fresh)
-        (fresh-ends mentions top asked second.fresh later (later + length second.fresh) refl (placed-right next first.fresh second.fresh placed) other)
+        (fresh-ends mentions top asked first.fresh next (next + length first.fresh) refl (numbered-left PlacedAt next first.fresh second.fresh placed) one.fresh)
+        (fresh-ends mentions top asked second.fresh later (later + length second.fresh) refl (numbered-right PlacedAt next first.fresh second.fresh placed) other)
 
     rule-end : (rule : Derived) → Among rule domain.axioms → (next : ℕ) → Placed next (axiom_rows domain problem rule next).fresh → EndIn next (axiom_rows domain problem rule next).fresh
     rule-end rule among next placed =
         let made = body_parts domain problem rule next in
         let asks = condition-asks domain problem (in_condition rule.body) rule.body (λ m there. there) true (parameter_scope domain problem rule.head.variables) (length rule.head.variables) next in
-        fresh-ends (in_condition rule.body) top (asked-top (in_condition rule.body) (body-mentioned domain problem rule (sound rule among))) made.fresh next (next + length made.fresh) refl placed asks.fresh
+        fresh-ends (in_condition rule.body) top (asked-top (in_condition rule.body) (body-mentioned domain problem rule (rule_sound domain problem none rule among))) made.fresh next (next + length made.fresh) refl placed asks.fresh
 
     schemas-end : EndIn 0 (made_schemas domain problem).fresh
     schemas-end = turns-end (schemas domain problem) domain.actions action-end 0 placed-schemas
@@ -396,7 +311,7 @@ module _ (domain : Domain) (problem : Problem) where
     parts-end : EndIn (after_axioms domain problem) (goal_parts domain problem).fresh
     parts-end =
         fresh-ends (in_condition problem.goal) top goal-asked (goal_parts domain problem).fresh (after_axioms domain problem) _ refl
-        (placed-left (after_axioms domain problem) (goal_parts domain problem).fresh (last_fresh domain problem (goal_parts domain problem).items) placed-parts) goal-asks.fresh
+        (numbered-left PlacedAt (after_axioms domain problem) (goal_parts domain problem).fresh (last_fresh domain problem (goal_parts domain problem).items) placed-parts) goal-asks.fresh
 
     -- the goal's own atom asks for what the goal asks for, and for new predicates before it
     atom-end : PlacedAt (after_axioms domain problem + goal-size) (goal_fresh domain problem) → EndsAt (suc (top + goal-size)) (base + (after_axioms domain problem + goal-size))
@@ -440,39 +355,34 @@ module _ (domain : Domain) (problem : Problem) where
     goal-sizes = ap (λ (l : List Fresh). length l) (goal-last domain problem (goal_parts domain problem).items) ∙ length-append (goal_parts domain problem).fresh (last_fresh domain problem (goal_parts domain problem).items)
 
     goal-end : (q : ℕ) → base + after_axioms domain problem ≤ q → q < base + (after_axioms domain problem + length (made_goal domain problem).fresh) → EndsAt (suc limit) q
-    goal-end q least below = by (nat_lt q (base + (after_axioms domain problem + goal-size))) refl
-      where
-        by : (b : Bool) → nat_lt q (base + (after_axioms domain problem + goal-size)) ≡ b → EndsAt (suc limit) q
-        by true e = ends-more (top + goal-size) (suc limit) q (omega (arith, sizes, goal-sizes)) (parts-end q least (ltb-true q (base + (after_axioms domain problem + goal-size)) e))
-        by false e =
-            let past = ltb-false q (base + (after_axioms domain problem + goal-size)) e in
-            ends-more (suc (top + goal-size)) (suc limit) q (omega (arith, sizes, goal-sizes))
-            (last-end (goal_parts domain problem).items (placed-right (after_axioms domain problem) (goal_parts domain problem).fresh (last_fresh domain problem (goal_parts domain problem).items) placed-parts) q (omega (arith, past)) (omega (arith, below, goal-sizes)))
+    goal-end q least below =
+        elim (cases_lt q (base + (after_axioms domain problem + goal-size))) [
+          | inl early ↦ ends-more (top + goal-size) (suc limit) q (omega (arith, sizes, goal-sizes)) (parts-end q least early)
+          | inr past ↦
+              ends-more (suc (top + goal-size)) (suc limit) q (omega (arith, sizes, goal-sizes))
+              (last-end (goal_parts domain problem).items (numbered-right PlacedAt (after_axioms domain problem) (goal_parts domain problem).fresh (last_fresh domain problem (goal_parts domain problem).items) placed-parts) q (omega (arith, past)) (omega (arith, below, goal-sizes)))
+        ]
 
     new-ends : (q : ℕ) → base + 0 ≤ q → q < base + (0 + length (all_fresh domain problem)) → EndsAt (suc limit) q
-    new-ends q least below = by_schemas (nat_lt q (base + (0 + length (made_schemas domain problem).fresh))) refl
-      where
-        by_axioms : (b : Bool) → base + after_schemas domain problem ≤ q → nat_lt q (base + (after_schemas domain problem + length (made_axioms domain problem).fresh)) ≡ b → EndsAt (suc limit) q
-        by_axioms true from e = ends-more (top + length (made_axioms domain problem).fresh) (suc limit) q (omega (arith, sizes)) (axioms-end q from (ltb-true q (base + (after_schemas domain problem + length (made_axioms domain problem).fresh)) e))
-        by_axioms false from e =
-            let past = ltb-false q (base + (after_schemas domain problem + length (made_axioms domain problem).fresh)) e in
-            goal-end q (omega (arith, past)) (omega (arith, below, sizes))
-
-        by_schemas : (b : Bool) → nat_lt q (base + (0 + length (made_schemas domain problem).fresh)) ≡ b → EndsAt (suc limit) q
-        by_schemas true e = ends-more (top + length (made_schemas domain problem).fresh) (suc limit) q (omega (arith, sizes)) (schemas-end q least (ltb-true q (base + (0 + length (made_schemas domain problem).fresh)) e))
-        by_schemas false e =
-            let past = ltb-false q (base + (0 + length (made_schemas domain problem).fresh)) e in
-            by_axioms (nat_lt q (base + (after_schemas domain problem + length (made_axioms domain problem).fresh))) (omega (arith, past)) refl
+    new-ends q least below =
+        elim (cases_lt q (base + (0 + length (made_schemas domain problem).fresh))) [
+          | inl early ↦ ends-more (top + length (made_schemas domain problem).fresh) (suc limit) q (omega (arith, sizes)) (schemas-end q least early)
+          | inr past ↦
+              elim (cases_lt q (base + (after_schemas domain problem + length (made_axioms domain problem).fresh))) [
+                | inl early ↦ ends-more (top + length (made_axioms domain problem).fresh) (suc limit) q (omega (arith, sizes)) (axioms-end q (omega (arith, past)) early)
+                | inr later ↦ goal-end q (omega (arith, later)) (omega (arith, below, sizes))
+              ]
+        ]
 
     row-ends : (row : AxiomRow) → Among row task.axioms → EndsAt (suc limit) row.predicate
     row-ends row among = by (among_which row (made_axioms domain problem).items (fresh_rows domain problem 0 (all_fresh domain problem)) among)
       where
         by : Among row (made_axioms domain problem).items ⊎ Among row (fresh_rows domain problem 0 (all_fresh domain problem)) → EndsAt (suc limit) row.predicate
         by (inl old) =
-            let turn = rule-turn domain.axioms (after_schemas domain problem) most (omega arith) placed-axioms row old in
-            let from = map_source (axiom_row domain problem (predicate_number domain turn.rule.head.name.name) (ranges_of domain problem turn.rule.head.variables)) (body_parts domain problem turn.rule turn.start).items row turn.inside in
+            let turn = origin (axiom_rows domain problem) PlacedAt domain.axioms (after_schemas domain problem) most (omega arith) placed-axioms row old in
+            let from = map_source (axiom_row domain problem (predicate_number domain turn.source.head.name.name) (ranges_of domain problem turn.source.head.variables)) (body_parts domain problem turn.source turn.next).items row turn.inside in
             subst (EndsAt (suc limit)) (ap (λ (r : AxiomRow). r.predicate) from.gives)
-            (ends-more top (suc limit) (predicate_number domain turn.rule.head.name.name) (omega arith) (name-ends turn.rule.head.name.name (head-declared domain problem turn.rule (sound turn.rule turn.among))))
+            (ends-more top (suc limit) (predicate_number domain turn.source.head.name.name) (omega arith) (name-ends turn.source.head.name.name (head-declared domain problem turn.source (rule_sound domain problem none turn.source turn.among))))
         by (inr new) = let range = fresh-range 0 (all_fresh domain problem) row new in new-ends row.predicate range.0 range.1
 
     -- ---- ranks

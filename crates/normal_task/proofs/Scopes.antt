@@ -13,7 +13,7 @@ use Rattle.pddl_parser.specs.declared.types.Typed.{Typed}
 use Rattle.pddl_parser.specs.Words.{Name, is_same}
 use Rattle.pddl_parser.specs.Objects as pddl
 use Rattle.pddl_parser.proofs.SameAtoms.{same_name}
-use Rattle.lists.proofs.Items.{Among, among_map, map_source, flat_map_piece, any_passes}
+use Rattle.lists.proofs.Items.{Among, filter_among, among_map, map_source, flat_map_piece, any_passes}
 use Rattle.normal_task.specs.Numbers.{object_names, object_number, range_of}
 use Rattle.normal_task.specs.Meaning.{Binding}
 use Rattle.normal_task.proofs.Chosen.{is_choice}
@@ -182,19 +182,10 @@ module _ (domain : Domain) (problem : Problem) where
 
   -- ---- the objects that a variable ranges over are known
 
-  among_filter : {X : Type 0} (test : X → Bool) (item : X) (xs : List X) → Among item (filter test xs) → Among item xs
-  among_filter test item [] there = absurd there
-  among_filter test item (x ∷ xs) there = by (test x) (among_filter test item xs) there
-    where
-      by : (b : Bool) → (Among item (filter test xs) → Among item xs) → Among item (if b then x ∷ filter test xs else filter test xs) → Among item (x ∷ xs)
-      by true rest (inl here) = inl here
-      by true rest (inr later) = inr (rest later)
-      by false rest later = inr (rest later)
-
   pub range-known : (variable : Typed) (object : Name) → Among object (pddl.range domain problem variable) → is_known object ≡ true
   range-known variable object there =
       let origin = map_source (λ (o : Typed). o.name.name) (filter (pddl.has_listed_type domain.types variable.types) (pddl.objects domain problem)) object there in
-      let declared = among_filter (pddl.has_listed_type domain.types variable.types) origin.source (pddl.objects domain problem) origin.among in
+      let declared = (filter_among (pddl.has_listed_type domain.types variable.types) origin.source (pddl.objects domain problem) origin.among).0 in
       any_passes (is_same object) object (object_names domain problem)
       (subst (λ (n : Name). Among n (object_names domain problem)) origin.gives (among_map (λ (o : Typed). o.name.name) origin.source (pddl.objects domain problem) declared))
       (name_same object)

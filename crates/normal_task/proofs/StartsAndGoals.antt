@@ -1,5 +1,5 @@
 -- The normal task has the plans of the files, with the same names and costs, and reaches the same states.
-use Rattle.std.proofs.Common.{◌≡◌, ℕ, suc, ◌+◌, Bool, true, false, ◌||◌, List, [], ◌∷◌, ◌++◌, length, refl, sym, ap, ◌∙◌, subst, arith}
+use Rattle.std.proofs.Common.{◌≡◌, ℕ, ◌+◌, Bool, true, false, ◌||◌, List, [], ◌∷◌, ◌++◌, length, refl, sym, ap, ◌∙◌, subst, arith}
 use Rattle.std.specs.Prelude.{nat_eq, ◌==◌, if◌then◌else◌}
 use Rattle.std.specs.List.{list_all, list_any, flat_map}
 use Rattle.std.specs.Cmp.Lexicographic.{pointwise}
@@ -23,11 +23,11 @@ use Rattle.normal_task.specs.Same.{is_known_atom, Shows}
 use Rattle.normal_task.proofs.Anys.{any-flat_map}
 use Rattle.normal_task.proofs.Scopes.{length-append}
 use Rattle.normal_task.proofs.OnceEach.{once-any}
-use Rattle.normal_task.proofs.PartsMean.{some_part, part_met, GivenIn, given-left, given-right}
+use Rattle.normal_task.proofs.PartsMean.{some_part, part_met, GivenAt, GivenIn, numbered-left, numbered-right, numbered-third}
 use Rattle.normal_task.proofs.ConditionsMean.{ShowsFull, condition-means}
 use Rattle.normal_task.proofs.Bound.{free-bound}
 use Rattle.normal_task.proofs.EffectsMean.{same-numbered}
-use Rattle.normal_task.proofs.FullStatesMatch.{declared, planning, fresh_all, AllGiven, files-full, full-given, given-of_all}
+use Rattle.normal_task.proofs.FullStatesMatch.{declared, planning, fresh_all, AllGivenAt, AllGiven, files-full, full-given, given-of_all}
 use Rattle.normal_task.proofs.Filled.{GoalSound, first_fresh, last_fresh, goal_fresh, all-fresh, task-full}
 use Rattle.normal_task.proofs.Steps.{Sound}
 
@@ -81,21 +81,12 @@ module _ (domain : Domain) (problem : Problem) where
   abbrev goal_items : List Part
   goal_items = (goal_parts domain problem).items
 
-  all-right : (state : State) (next : ℕ) (first second : List Fresh) → AllGiven domain problem state next (first ++ second) → AllGiven domain problem state (next + length first) second
-  all-right state next [] second all = subst (λ (n : ℕ). AllGiven domain problem state n second) (let same : next ≡ next + length {A = Fresh} [] = omega arith in same) all
-  all-right state next (fresh ∷ first) second all =
-      subst (λ (n : ℕ). AllGiven domain problem state n second) (let same : suc next + length first ≡ next + length (fresh ∷ first) = omega arith in same) (all-right state (suc next) first second all.1)
-
   module _ (full : holds.State) (numbered : State) (shows : ShowsFull domain problem full numbered) (all : AllGiven domain problem numbered 0 (fresh_all domain problem)) (sound : GoalSound domain problem) where
     given-goal : GivenIn (declared domain problem) numbered (after_axioms domain problem) (goal_parts domain problem).fresh
     given-goal =
-        let schemas = (made_schemas domain problem).fresh in
-        let axioms = (made_axioms domain problem).fresh in
-        let goal = (goal_parts domain problem).fresh in
         let whole = subst (λ (l : List Fresh). GivenIn (declared domain problem) numbered 0 l) (all-fresh domain problem) (given-of_all domain problem numbered 0 (fresh_all domain problem) all) in
-        let first = given-left (declared domain problem) numbered 0 (first_fresh domain problem) (last_fresh domain problem goal_items) whole in
-        let rest = given-right (declared domain problem) numbered 0 schemas (axioms ++ goal) first in
-        subst (λ (n : ℕ). GivenIn (declared domain problem) numbered n goal) (let same : 0 + length schemas + length axioms ≡ after_axioms domain problem = omega arith in same) (given-right (declared domain problem) numbered (0 + length schemas) axioms goal rest)
+        numbered-third (GivenAt (declared domain problem) numbered) (made_schemas domain problem).fresh (made_axioms domain problem).fresh (goal_parts domain problem).fresh
+        (numbered-left (GivenAt (declared domain problem) numbered) 0 (first_fresh domain problem) (last_fresh domain problem goal_items) whole)
 
     goal-means : some_part numbered [] goal_items ≡ holds.holds domain problem full problem.goal []
     goal-means =
@@ -103,7 +94,7 @@ module _ (domain : Domain) (problem : Problem) where
         (λ name free. absurd (false≢true (free-bound domain problem problem.goal [] sound.bound name free))) (after_axioms domain problem) given-goal
 
     last-given : AllGiven domain problem numbered (0 + length (first_fresh domain problem)) (last_fresh domain problem goal_items)
-    last-given = all-right numbered 0 (first_fresh domain problem) (last_fresh domain problem goal_items) (subst (λ (l : List Fresh). AllGiven domain problem numbered 0 l) (all-fresh domain problem) all)
+    last-given = numbered-right (AllGivenAt domain problem numbered) 0 (first_fresh domain problem) (last_fresh domain problem goal_items) (subst (λ (l : List Fresh). AllGiven domain problem numbered 0 l) (all-fresh domain problem) all)
 
     -- the atom for the goal
     atom-means : (items : List Part) → last_fresh domain problem items ≡ goal_fresh domain problem ∷ [] → AllGiven domain problem numbered (0 + length (first_fresh domain problem)) (last_fresh domain problem items) →

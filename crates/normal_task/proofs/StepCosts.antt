@@ -1,7 +1,7 @@
 -- Steps of the normal task of a checked pair that have one name have one cost.
 use Rattle.std.proofs.Common.{◌≡◌, ℕ, ◌+◌, true, false, List, [], ◌∷◌, ◌++◌, map, take, length, sym, ap, ap₂, ◌∙◌, subst, inl, inr}
 use Rattle.std.specs.Prelude.{Contains}
-use Rattle.std.specs.List.{list_all, AllByRecursion, IsDistinct}
+use Rattle.std.specs.List.{list_all, IsDistinct}
 use Rattle.std.proofs.lemmas.Bool.{false≢true}
 use Rattle.std.proofs.lemmas.List.Elements.{All-contains}
 use Rattle.std.proofs.lemmas.Map.Keys.{IsDistinct-head, IsDistinct-tail}
@@ -30,16 +30,12 @@ use Rattle.normal_task.proofs.CutNames.{cut_name}
 use Rattle.normal_task.proofs.FullStatesMatch.{planning, num, choices-known}
 use Rattle.normal_task.proofs.MadeInTurn.{maker}
 use Rattle.normal_task.proofs.NameWords.{spelled-word, objects-words}
+use Rattle.normal_task.proofs.PredicateTable.{passes_all}
 use Rattle.normal_task.proofs.Scopes.{is_known, length-map}
 use Rattle.normal_task.proofs.Steps.{split-choice, choice-length, is_normal_step, names-choice, shown-names}
 use Rattle.pddl_parser.proofs.Steps.{name_same}
 
 -- ---- items that their names tell apart
-
-passes_all : {X : Type 0} (P : Name → Type 0) (name_of : X → Name) (xs : List X) (x : X) → AllByRecursion P (map name_of xs) → Among x xs → P (name_of x)
-passes_all P name_of [] x all there = absurd there
-passes_all P name_of (y ∷ xs) x all (inl here) = subst (λ z. P (name_of z)) here all.0
-passes_all P name_of (y ∷ xs) x all (inr there) = passes_all P name_of xs x all.1 there
 
 same_told : (a b : Name) → a ≡ b → is_same a b ≡ false → ⊥
 same_told a b same apart = false≢true (sym apart ∙ subst (λ (n : Name). is_same a n ≡ true) same (name_same a))

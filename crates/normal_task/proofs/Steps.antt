@@ -4,7 +4,7 @@ use Rattle.std.specs.Prelude.{nat_eq, if◌then◌else◌, unwrap_or, IsSome, Is
 use Rattle.std.specs.List.{list_all, list_any, flat_map, Contains}
 use Rattle.std.specs.Cmp.Lexicographic.{pointwise}
 use Rattle.std.proofs.lemmas.Bool.{and_parts, and_from, false≢true}
-use Rattle.std.proofs.lemmas.Cmp.{nat_list_eq_equiv}
+use Rattle.std.proofs.lemmas.Cmp.{nat_list_eq_equiv, lists_equiv}
 use Rattle.std.proofs.Math.Seq.{take-append_seam}
 use Rattle.lists.specs.Members.{is_among}
 use Rattle.planning.specs.Task.{IsFull, Takes, cost, successor}
@@ -31,7 +31,7 @@ use Rattle.normal_task.specs.declared.task.Normal.{Normal}
 use Rattle.normal_task.specs.declared.task.Schema.{Schema}
 use Rattle.normal_task.specs.Numbers.{number_in, object_names, ranges_of}
 use Rattle.normal_task.specs.Meaning as task
-use Rattle.normal_task.specs.Meaning.{normal_task, steps_of, atom_of, State, Binding, objects_at, choices, answers, is_met, are_met}
+use Rattle.normal_task.specs.Meaning.{normal_task, steps_of, atom_of, State, Binding, objects_at, choices, answers, are_met}
 use Rattle.normal_task.proofs.Chosen.{is_choice}
 use Rattle.normal_task.specs.Parts.{moved, Part, known}
 use Rattle.normal_task.specs.Normalised.{numbered_atom, parameter_scope, rows_of, action_cost, moved_row, schema, precondition_parts, effect_rows, schemas, made_schemas, made_axioms, made_goal}
@@ -42,14 +42,14 @@ use Rattle.normal_task.proofs.Chosen.{choice-any}
 use Rattle.normal_task.proofs.Mentioned.{is_known_mention, AreKnown}
 use Rattle.normal_task.proofs.Scopes.{append-assoc, length-map, choice-append, is_known, inside-stands}
 use Rattle.normal_task.proofs.Fits.{fresh_fit}
-use Rattle.normal_task.proofs.PartsMean.{some_part, part_met, GivenIn, given-left, given-right, all-met-moved, moved-places}
+use Rattle.normal_task.proofs.PartsMean.{some_part, part_met, GivenAt, GivenIn, numbered-left, numbered-right, all-met-moved, moved-places}
 use Rattle.normal_task.proofs.ConditionsMean.{choices-numbers, ShowsFull, condition-means, named-choice-length}
 use Rattle.normal_task.proofs.Bound.{in-inside, free-bound}
 use Rattle.normal_task.proofs.EffectsMean.{StandAll, effect-means}
 use Rattle.normal_task.proofs.FullStatesMatch.{declared, planning, num, fresh_all, RuleSound, choices-known, chosen, files-full, full-given, given-of_all}
 use Rattle.normal_task.proofs.Filled.{GoalSound, first_fresh, task-full}
 use Rattle.lists.proofs.Items.{among_contains, contains_among, among_flat_map, flat_map_piece}
-use Rattle.pddl_parser.proofs.Steps.{is_step, in_steps, name_same}
+use Rattle.pddl_parser.proofs.Steps.{is_step, in_steps}
 use Rattle.normal_task.proofs.MadeInTurn.{turn, origin}
 
 -- a choice of two lists of lists falls into a choice of each
@@ -248,25 +248,21 @@ module _ (domain : Domain) (problem : Problem) where
       let found = map_source (map (num domain problem)) (pddl.choices domain problem variables) objects there in
       record { names = found.source; among = found.among; same = found.gives }
 
-  same-names : (names : List Name) → pointwise is_same names names ≡ true
-  same-names [] = refl
-  same-names (name ∷ names) = and_from (is_same name name) (pointwise is_same names names) (name_same name) (same-names names)
-
   module _ (sound : Sound) where
     pub given-actions : (state : State) → GivenIn (declared domain problem) state 0 (fresh_all domain problem) → GivenIn (declared domain problem) state 0 (made_schemas domain problem).fresh
-    given-actions state given = given-left (declared domain problem) state 0 (made_schemas domain problem).fresh ((made_axioms domain problem).fresh ++ (made_goal domain problem).fresh) given
+    given-actions state given = numbered-left (GivenAt (declared domain problem) state) 0 (made_schemas domain problem).fresh ((made_axioms domain problem).fresh ++ (made_goal domain problem).fresh) given
 
     pub all-given-in : (numbered numbered_full : State) → IsFull (normal_task (planning domain problem)) numbered numbered_full → GivenIn (declared domain problem) numbered_full 0 (fresh_all domain problem)
     all-given-in numbered numbered_full is_full = given-of_all domain problem numbered_full 0 (fresh_all domain problem) (full-given domain problem sound.rules numbered numbered_full is_full)
 
     first-given : (numbered_full : State) (action : Action) (next : ℕ) → GivenIn (declared domain problem) numbered_full next (schemas domain problem action next).fresh → GivenIn (declared domain problem) numbered_full next (precondition_parts domain problem action next).fresh
     first-given numbered_full action next given =
-        given-left (declared domain problem) numbered_full next (precondition_parts domain problem action next).fresh (effect_rows domain problem action (next + length (precondition_parts domain problem action next).fresh)).fresh given
+        numbered-left (GivenAt (declared domain problem) numbered_full) next (precondition_parts domain problem action next).fresh (effect_rows domain problem action (next + length (precondition_parts domain problem action next).fresh)).fresh given
 
     second-given : (numbered_full : State) (action : Action) (next : ℕ) → GivenIn (declared domain problem) numbered_full next (schemas domain problem action next).fresh →
         GivenIn (declared domain problem) numbered_full (next + length (precondition_parts domain problem action next).fresh) (effect_rows domain problem action (next + length (precondition_parts domain problem action next).fresh)).fresh
     second-given numbered_full action next given =
-        given-right (declared domain problem) numbered_full next (precondition_parts domain problem action next).fresh (effect_rows domain problem action (next + length (precondition_parts domain problem action next).fresh)).fresh given
+        numbered-right (GivenAt (declared domain problem) numbered_full) next (precondition_parts domain problem action next).fresh (effect_rows domain problem action (next + length (precondition_parts domain problem action next).fresh)).fresh given
 
     -- a step of the files is one of the task
     pub taken : (state : holds.State) (numbered_state : State) → Shows domain problem state numbered_state → (taken_step : step.Step) (next : holds.State) → Takes (pddl_task domain problem) state taken_step next →
@@ -279,7 +275,7 @@ module _ (domain : Domain) (problem : Problem) where
         let among = chosen domain problem action.parameters taken_step.objects is.typed in
         let whole = task-full domain problem sound.rules sound.goal sound.fit state takes.full numbered_state shown takes.is_full in
         let given = given-actions whole.numbered_full (all-given-in numbered_state whole.numbered_full whole.is_full) in
-        let here = turn (schemas domain problem) (declared domain problem) whole.numbered_full domain.actions 0 given action among_actions in
+        let here = turn (schemas domain problem) (GivenAt (declared domain problem) whole.numbered_full) domain.actions 0 given action among_actions in
         let objects = map (num domain problem) taken_step.objects in
         let parts = precondition_parts domain problem action here.next in
         let later = here.next + length parts.fresh in
@@ -319,7 +315,7 @@ module _ (domain : Domain) (problem : Problem) where
         let whole = files-full domain problem sound.rules state numbered_state takes.full shown takes.is_full in
         let given = given-actions takes.full (all-given-in numbered_state takes.full takes.is_full) in
         let is = is_normal_step (planning domain problem) taken_step takes.of_task in
-        let here = origin (schemas domain problem) (declared domain problem) takes.full domain.actions 0 given taken_step.schema (among_contains (planning domain problem).schemas taken_step.schema is.declared) in
+        let here = origin (schemas domain problem) (GivenAt (declared domain problem) takes.full) domain.actions 0 (length (made_schemas domain problem).fresh) (omega arith) given taken_step.schema (among_contains (planning domain problem).schemas taken_step.schema is.declared) in
         let action = here.source in
         let action_sound = sound.actions action here.among in
         let parts = precondition_parts domain problem action here.next in
@@ -347,7 +343,7 @@ module _ (domain : Domain) (problem : Problem) where
           step = files_step;
           next = successor (pddl_task domain problem) state whole.full files_step;
           takes = record {
-            of_task = in_steps domain problem files_step record { declared = contains_among domain.actions action here.among; typed = any_passes (pointwise is_same names) names (pddl.choices domain problem action.parameters) among (same-names names) };
+            of_task = in_steps domain problem files_step record { declared = contains_among domain.actions action here.among; typed = any_passes (pointwise is_same names) names (pddl.choices domain problem action.parameters) among ((lists_equiv nat_list_eq_equiv).refl names) };
             full = whole.full;
             is_full = whole.is_full;
             applicable = holding;

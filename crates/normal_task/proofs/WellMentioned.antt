@@ -1,17 +1,15 @@
 -- What the parts of a checked pair mention is well declared, and its normal task has the tables for it.
-use Rattle.std.proofs.Common.{◌≡◌, ℕ, ◌+◌, Bool, true, not, List, [], length, inr, sym, subst, arith}
+use Rattle.std.proofs.Common.{◌≡◌, Bool, true, not, [], inr}
 use Rattle.std.specs.List.{list_all, list_any}
-use Rattle.std.proofs.lemmas.Bool.{and_from, true≢false}
+use Rattle.std.proofs.lemmas.Bool.{and_from}
 use Rattle.pddl_parser.specs.declared.types.Action.{Action}
 use Rattle.pddl_parser.specs.declared.types.Derived.{Derived}
 use Rattle.pddl_parser.specs.declared.types.Domain.{Domain}
 use Rattle.pddl_parser.specs.declared.types.Named.{Named}
 use Rattle.pddl_parser.specs.declared.types.Problem.{Problem}
-use Rattle.pddl_parser.specs.declared.types.Typed.{Typed}
 use Rattle.pddl_parser.specs.Words.{is_same}
 use Rattle.pddl_parser.specs.Holds.{is_derived}
 use Rattle.fault_positions.specs.Mentions.{Mention, written_predicates, in_condition, in_effect, in_action, in_axiom}
-use Rattle.fault_positions.specs.Scopes as scopes
 use Rattle.type_checker.specs.Faultless.{mentions, has_predicate, has_objects, is_basic}
 use Rattle.type_checker.specs.Faults.{check_faults}
 use Rattle.type_checker.proofs.Basic.{written_basic}
@@ -19,25 +17,16 @@ use Rattle.type_checker.proofs.Declared.{predicates_declared, objects_known}
 use Rattle.type_checker.proofs.EachPart.{in_each_action, in_each_axiom, in_goal}
 use Rattle.lists.proofs.Items.{Among, all_passes, any_passes, each_passes, among_right}
 use Rattle.normal_task.specs.declared.task.Normal.{Normal}
-use Rattle.normal_task.specs.Normalised.{parameter_scope, is_changed, normal}
-use Rattle.normal_task.proofs.Bound.{in-inside}
-use Rattle.normal_task.proofs.EffectsFit.{AllInScope}
+use Rattle.normal_task.specs.Normalised.{is_changed, normal}
 use Rattle.normal_task.proofs.KnownEffects.{is_change, AreChanges}
 use Rattle.normal_task.proofs.KnownParts.{all-by_both, HasTables, well_mentioned, AreWell}
 use Rattle.normal_task.proofs.PredicateTable.{declared-arity, declared-changed}
 use Rattle.normal_task.proofs.RisingRanges.{object-is, range-is}
-use Rattle.normal_task.proofs.Scopes.{InScope, inside-in_scope}
 use Rattle.pddl_parser.proofs.Steps.{name_same}
 
 module _ (domain : Domain) (problem : Problem) where
   abbrev task : Normal
   task = normal domain problem
-
-  -- the parameters are in scope
-  pub parameters-in_scope : (variables : List Typed) → AllInScope domain problem (scopes.inside_of variables []) (parameter_scope domain problem variables) (length variables)
-  parameters-in_scope variables name inside =
-      subst (λ (n : ℕ). InScope (parameter_scope domain problem variables) n name) (let same : 0 + length variables ≡ length variables = omega arith in same)
-      (inside-in_scope domain problem variables 0 [] name (λ unlisted. absurd (true≢false (sym (in-inside variables [] name inside unlisted)))))
 
   module _ (none : check_faults domain problem ≡ []) where
     pub tables : HasTables domain problem task
