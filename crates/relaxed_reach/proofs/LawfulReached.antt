@@ -83,15 +83,11 @@ module _ (task : Ground) (lawful : IsLawfulGround task) where
       let from = map_source action_row task.actions row among in
       subst (λ (r : ActionRow GroundAtom). IsPaid task.metric r.name r.cost) from.gives (of_action from.source from.among)
     where
-      counts : (metric : Bool) (cost : ℕ) → (metric || nat_eq cost 1) ≡ true → metric ≡ false → cost ≡ 1
-      counts true cost is free = absurd (true≢false free)
-      counts false cost is free = eqb-true cost 1 is
-
       of_action : (action : GroundAction) → Among action task.actions → IsPaid task.metric action.name action.cost
       of_action action among =
           let is = action_is action among in
           let cost = and_parts (nat_le action.cost most) (task.metric || nat_eq action.cost 1) is.cost in
-          record { named = is.named; small_cost = leb-true action.cost most cost.0; unit_cost = counts task.metric action.cost cost.1 }
+          record { named = is.named; small_cost = leb-true action.cost most cost.0; unit_cost = λ free. eqb-true action.cost 1 (sym (ap (λ b. b || nat_eq action.cost 1) free) ∙ cost.1) }
 
   kinds : HasKinds (ground_task task)
   kinds = record {
