@@ -1,6 +1,7 @@
 -- What is known of types once one more list of types was asked for.
 use Rattle.std.proofs.Common.{◌≡◌, Bool, true, false, not, cond, ◌||◌, ℕ, ◌<◌, List, [], ◌∷◌, ◌++◌, map, length, get_or, refl, sym, ap, ◌∙◌, append-nil, subst, arith}
 use Rattle.std.specs.List.{flat_map, position_or_len}
+use Rattle.std.proofs.Math.Bool.{or-false}
 use Rattle.std.proofs.lemmas.Bool.{false≢true}
 use Rattle.std.proofs.lemmas.List.Concat.{flat_map-append}
 use Rattle.std.proofs.lemmas.List.Folds.{list_any-append}
@@ -20,10 +21,6 @@ one_more asked listed name =
     ap (λ (types : List Name). has types name) (flat_map-append one_type asked (listed ∷ []) ∙ ap (λ (types : List Name). flat_map one_type asked ++ types) (append-nil (one_type listed)))
     ∙ list_any-append (is_same name) (flat_map one_type asked) (one_type listed)
 
-or_none : (a : Bool) → a ≡ (a || false)
-or_none true = refl
-or_none false = refl
-
 turned : (a b : Bool) → (a || b) ≡ (b || (a || false))
 turned true true = refl
 turned true false = refl
@@ -34,7 +31,7 @@ module _ (domain : Domain) (problem : Problem) (asked : List (List Named)) (list
   -- no type is listed alone
   pub none_asked : one_type listed ≡ [] → AreKnown domain problem (asked ++ listed ∷ []) types ranges
   none_asked none = record {
-    known = λ name. before.known name ∙ or_none (has (flat_map one_type asked) name) ∙ sym (one_more asked listed name ∙ ap (λ (more : List Name). has (flat_map one_type asked) name || has more name) none);
+    known = λ name. before.known name ∙ sym (or-false (has (flat_map one_type asked) name)) ∙ sym (one_more asked listed name ∙ ap (λ (more : List Name). has (flat_map one_type asked) name || has more name) none);
     ranged = before.ranged;
   }
 

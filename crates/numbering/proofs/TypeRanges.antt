@@ -1,6 +1,7 @@
 -- The objects of listed types, by the types that are found below these.
 use Rattle.std.proofs.Common.{◌≡◌, ℕ, Bool, false, ◌||◌, List, [], ◌∷◌, ◌++◌, map, length, refl, sym, ap, ◌∙◌}
 use Rattle.std.specs.List.{list_any, filter}
+use Rattle.std.proofs.lemmas.List.Elements.{filter_agree}
 use Rattle.lists.proofs.Items.{same_any, any_or}
 use Rattle.pddl_parser.specs.declared.types.Domain.{Domain}
 use Rattle.pddl_parser.specs.declared.types.Named.{Named}
@@ -21,10 +22,6 @@ any_swapped test xs [] = sym (any_none xs)
 any_swapped test xs (y ∷ ys) =
     ap (λ b. list_any (λ x. test x y) xs || b) (any_swapped test xs ys)
     ∙ sym (any_or (λ x. test x y) (λ x. list_any (test x) ys) xs)
-
-same_filter : {X : Type 0} (test other : X → Bool) → ((x : X) → test x ≡ other x) → (xs : List X) → filter test xs ≡ filter other xs
-same_filter test other same [] = refl
-same_filter test other same (x ∷ xs) = let rest = same_filter test other same xs in cc (rest, same x)
 
 module _ (types : List Typed) (listed : List Named) (found : List Name) (below : (name : Name) → has found name ≡ leads_to types listed name) where
   -- some listed type is `object`, or one of the object's own types is found
@@ -49,6 +46,6 @@ pub range_found : (domain : Domain) (problem : Problem) (types : List Typed) (li
 range_found domain problem types listed found any types_are below any_is constants others constants_are others_are start middle end none first second =
     ranged (object_number domain problem) (has_type_among any found) constants others start middle end none first second
     ∙ ap (λ (l : List Typed). map (object_number domain problem) (map (λ object. object.name.name) l))
-    (same_filter (has_type_among any found) (has_listed_type types listed) (λ object. ap (λ b. has_type_among b found object) any_is ∙ same_listed types listed found below object) (constants ++ others)
+    (filter_agree (has_type_among any found) (has_listed_type types listed) (λ object. ap (λ b. has_type_among b found object) any_is ∙ same_listed types listed found below object) (constants ++ others)
     ∙ ap (λ (t : List Typed). filter (has_listed_type t listed) (constants ++ others)) types_are
     ∙ ap (filter (has_listed_type domain.types listed)) (ap (λ (l : List Typed). l ++ others) constants_are ∙ ap (λ (l : List Typed). domain.constants ++ l) others_are))
