@@ -17,6 +17,7 @@ use Rattle.pddl_parser.proofs.ConditionCases as c
 use Rattle.pddl_parser.proofs.ConditionCases.{Each, condition_by_cases}
 use Rattle.pddl_parser.proofs.EffectCases as e
 use Rattle.pddl_parser.proofs.EffectCases.{effect_by_cases}
+use Rattle.std.proofs.lemmas.Bool.{or_from}
 use Rattle.lists.proofs.Items.{any_append, same_any, same_map}
 use Rattle.std.proofs.lemmas.List.{length-take-le}
 use Rattle.lists.proofs.LoopSteps.{take_next}
@@ -27,9 +28,6 @@ use Rattle.normal_task.specs.declared.task.PredicateRow.{PredicateRow}
 use Rattle.normaliser.specs.Rows.{row_of}
 use Rattle.normaliser.specs.IsWritten.{is_written, is_written_step}
 use Rattle.normal_task.specs.Normalised.{is_changed, declared_row, fresh_predicates}
-
-neither : (a b : Bool) → a ≡ false → b ≡ false → (a || b) ≡ false
-neither a b not_a not_b = ap (λ x. x || b) not_a ∙ not_b
 
 module _ (name : Name) where
   abbrev is_on : Mention → Bool
@@ -42,7 +40,7 @@ module _ (name : Name) where
   members-none [] each = refl
   members-none (member ∷ members) each =
       any_append is_on (in_condition member) (flat_map (λ mentions. mentions) (map in_condition members))
-      ∙ neither (list_any is_on (in_condition member)) (list_any is_on (flat_map (λ mentions. mentions) (map in_condition members))) each.0 (members-none members each.1)
+      ∙ or_from (list_any is_on (in_condition member)) (list_any is_on (flat_map (λ mentions. mentions) (map in_condition members))) each.0 (members-none members each.1)
 
   -- a condition writes nothing
   condition-none : (condition : Condition) → WritesNone condition
@@ -56,7 +54,7 @@ module _ (name : Name) where
     at_imply = λ premise conclusion at held held_too.
         ap (list_any is_on) (c.fold-Imply (List Mention) condition_step premise conclusion at)
         ∙ any_append is_on (in_condition premise) (in_condition conclusion)
-        ∙ neither (list_any is_on (in_condition premise)) (list_any is_on (in_condition conclusion)) held held_too;
+        ∙ or_from (list_any is_on (in_condition premise)) (list_any is_on (in_condition conclusion)) held held_too;
     at_forall = λ variables inside at held. ap (list_any is_on) (c.fold-Forall (List Mention) condition_step variables inside at) ∙ held;
     at_exists = λ variables inside at held. ap (list_any is_on) (c.fold-Exists (List Mention) condition_step variables inside at) ∙ held;
   }
