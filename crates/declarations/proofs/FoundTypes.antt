@@ -1,8 +1,9 @@
 -- What is found below the listed types by adding entries that are next until none is: exactly the types that lead to a listed one.
-use Rattle.std.proofs.Common.{◌≡◌, ℕ, zero, suc, ◌+◌, ◌*◌, ◌<◌, ◌≤◌, Bool, true, false, not, ◌&&◌, ◌||◌, ◌⊎◌, inl, inr, List, [], ◌∷◌, ◌++◌, take, length, get_or, refl, sym, ap, ◌∙◌, subst, arith}
+use Rattle.std.proofs.Common.{◌≡◌, ℕ, zero, suc, ◌+◌, ◌*◌, ◌<◌, ◌≤◌, Bool, true, false, not, ◌&&◌, ◌||◌, ◌⊎◌, inl, inr, List, [], ◌∷◌, ◌++◌, take, take_all, length, get_or, refl, sym, ap, ◌∙◌, subst, arith}
 use Rattle.std.specs.Prelude.{if◌then◌else◌}
 use Rattle.std.specs.List.{list_any}
-use Rattle.std.proofs.lemmas.Bool.{and_parts, and_from, or_cases, or_left, or_right, true≢false}
+use Rattle.std.proofs.lemmas.Bool.{and_parts, and_from, or_cases, or_left, or_right, not-true, true_from_ne_false, true≢false}
+use Rattle.std.proofs.Math.Bool.{or-false}
 use Rattle.lists.proofs.Items.{Among, among_at, any_passes, passing, any_append, filter_yes, filter_no}
 use Rattle.lists.proofs.LoopSteps.{any_next}
 use Rattle.names.proofs.SameNames.{same_name}
@@ -66,11 +67,9 @@ module _ (entries : List Typed) where
           by_place : (listed : List Named) → AllLead entries listed found → (name : Name) → leads_to entries listed entry.name.name ≡ true →
               (has found name ≡ true) ⊎ (has (entry.name.name ∷ []) name ≡ true) → leads_to entries listed name ≡ true
           by_place listed all name new (inl there) = all name there
-          by_place listed all name new (inr here) = by_same (or_cases (is_same name entry.name.name) false here)
-            where
-              by_same : (is_same name entry.name.name ≡ true) ⊎ (false ≡ true) → leads_to entries listed name ≡ true
-              by_same (inl same) = subst (λ (n : Name). leads_to entries listed n ≡ true) (sym (same_name name entry.name.name same)) new
-              by_same (inr never) = absurd (true≢false (sym never))
+          by_place listed all name new (inr here) =
+              let same = same_name name entry.name.name (sym (or-false (is_same name entry.name.name)) ∙ here) in
+              subst (λ (n : Name). leads_to entries listed n ≡ true) (sym same) new
 
   pub next_at : (found found' : List Name) (place : ℕ) (entry : Typed) → place < length entries → entry ≡ get_or entries place entry → found' ≡ with_next found entry → Grows entries found found'
   next_at found found' place entry within is found_is =
@@ -87,12 +86,11 @@ module _ (entries : List Typed) where
       passes next = leads entries steps next to
 
       not_next : (entry : Typed) → Among entry entries → not (is_same entry.name.name root) ≡ true → list_any (λ (parent : Named). has found parent.name) entry.types ≡ true →
-          (b : Bool) → has found entry.name.name ≡ b → b ≡ true
-      not_next entry among other above true is = refl
-      not_next entry among other above false is =
+          has found entry.name.name ≡ true
+      not_next entry among other above = true_from_ne_false (has found entry.name.name) (λ is.
           let next = and_from (not (has found entry.name.name)) (not (is_same entry.name.name root) && list_any (λ (parent : Named). has found parent.name) entry.types) (ap not is)
           (and_from (not (is_same entry.name.name root)) (list_any (λ (parent : Named). has found parent.name) entry.types) other above) in
-          absurd (true≢false (sym (any_passes (is_next found) entry entries among next) ∙ closed))
+          true≢false (sym (any_passes (is_next found) entry entries among next) ∙ closed))
 
       by : ((from to : Name) → has found to ≡ true → leads entries steps from to ≡ true → has found from ≡ true) →
           (is_same from to ≡ true) ⊎ (some_supertype entries from (λ next. leads entries steps next to) ≡ true) → has found from ≡ true
@@ -105,7 +103,7 @@ module _ (entries : List Typed) where
           let above = passing (λ (p : Named). leads entries steps p.name to) on.item.types parts.1 in
           let known = any_passes (λ (p : Named). has found p.name) above.item on.item.types above.among (rest above.item.name to there above.passes) in
           let other = subst (λ (n : Name). not (is_same n root) ≡ true) (sym is) declared.1 in
-          subst (λ (n : Name). has found n ≡ true) is (not_next on.item on.among other known (has found on.item.name.name) refl)
+          subst (λ (n : Name). has found n ≡ true) is (not_next on.item on.among other known)
 
   -- from the listed types on
   pub found_below : (listed : List Named) (start found : List Name) → ((name : Name) → has start name ≡ list_any (λ type. is_same name type.name) listed) →
@@ -140,18 +138,18 @@ missing_first : (found : List Name) (entry : Typed) (entries : List Typed) (know
 missing_first found entry entries true is = ap (λ (l : List Typed). length l) (filter_no (λ (e : Typed). not (has found e.name.name)) entry entries (ap not is))
 missing_first found entry entries false is = ap (λ (l : List Typed). length l) (filter_yes (λ (e : Typed). not (has found e.name.name)) entry entries (ap not is))
 
-counted_less : (known known' : Bool) (count count' : ℕ) → (known ≡ true → known' ≡ true) → count' ≤ count → counted known' count' ≤ counted known count
-counted_less true true count count' kept less = less
-counted_less true false count count' kept less = absurd (true≢false (sym (kept refl)))
-counted_less false true count count' kept less = omega (arith, less)
-counted_less false false count count' kept less = omega (arith, less)
+counted_less : (known known' : Bool) (count count' fewer : ℕ) → (known ≡ true → known' ≡ true) → count' + fewer ≤ count → counted known' count' + fewer ≤ counted known count
+counted_less true true count count' fewer kept less = less
+counted_less true false count count' fewer kept less = absurd (true≢false (sym (kept refl)))
+counted_less false true count count' fewer kept less = omega (arith, less)
+counted_less false false count count' fewer kept less = omega (arith, less)
 
 -- what keeps what is found misses no more
 pub missing_less : (found found' : List Name) → ((name : Name) → has found name ≡ true → has found' name ≡ true) → (entries : List Typed) → missing entries found' ≤ missing entries found
 missing_less found found' kept [] = omega arith
 missing_less found found' kept (entry ∷ entries) =
     let rest = missing_less found found' kept entries in
-    let here = counted_less (has found entry.name.name) (has found' entry.name.name) (missing entries found) (missing entries found') (kept entry.name.name) rest in
+    let here = counted_less (has found entry.name.name) (has found' entry.name.name) (missing entries found) (missing entries found') 0 (kept entry.name.name) (omega (arith, rest)) in
     omega (arith, here, missing_first found entry entries (has found entry.name.name) refl, missing_first found' entry entries (has found' entry.name.name) refl)
 
 -- and where it finds an entry's type, fewer
@@ -165,14 +163,8 @@ missing_fewer found found' kept entry (first ∷ entries) (inl here) new known =
     omega (arith, rest, before, after)
 missing_fewer found found' kept entry (first ∷ entries) (inr there) new known =
     let rest = missing_fewer found found' kept entry entries there new known in
-    by (has found first.name.name) (has found' first.name.name) refl refl (kept first.name.name) rest
-  where
-    by : (b b' : Bool) → has found first.name.name ≡ b → has found' first.name.name ≡ b' → (has found first.name.name ≡ true → has found' first.name.name ≡ true) → missing entries found' < missing entries found →
-        missing (first ∷ entries) found' < missing (first ∷ entries) found
-    by true true e e' keeps rest = omega (arith, rest, missing_first found first entries true e, missing_first found' first entries true e')
-    by true false e e' keeps rest = absurd (true≢false (sym (keeps e) ∙ e'))
-    by false true e e' keeps rest = omega (arith, rest, missing_first found first entries false e, missing_first found' first entries true e')
-    by false false e e' keeps rest = omega (arith, rest, missing_first found first entries false e, missing_first found' first entries false e')
+    let here = counted_less (has found first.name.name) (has found' first.name.name) (missing entries found) (missing entries found') 1 (kept first.name.name) (omega (arith, rest)) in
+    omega (arith, here, missing_first found first entries (has found first.name.name) refl, missing_first found' first entries (has found' first.name.name) refl)
 
 -- ---- one round
 
@@ -205,7 +197,7 @@ round_more entries start found has_grown at before entry within is found' found_
         let step = subst (Grows entries found) (sym found_is) (next_grows entries found entry among) in
         let known : has found' entry.name.name ≡ true =
         ap (λ (l : List Name). has l entry.name.name) longer ∙ any_append (is_same entry.name.name) found (entry.name.name ∷ []) ∙ or_right (has found entry.name.name) (has (entry.name.name ∷ []) entry.name.name) (is_in entry.name.name) in
-        let less = missing_fewer found found' step.kept entry entries among (unknown (has found entry.name.name) new.0) known in
+        let less = missing_fewer found found' step.kept entry entries among (not-true (has found entry.name.name) new.0) known in
         let before_less = before.fewer in
         record {
           grows = grows';
@@ -213,10 +205,6 @@ round_more entries start found has_grown at before entry within is found' found_
           none = λ quiet. absurd (true≢false (sym now_grown ∙ quiet));
           fewer = (let one : one_if has_grown' ≡ one_if true = ap one_if now_grown in omega (arith, one, less, before_less));
         }
-      where
-        unknown : (b : Bool) → not b ≡ true → b ≡ false
-        unknown true e = absurd (true≢false (sym e))
-        unknown false e = refl
     by false e grown g =
         let same_grown : has_grown' ≡ has_grown = grown_is ∙ ap (λ b. b || has_grown) (new_is ∙ e) in
         let same_found : found' ≡ found = found_is ∙ ap (λ b. if b then found ++ entry.name.name ∷ [] else found) e in
@@ -233,13 +221,7 @@ round_more entries start found has_grown at before entry within is found' found_
 -- a round over all entries
 pub closed_after : (entries : List Typed) (start found : List Name) (has_grown : Bool) (at : ℕ) → Round entries start found has_grown at → length entries ≤ at → has_grown ≡ false → IsClosed entries found
 closed_after entries start found has_grown at round over quiet =
-    ap (λ (l : List Name). list_any (is_next l) entries) (round.same quiet) ∙ ap (list_any (is_next start)) (sym (take_whole entries at over)) ∙ round.none quiet
-  where
-    take_whole : (xs : List Typed) (n : ℕ) → length xs ≤ n → take n xs ≡ xs
-    take_whole [] zero over = refl
-    take_whole [] (suc n) over = refl
-    take_whole (x ∷ xs) zero over = absurd (omega (arith, over))
-    take_whole (x ∷ xs) (suc n) over = ap (λ (l : List Typed). x ∷ l) (take_whole xs n (omega (arith, over)))
+    ap (λ (l : List Name). list_any (is_next l) entries) (round.same quiet) ∙ ap (list_any (is_next start)) (sym (take_all at entries over)) ∙ round.none quiet
 
 pub fewer_twice : (after before more : ℕ) → after + more ≤ before → 2 * after + more < 2 * before + 1
 fewer_twice after before more less = omega (arith, less)
