@@ -1,6 +1,6 @@
 -- Lists of types in a list of variables, a member at a time.
 use Rattle.std.proofs.Common.{◌≡◌, true, false, List, Ok, Err, refl, ap}
-use Rattle.pddl_lexer.specs.Members.{Members, NoMore, WordThen, ListThen, is_empty, is_list, position, inside, rest}
+use Rattle.pddl_lexer.specs.Members.{Members, is_empty, is_list, position, inside, rest}
 use Rattle.pddl_lexer.specs.declared.fault.Fault.{Fault}
 use Rattle.pddl_parser.specs.declared.end.ParseEnd.{ParseEnd}
 use Rattle.pddl_parser.specs.declared.end.ParseEnd.TheVariants as ends
@@ -11,6 +11,7 @@ use Rattle.pddl_parser.specs.Outcome.{Reading, Reads, Faults, made, both, own, O
 use Rattle.pddl_parser.specs.Shapes.{Check, passes, check_either}
 use Rattle.pddl_parser.specs.Values.{eithers}
 use Rattle.pddl_parser.proofs.Readings.{◌>>=◌}
+use Rattle.pddl_parser.proofs.Rows.{none_left, word_then, list_then}
 
 -- a list that passes, and those after it
 passed : (check : Check) (more : Reading (Unit {0})) → check ≡ passes → first (both (λ one others. others) (own check (Reads (tt {0}))) more) ≡ first more
@@ -24,24 +25,16 @@ failed (Err other) fault (Reads others) e = let same : other ≡ fault = cc in a
 failed (Err other) fault (Faults later others) e = let same : other ≡ fault = cc in ap (λ (f : Fault). Err (ends.Fault f)) same
 
 pub of_none : (m : Members) → is_empty m ≡ true → first (eithers m) ≡ Ok (tt {0})
-of_none NoMore none = refl
-of_none (WordThen at bytes more) none = absurd cc
-of_none (ListThen at inner more) none = absurd cc
+of_none m none = rw (none_left m none) refl
 
 pub of_word : (m : Members) → is_empty m ≡ false → is_list m ≡ false → first (eithers m) ≡ first (eithers (rest m))
-of_word NoMore some no_list = absurd cc
-of_word (WordThen at bytes more) some no_list = refl
-of_word (ListThen at inner more) some no_list = absurd cc
+of_word m some no_list = rw (word_then m some no_list) refl
 
 pub of_list : (m : Members) → is_list m ≡ true → check_either (position m) (inside m) ≡ passes → first (eithers m) ≡ first (eithers (rest m))
-of_list NoMore is e = absurd cc
-of_list (WordThen at bytes more) is e = absurd cc
-of_list (ListThen at inner more) is e = passed (check_either at inner) (eithers more) e
+of_list m is e = rw (list_then m is) (passed (check_either (position m) (inside m)) (eithers (rest m)) e)
 
 pub at_fault : (m : Members) (fault : Fault) → is_list m ≡ true → check_either (position m) (inside m) ≡ Err fault → first (eithers m) ≡ Err (ends.Fault fault)
-at_fault NoMore fault is e = absurd cc
-at_fault (WordThen at bytes more) fault is e = absurd cc
-at_fault (ListThen at inner more) fault is e = failed (check_either at inner) fault (eithers more) e
+at_fault m fault is e = rw (list_then m is) (failed (check_either (position m) (inside m)) fault (eithers (rest m)) e)
 
 -- what stands there where no list is at fault
 pub made_of : {A : Type 0} (x : A) (reading : Reading (Unit {0})) → first reading ≡ Ok (tt {0}) → first (made (λ none. x) reading) ≡ Ok x

@@ -11,15 +11,13 @@ use Rattle.pddl_parser.specs.Reading.{is_repeated, keyed_section, section, secti
 use Rattle.pddl_parser.specs.Shapes.{unsupported, repeated, malformed}
 use Rattle.pddl_parser.specs.Words.{Name, begins_with_colon}
 use Rattle.pddl_parser.proofs.Given.{pairs_have, nothing_has, refused_never}
-use Rattle.pddl_parser.proofs.Rows.{after, after_both, after_fails}
+use Rattle.pddl_parser.proofs.Rows.{none_left, word_then, list_then, after, after_both, after_fails}
 
 module _ {S : Type 0} (one : List Name → Members → Reading S) where
   section_first : (earlier : List Name) (m : Members) → is_list m ≡ true →
       sections one earlier m ≡ both (λ x xs. x ∷ xs) (one earlier m) (sections one (earlier ++ word (inside m) ∷ []) (rest m))
   unfolding sections
-  section_first earlier NoMore listed = absurd cc
-  section_first earlier (WordThen at bytes more) listed = absurd cc
-  section_first earlier (ListThen at inner more) listed = refl
+  section_first earlier m listed = rw (list_then m listed) refl
 
   pub turn : (earlier : List Name) (xs : List S) (x : S) (m : Members) → is_list m ≡ true → first (one earlier m) ≡ Ok x →
       after (xs ++ x ∷ []) (sections one (earlier ++ word (inside m) ∷ []) (rest m)) ≡ after xs (sections one earlier m)
@@ -32,15 +30,11 @@ module _ {S : Type 0} (one : List Name → Members → Reading S) where
 
   pub past_word : (earlier : List Name) (xs : List S) (m : Members) → is_empty m ≡ false → is_list m ≡ false → after xs (sections one earlier (rest m)) ≡ after xs (sections one earlier m)
   unfolding sections
-  past_word earlier xs NoMore some plain = absurd cc
-  past_word earlier xs (WordThen at bytes more) some plain = refl
-  past_word earlier xs (ListThen at inner more) some plain = absurd cc
+  past_word earlier xs m some plain = rw (word_then m some plain) refl
 
   pub ended : (earlier : List Name) (xs : List S) (m : Members) → is_empty m ≡ true → after xs (sections one earlier m) ≡ Ok xs
   unfolding sections
-  ended earlier xs NoMore none = ap (λ (ys : List S). Ok ys) (append-nil xs)
-  ended earlier xs (WordThen at bytes more) none = absurd cc
-  ended earlier xs (ListThen at inner more) none = absurd cc
+  ended earlier xs m none = rw (none_left m none) (ap (λ (ys : List S). Ok ys) (append-nil xs))
 
 -- ---- what each section that is read has
 
