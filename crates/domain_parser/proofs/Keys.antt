@@ -11,7 +11,7 @@ use Rattle.pddl_parser.specs.Outcome.{both, first}
 use Rattle.pddl_parser.specs.Shapes.{passes, next, malformed}
 use Rattle.pddl_parser.specs.Values.{head}
 use Rattle.pddl_parser.specs.Words.{Name, is_dash}
-use Rattle.pddl_parser.proofs.Rows.{after, after_both, after_fails}
+use Rattle.pddl_parser.proofs.Rows.{none_left, word_then, list_then, after, after_both, after_fails}
 use Rattle.domain_parser.specs.Reading.{check_number_type, check_functions, check_after_dash, heads, ActionKey, ActionPart, key_here, check_key_value, check_keys, check_keyed, action_key, part, action_parts}
 
 -- ---- functions
@@ -19,15 +19,11 @@ use Rattle.domain_parser.specs.Reading.{check_number_type, check_functions, chec
 module _ (at : At) where
   pub functions_none : (behind : Bool) (m : Members) → is_empty m ≡ true → check_functions at behind m ≡ passes
   unfolding check_functions
-  functions_none behind NoMore none = refl
-  functions_none behind (WordThen here bytes more) none = absurd cc
-  functions_none behind (ListThen here inner more) none = absurd cc
+  functions_none behind m none = rw (none_left m none) refl
 
   pub functions_list : (behind : Bool) (m : Members) → is_list m ≡ true → check_functions at behind m ≡ check_functions at true (rest m)
   unfolding check_functions
-  functions_list behind NoMore listed = absurd cc
-  functions_list behind (WordThen here bytes more) listed = absurd cc
-  functions_list behind (ListThen here inner more) listed = refl
+  functions_list behind m listed = rw (list_then m listed) refl
 
   dash_first : (m : Members) → check_after_dash at m ≡ next (check_number_type at m) (check_functions at false (rest m))
   unfolding check_after_dash
@@ -45,15 +41,11 @@ module _ (at : At) where
   pub functions_word : (behind : Bool) (m : Members) → is_empty m ≡ false → is_list m ≡ false → (behind && is_dash (word m)) ≡ false →
       check_functions at behind m ≡ Err (malformed places.Head (position m))
   unfolding check_functions
-  functions_word behind NoMore some plain other = absurd cc
-  functions_word behind (WordThen here bytes more) some plain other = rw other refl
-  functions_word behind (ListThen here inner more) some plain other = absurd cc
+  functions_word behind m some plain other = rw (word_then m some plain, other) refl
 
 list_first : (m : Members) → is_list m ≡ true → heads m ≡ both (λ x xs. x ∷ xs) (head m) (heads (rest m))
 unfolding heads
-list_first NoMore listed = absurd cc
-list_first (WordThen at bytes more) listed = absurd cc
-list_first (ListThen at inner more) listed = refl
+list_first m listed = rw (list_then m listed) refl
 
 pub heads_turn : (xs : List Head) (x : Head) (m : Members) → is_list m ≡ true → first (head m) ≡ Ok x → after (xs ++ x ∷ []) (heads (rest m)) ≡ after xs (heads m)
 heads_turn xs x m listed read = after_both xs x (head m) (heads (rest m)) read ∙ ap (after xs) (sym (list_first m listed))
@@ -63,23 +55,17 @@ heads_fails xs e m listed read = ap (after xs) (list_first m listed) ∙ after_f
 
 pub heads_word : (xs : List Head) (m : Members) → is_empty m ≡ false → is_list m ≡ false → after xs (heads (rest m)) ≡ after xs (heads m)
 unfolding heads
-heads_word xs NoMore some plain = absurd cc
-heads_word xs (WordThen at bytes more) some plain = refl
-heads_word xs (ListThen at inner more) some plain = absurd cc
+heads_word xs m some plain = rw (word_then m some plain) refl
 
 pub heads_ended : (xs : List Head) (m : Members) → is_empty m ≡ true → after xs (heads m) ≡ Ok xs
 unfolding heads
-heads_ended xs NoMore none = ap (λ (ys : List Head). Ok ys) (append-nil xs)
-heads_ended xs (WordThen at bytes more) none = absurd cc
-heads_ended xs (ListThen at inner more) none = absurd cc
+heads_ended xs m none = rw (none_left m none) (ap (λ (ys : List Head). Ok ys) (append-nil xs))
 
 -- ---- actions
 
 pub keys_none : (earlier : List Name) (m : Members) → is_empty m ≡ true → check_keys earlier m ≡ passes
 unfolding check_keys
-keys_none earlier NoMore none = refl
-keys_none earlier (WordThen at bytes more) none = absurd cc
-keys_none earlier (ListThen at inner more) none = absurd cc
+keys_none earlier m none = rw (none_left m none) refl
 
 keys_first : (earlier : List Name) (m : Members) → is_empty m ≡ false → check_keys earlier m ≡ check_keyed (earlier ++ word m ∷ []) (key_here earlier m) (position m) (rest m)
 unfolding check_keys
@@ -122,9 +108,7 @@ value_passes earlier key m some here right =
 
 word_first : (m : Members) → is_empty m ≡ false → is_list m ≡ false → action_parts m ≡ both (λ x xs. x ∷ xs) (part (action_key (word m)) (rest m)) (action_parts (rest m))
 unfolding action_parts
-word_first NoMore some plain = absurd cc
-word_first (WordThen at bytes more) some plain = refl
-word_first (ListThen at inner more) some plain = absurd cc
+word_first m some plain = rw (word_then m some plain) refl
 
 pub parts_turn : (xs : List ActionPart) (x : ActionPart) (m : Members) → is_empty m ≡ false → is_list m ≡ false →
     first (part (action_key (word m)) (rest m)) ≡ Ok x → after (xs ++ x ∷ []) (action_parts (rest m)) ≡ after xs (action_parts m)
@@ -137,12 +121,8 @@ parts_fails xs e m some plain read = ap (after xs) (word_first m some plain) ∙
 
 pub parts_list : (xs : List ActionPart) (m : Members) → is_list m ≡ true → after xs (action_parts (rest m)) ≡ after xs (action_parts m)
 unfolding action_parts
-parts_list xs NoMore listed = absurd cc
-parts_list xs (WordThen at bytes more) listed = absurd cc
-parts_list xs (ListThen at inner more) listed = refl
+parts_list xs m listed = rw (list_then m listed) refl
 
 pub parts_ended : (xs : List ActionPart) (m : Members) → is_empty m ≡ true → after xs (action_parts m) ≡ Ok xs
 unfolding action_parts
-parts_ended xs NoMore none = ap (λ (ys : List ActionPart). Ok ys) (append-nil xs)
-parts_ended xs (WordThen at bytes more) none = absurd cc
-parts_ended xs (ListThen at inner more) none = absurd cc
+parts_ended xs m none = rw (none_left m none) (ap (λ (ys : List ActionPart). Ok ys) (append-nil xs))

@@ -17,8 +17,7 @@ use Rattle.pddl_parser.specs.Outcome.{Outcome, Reads, made, every, first, Gives}
 use Rattle.pddl_parser.specs.Shapes.{unsupported, check_all}
 use Rattle.pddl_parser.specs.Spelled.{IsSpelled, IsSpelledType, HasSmallCosts, IsWellSpelled}
 use Rattle.pddl_parser.specs.Values.{names, head, variables}
-use Rattle.pddl_parser.specs.Words.{Name}
-use Rattle.pddl_parser.proofs.Given.{own_reads, made_reads, both_reads, refused_never, pairs_have, nothing_has, every_has, first_passes, unless_empty, given_has}
+use Rattle.pddl_parser.proofs.Given.{own_reads, made_reads, both_reads, refused_never, pairs_have, nothing_has, every_has, fold_has, first_passes, unless_empty, given_has}
 use Rattle.pddl_parser.proofs.Numbers.{HasSmall, nothing_small, effect_small}
 use Rattle.pddl_parser.proofs.Sections.{section_has, sections_have}
 use Rattle.pddl_parser.proofs.Spelling.{named_spelled, name_passes, names_spelled, without_types, head_spelled}
@@ -117,10 +116,6 @@ section_of_spelled keys.Action at m s e =
     subst IsSpelledSection read.1.1 (action_spelled at m read.0 read.1.0)
 section_of_spelled keys.Derived at m s e = let read = made_reads domain.Derived (derived at m) s e in subst IsSpelledSection read.1.1 tt
 
-domain_section_spelled : (earlier : List Name) (m : Members) (s : DomainSection) → domain_section earlier m ≡ Reads s → IsSpelledSection s
-unfolding domain_section
-domain_section_spelled earlier m s e = section_has domain_key domain_section_of IsSpelledSection section_of_spelled earlier m s e
-
 -- ---- domains
 
 one_more : {A : Type 0} (P : A → Type 0) (xs : List A) (x : A) → All P xs → P x → All P (xs ++ x ∷ [])
@@ -143,11 +138,6 @@ with_section_spelled so_far (domain.Action action) well here =
     }
 with_section_spelled so_far (domain.Derived derived) well here = record { types = well.types; constants = well.constants; predicates = well.predicates; functions = well.functions; actions = well.actions; costs = well.costs }
 
-all_sections_spelled : (domain : Domain) (ss : List DomainSection) → IsWellSpelled domain → All IsSpelledSection ss → IsWellSpelled (fold with_domain_section domain ss)
-all_sections_spelled domain [] well all = well
-all_sections_spelled domain (s ∷ ss) well all =
-    all_sections_spelled (with_domain_section domain s) ss (with_section_spelled domain s well (All-head IsSpelledSection s ss all)) (All-tail IsSpelledSection s ss all)
-
 no_domain_spelled : IsWellSpelled no_domain
 no_domain_spelled = record {
   types = All-nil IsSpelledType;
@@ -160,12 +150,13 @@ no_domain_spelled = record {
 
 -- a domain that is read is well spelled
 pub domain_spelled : (m : Members) (domain : Domain) → domain_reading m ≡ Reads domain → IsWellSpelled domain
-unfolding domain_reading
+unfolding domain_reading domain_section
 domain_spelled m domain e =
     let read = own_reads (check_file (position m) (inside m)) _ domain e in
     let parts = both_reads _ (title (codes "domain") (rest (inside m))) (sections domain_section [] (rest (rest (inside m)))) domain read.1 in
-    let spelled = sections_have IsSpelledSection domain_section domain_section_spelled [] (rest (rest (inside m))) parts.1.0 parts.1.1.1.0 in
-    subst IsWellSpelled parts.1.1.1.1 (all_sections_spelled no_domain parts.1.0 no_domain_spelled spelled)
+    let each = section_has domain_key domain_section_of IsSpelledSection section_of_spelled in
+    let spelled = sections_have IsSpelledSection domain_section each [] (rest (rest (inside m))) parts.1.0 parts.1.1.1.0 in
+    subst IsWellSpelled parts.1.1.1.1 (fold_has IsWellSpelled IsSpelledSection with_domain_section with_section_spelled no_domain parts.1.0 no_domain_spelled spelled)
 
 -- the same of a function that gives the reading
 pub given_domain : (given : Outcome Domain) (m : Members) → Gives given (first (domain_reading m)) → IfOk given IsWellSpelled
