@@ -117,5 +117,5 @@ module _ {A : Type 0} where
     values_more old new value at none grown before known = record {
       values = λ term. ap (lookup (is_key_of term)) (grown ∙ insert_entry-new is_equal old key value none) ∙ noted key (ground [] atom) is old.entries value term
           ∙ ap (λ (o : Option ℕ). option_or o (if is_same_atom (ground [] atom) term then Some value else None)) (known.values term)
-          ∙ sym (value_then before (Value atom value at) term);
+          ∙ sym (value_then before (Value atom value at ∷ []) term);
     }

@@ -28,13 +28,12 @@ pub first_or : (found : Bool) (value : ℕ) (joined before last : Option ℕ) �
 first_or true value joined before last e = refl
 first_or false value joined before last e = e
 
-pub value_then : (before : List Init) (entry : Init) (term : GroundAtom) →
-    value_in (before ++ entry ∷ []) term ≡ option_or (value_in before term) (value_in (entry ∷ []) term)
-value_then [] entry term = refl
-value_then (Holds atom ∷ before) entry term = value_then before entry term
-value_then (HoldsNot atom at ∷ before) entry term = value_then before entry term
-value_then (Value known value at ∷ before) entry term =
-    first_or (is_same_atom (ground [] known) term) value (value_in (before ++ entry ∷ []) term) (value_in before term) (value_in (entry ∷ []) term) (value_then before entry term)
+pub value_then : (before later : List Init) (term : GroundAtom) → value_in (before ++ later) term ≡ option_or (value_in before term) (value_in later term)
+value_then [] later term = refl
+value_then (Holds atom ∷ before) later term = value_then before later term
+value_then (HoldsNot atom at ∷ before) later term = value_then before later term
+value_then (Value known value at ∷ before) later term =
+    first_or (is_same_atom (ground [] known) term) value (value_in (before ++ later) term) (value_in before term) (value_in later term) (value_then before later term)
 
 or_none : (o : Option ℕ) → option_or o None ≡ o
 or_none None = refl
@@ -42,12 +41,12 @@ or_none (Some value) = refl
 
 -- an entry that gives no value leaves the values
 pub value_as_before : (before : List Init) (entry : Init) (term : GroundAtom) → value_in (entry ∷ []) term ≡ None → value_in (before ++ entry ∷ []) term ≡ value_in before term
-value_as_before before entry term none = value_then before entry term ∙ ap (option_or (value_in before term)) none ∙ or_none (value_in before term)
+value_as_before before entry term none = value_then before (entry ∷ []) term ∙ ap (option_or (value_in before term)) none ∙ or_none (value_in before term)
 
 -- and so does one whose term has a value before
 pub value_kept : (before : List Init) (atom : Atom) (value : ℕ) (at : At) (known : ℕ) → value_in before (ground [] atom) ≡ Some known →
     (term : GroundAtom) → value_in (before ++ Value atom value at ∷ []) term ≡ value_in before term
-value_kept before atom value at known had term = value_then before (Value atom value at) term ∙ by (is_same_atom (ground [] atom) term) refl
+value_kept before atom value at known had term = value_then before (Value atom value at ∷ []) term ∙ by (is_same_atom (ground [] atom) term) refl
   where
     by : (same : Bool) → is_same_atom (ground [] atom) term ≡ same →
         option_or (value_in before term) (if is_same_atom (ground [] atom) term then Some value else None) ≡ value_in before term

@@ -1,10 +1,10 @@
--- The first of the positions of several lists, and names that stand a second time.
+-- The first of the positions of several lists, names that stand a second time, and the values of `:init`.
 pub mod Earliest
 pub mod Joined
 pub mod FirstPositions
 pub mod RepeatedNames
+pub mod InitialEntries
 -- Lemmas of this crate.
-mod InitialEntries
 mod AtomKeys
 mod HeadTables
 mod MentionPositions

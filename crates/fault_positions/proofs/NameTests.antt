@@ -1,19 +1,15 @@
 -- A set of names, with the name of one item more.
-use Rattle.std.proofs.Common.{◌≡◌, ℕ, ◌+◌, ◌<◌, Bool, true, false, ◌||◌, List, [], ◌∷◌, ◌++◌, length, take, get_or, refl, sym, ap, ◌∙◌}
+use Rattle.std.proofs.Common.{◌≡◌, ℕ, ◌+◌, ◌<◌, Bool, false, ◌||◌, List, [], ◌∷◌, ◌++◌, length, take, get_or, sym, ap, ◌∙◌}
 use Rattle.std.specs.List.{list_any}
 use Rattle.std.proofs.lemmas.Cmp.{nat_list_eq_equiv}
 use Rattle.std.proofs.lemmas.List.{take_more}
 use Rattle.std.proofs.lemmas.List.Folds.{list_any-append}
+use Rattle.std.proofs.Math.Bool.{or_assoc, or_comm, or-false}
 use Rattle.pddl_parser.specs.Words.{Name, is_same}
 use Rattle.fault_positions.specs.Arguments.{AreThose}
 
 or_last : (a b c : Bool) → (a || (b || c)) ≡ (b || (c || (a || false)))
-or_last true true c = refl
-or_last true false true = refl
-or_last true false false = refl
-or_last false true c = refl
-or_last false false true = refl
-or_last false false false = refl
+or_last a b c = or_comm a (b || c) ∙ or_assoc b c a ∙ ap (λ x. b || (c || x)) (sym (or-false a))
 
 module _ {X : Type 0} (name_of : X → Name) (start : Name → Bool) where
   -- the name is one of those at the start, or that of an item
