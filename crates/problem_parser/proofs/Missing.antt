@@ -6,31 +6,24 @@ use Rattle.pddl_lexer.specs.declared.fault.Fault.{Fault}
 use Rattle.pddl_parser.specs.Outcome.{Reading, Reads, Faults, own, with_last, first}
 use Rattle.pddl_parser.specs.Words.{is_word}
 use Rattle.pddl_parser.proofs.Readings.{◌>>=◌}
+use Rattle.pddl_parser.proofs.Rows.{none_left, word_then, list_then}
 use Rattle.problem_parser.specs.Reading.{has_list, has_section, check_list}
 
 pub list_none : (m : Members) → is_empty m ≡ true → has_list m ≡ false
 unfolding has_list
-list_none NoMore none = refl
-list_none (WordThen at bytes more) none = absurd cc
-list_none (ListThen at inner more) none = absurd cc
+list_none m none = rw (none_left m none) refl
 
 pub list_here : (m : Members) → is_list m ≡ true → has_list m ≡ true
 unfolding has_list
-list_here NoMore listed = absurd cc
-list_here (WordThen at bytes more) listed = absurd cc
-list_here (ListThen at inner more) listed = refl
+list_here m listed = rw (list_then m listed) refl
 
 pub list_after : (m : Members) → is_empty m ≡ false → is_list m ≡ false → has_list m ≡ has_list (rest m)
 unfolding has_list
-list_after NoMore some plain = absurd cc
-list_after (WordThen at bytes more) some plain = refl
-list_after (ListThen at inner more) some plain = absurd cc
+list_after m some plain = rw (word_then m some plain) refl
 
 pub has_none : (keyword : List ℕ) (m : Members) → is_empty m ≡ true → has_section keyword m ≡ false
 unfolding has_section
-has_none keyword NoMore none = refl
-has_none keyword (WordThen at bytes more) none = absurd cc
-has_none keyword (ListThen at inner more) none = absurd cc
+has_none keyword m none = rw (none_left m none) refl
 
 pub has_first : (keyword : List ℕ) (m : Members) → is_empty m ≡ false → has_section keyword m ≡ ((is_list m && is_word keyword (inside m)) || has_section keyword (rest m))
 unfolding has_section

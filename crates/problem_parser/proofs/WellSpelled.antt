@@ -1,8 +1,7 @@
 -- A problem that is read is well spelled.
 use Rattle.std.proofs.Common.{◌≡◌, Bool, true, false, ◌&&◌, List, [], ◌∷◌, subst}
 use Rattle.std.specs.Prelude.{All, IfOk, codes, if◌then◌else◌}
-use Rattle.std.specs.List.{fold}
-use Rattle.std.proofs.lemmas.List.Elements.{All-nil, All-head, All-tail}
+use Rattle.std.proofs.lemmas.List.Elements.{All-nil}
 use Rattle.pddl_lexer.specs.declared.position.At.{At}
 use Rattle.pddl_lexer.specs.Members.{Members, position, inside, rest}
 use Rattle.pddl_lexer.specs.declared.fault.ShapePlace.TheVariants as places
@@ -17,7 +16,7 @@ use Rattle.pddl_parser.specs.Shapes.{unsupported, check_all, check_exact}
 use Rattle.pddl_parser.specs.Spelled.{IsSpelled, HasSmallValue, IsWellSpelledProblem}
 use Rattle.pddl_parser.specs.Values.{number, names}
 use Rattle.pddl_parser.specs.Words.{Name, is_word}
-use Rattle.pddl_parser.proofs.Given.{own_reads, made_reads, both_reads, with_last_reads, refused_never, every_has, given_has}
+use Rattle.pddl_parser.proofs.Given.{own_reads, made_reads, both_reads, with_last_reads, refused_never, every_has, fold_has, given_has}
 use Rattle.pddl_parser.proofs.Numbers.{number_small}
 use Rattle.pddl_parser.proofs.Sections.{section_has, sections_have}
 use Rattle.pddl_parser.proofs.Spelling.{names_spelled, without_types}
@@ -57,12 +56,9 @@ init_small m entry e =
 -- ---- problems
 
 abbrev IsSpelledProblemSection : ProblemSection → Type 0
-IsSpelledProblemSection problem.Requirements = Unit {0}
-IsSpelledProblemSection problem.Domain = Unit {0}
 IsSpelledProblemSection (problem.Objects objects) = All (λ object. IsSpelled object.name) objects
 IsSpelledProblemSection (problem.Init init) = All HasSmallValue init
-IsSpelledProblemSection (problem.Goal goal) = Unit {0}
-IsSpelledProblemSection problem.Metric = Unit {0}
+IsSpelledProblemSection other = Unit {0}
 
 problem_section_of_spelled : (key : ProblemKey) (at : At) (m : Members) (s : ProblemSection) → problem_section_of key at m ≡ Reads s → IsSpelledProblemSection s
 unfolding problem_section_of
@@ -91,10 +87,6 @@ problem_section_of_spelled problem_keys.Metric at m s e = by (is_total_cost m) e
     by true found = let same : problem.Metric ≡ s = cc (found) in subst IsSpelledProblemSection same tt
     by false found = absurd (refused_never (unsupported at) s found)
 
-problem_section_spelled : (earlier : List Name) (m : Members) (s : ProblemSection) → problem_section earlier m ≡ Reads s → IsSpelledProblemSection s
-unfolding problem_section
-problem_section_spelled earlier m s e = section_has problem_key problem_section_of IsSpelledProblemSection problem_section_of_spelled earlier m s e
-
 with_problem_section_spelled : (so_far : Problem) (s : ProblemSection) → IsWellSpelledProblem so_far → IsSpelledProblemSection s → IsWellSpelledProblem (with_problem_section so_far s)
 with_problem_section_spelled so_far problem.Requirements well here = well
 with_problem_section_spelled so_far problem.Domain well here = well
@@ -103,24 +95,19 @@ with_problem_section_spelled so_far (problem.Init init) well here = record { obj
 with_problem_section_spelled so_far (problem.Goal goal) well here = record { objects = well.objects; values = well.values }
 with_problem_section_spelled so_far problem.Metric well here = record { objects = well.objects; values = well.values }
 
-all_problem_sections_spelled : (so_far : Problem) (ss : List ProblemSection) → IsWellSpelledProblem so_far → All IsSpelledProblemSection ss → IsWellSpelledProblem (fold with_problem_section so_far ss)
-all_problem_sections_spelled so_far [] well all = well
-all_problem_sections_spelled so_far (s ∷ ss) well all =
-    all_problem_sections_spelled (with_problem_section so_far s) ss
-    (with_problem_section_spelled so_far s well (All-head IsSpelledProblemSection s ss all)) (All-tail IsSpelledProblemSection s ss all)
-
 no_problem_spelled : (at : At) → IsWellSpelledProblem (no_problem at)
 no_problem_spelled at = record { objects = All-nil (λ (o : Typed). IsSpelled o.name); values = All-nil HasSmallValue }
 
 -- a problem that is read is well spelled
 pub problem_spelled : (m : Members) (given : Problem) → problem_reading m ≡ Reads given → IsWellSpelledProblem given
-unfolding problem_reading
+unfolding problem_reading problem_section
 problem_spelled m given e =
     let read = own_reads (check_file (position m) (inside m)) _ given e in
     let complete = with_last_reads (missing_sections (position m) (rest (rest (inside m)))) _ given read.1 in
     let parts = both_reads _ (title (codes "problem") (rest (inside m))) (sections problem_section [] (rest (rest (inside m)))) given complete in
-    let spelled = sections_have IsSpelledProblemSection problem_section problem_section_spelled [] (rest (rest (inside m))) parts.1.0 parts.1.1.1.0 in
-    subst IsWellSpelledProblem parts.1.1.1.1 (all_problem_sections_spelled (no_problem (position m)) parts.1.0 (no_problem_spelled (position m)) spelled)
+    let each = section_has problem_key problem_section_of IsSpelledProblemSection problem_section_of_spelled in
+    let spelled = sections_have IsSpelledProblemSection problem_section each [] (rest (rest (inside m))) parts.1.0 parts.1.1.1.0 in
+    subst IsWellSpelledProblem parts.1.1.1.1 (fold_has IsWellSpelledProblem IsSpelledProblemSection with_problem_section with_problem_section_spelled (no_problem (position m)) parts.1.0 (no_problem_spelled (position m)) spelled)
 
 -- the same of a function that gives the reading
 pub given_problem : (given : Outcome Problem) (m : Members) → Gives given (first (problem_reading m)) → IfOk given IsWellSpelledProblem
