@@ -1,10 +1,10 @@
 -- In a pair without check faults `:init` denies nothing that it states, and gives each term one value.
-use Rattle.std.proofs.Common.{◌≡◌, ℕ, Bool, true, false, not, List, [], ◌∷◌, ◌++◌, Option, None, Some, nat_eq, inl, inr, refl, ap, ◌∙◌, subst, append_assoc}
+use Rattle.std.proofs.Common.{◌≡◌, ℕ, true, not, List, [], ◌∷◌, ◌++◌, Option, None, Some, nat_eq, inl, inr, refl, ap, ◌∙◌, subst, append_assoc}
 use Rattle.std.specs.Prelude.{if◌then◌else◌}
 use Rattle.std.specs.Cmp.Lexicographic.{pointwise}
 use Rattle.std.specs.List.{list_any, list_all}
 use Rattle.std.specs.Option.{option_or}
-use Rattle.std.proofs.lemmas.Bool.{and_from}
+use Rattle.std.proofs.lemmas.Bool.{and_from, not-false, not_from_false}
 use Rattle.std.proofs.lemmas.Cmp.{nat_eq_equiv, nat_list_eq_equiv, lists_equiv}
 use Rattle.pddl_parser.specs.declared.types.Domain.{Domain}
 use Rattle.pddl_parser.specs.declared.types.Init.{Init}
@@ -16,30 +16,17 @@ use Rattle.pddl_parser.specs.Plan.{is_stated}
 use Rattle.pddl_parser.specs.Step.{value_in}
 use Rattle.lists.proofs.Items.{each_passes}
 use Rattle.fault_positions.specs.Initial.{denied_position, is_another, revalued_position, revalued_after}
+use Rattle.fault_positions.proofs.InitialEntries.{value_then}
 use Rattle.type_checker.specs.Faultless.{denies_none, is_value, gives_the_value}
 use Rattle.type_checker.specs.Faults.{check_faults}
-use Rattle.type_checker.proofs.NoFaults.{left_empty, right_empty, piece_empty, row_empty}
+use Rattle.type_checker.proofs.NoFaults.{left_empty, right_empty, piece_empty, row_empty, if_there}
 
 denies : (init : List Init) (entry : Init) → denied_position init entry ≡ [] → denies_none init entry ≡ true
 denies init (Holds atom) none = refl
-denies init (HoldsNot atom at) none = by (list_any (is_stated (ground [] atom)) init) none
-  where
-    by : (stated : Bool) → (if stated then at ∷ [] else []) ≡ [] → not stated ≡ true
-    by true none = absurd cc
-    by false none = refl
+denies init (HoldsNot atom at) none =
+    let stated = list_any (is_stated (ground [] atom)) init in
+    not_from_false stated (if_there stated at none)
 denies init (Value term value at) none = refl
-
--- the first value of a term in two lists that are joined
-value_in_both : (before later : List Init) (term : GroundAtom) → value_in (before ++ later) term ≡ option_or (value_in before term) (value_in later term)
-value_in_both [] later term = refl
-value_in_both (Holds atom ∷ before) later term = value_in_both before later term
-value_in_both (HoldsNot atom at ∷ before) later term = value_in_both before later term
-value_in_both (Value known value at ∷ before) later term = by (is_same_atom (ground [] known) term) (value_in_both before later term)
-  where
-    by : (same : Bool) → value_in (before ++ later) term ≡ option_or (value_in before term) (value_in later term) →
-        (if same then Some value else value_in (before ++ later) term) ≡ option_or (if same then Some value else value_in before term) (value_in later term)
-    by true rest = refl
-    by false rest = rest
 
 same_itself : (atom : GroundAtom) → is_same_atom atom atom ≡ true
 same_itself atom =
@@ -49,16 +36,12 @@ gives : (before : List Init) (entry : Init) (more : List Init) → revalued_posi
 gives before (Holds atom) more none = refl
 gives before (HoldsNot atom at) more none = refl
 gives before (Value term value at) more none =
-    ap (λ (known : Option ℕ). is_value known value) (value_in_both before (Value term value at ∷ more) (ground [] term)) ∙ by (value_in before (ground [] term)) none
+    ap (λ (known : Option ℕ). is_value known value) (value_then before (Value term value at ∷ more) (ground [] term)) ∙ by (value_in before (ground [] term)) none
   where
-    agrees : (same : Bool) → (if not same then at ∷ [] else []) ≡ [] → same ≡ true
-    agrees true none = refl
-    agrees false none = absurd cc
-
     by : (known : Option ℕ) → (if is_another known value then at ∷ [] else []) ≡ [] →
         is_value (option_or known (if is_same_atom (ground [] term) (ground [] term) then Some value else value_in more (ground [] term))) value ≡ true
     by None none = ap (λ b. is_value (if b then Some value else value_in more (ground [] term)) value) (same_itself (ground [] term)) ∙ nat_eq_equiv.refl value
-    by (Some known) none = agrees (nat_eq known value) none
+    by (Some known) none = not-false (nat_eq known value) (if_there (not (nat_eq known value)) at none)
 
 all_give : (before entries : List Init) → revalued_after before entries ≡ [] → list_all (gives_the_value (before ++ entries)) entries ≡ true
 all_give before [] none = refl

@@ -1,8 +1,7 @@
 -- In a pair without check faults what is mentioned is declared, with as many arguments, and names objects.
-use Rattle.std.proofs.Common.{◌≡◌, Bool, true, false, not, ◌&&◌, ◌||◌, List, [], ◌∷◌, ◌++◌, map, length, nat_eq, inl, inr, ◌⊎◌, refl, ap, ◌∙◌}
-use Rattle.std.specs.Prelude.{if◌then◌else◌}
+use Rattle.std.proofs.Common.{◌≡◌, Bool, true, not, ◌&&◌, List, [], map, length, nat_eq, inl, inr, refl, sym, ◌∙◌}
 use Rattle.std.specs.List.{list_all, list_any, filter, flat_map}
-use Rattle.std.proofs.lemmas.Bool.{and_parts, and_from, or_cases, or_left, or_right}
+use Rattle.std.proofs.lemmas.Bool.{and_parts}
 use Rattle.std.proofs.lemmas.Cmp.{nat_list_eq_equiv}
 use Rattle.pddl_lexer.specs.declared.position.At.{At}
 use Rattle.pddl_parser.specs.declared.types.Domain.{Domain}
@@ -16,8 +15,8 @@ use Rattle.fault_positions.specs.Mentions.{Mention, Use, predicate_uses, functio
 use Rattle.fault_positions.specs.Names.{has_arity, is_declared, is_well_used, use_positions, total_cost_heads, wrong_uses, unknown_object, unknown_objects}
 use Rattle.type_checker.specs.Faultless.{mentions, has_predicate, has_function, is_known, has_objects}
 use Rattle.type_checker.specs.Faults.{check_faults}
-use Rattle.lists.proofs.Items.{all_both}
-use Rattle.type_checker.proofs.NoFaults.{left_empty, right_empty, row_empty, all_pass, all_pieces}
+use Rattle.lists.proofs.Items.{all_both, any_map, any_passes, each_passes, passing, piece_empty, same_any}
+use Rattle.type_checker.proofs.NoFaults.{left_empty, right_empty, row_empty, unless_there, all_pass, all_pieces}
 
 -- ---- predicates and functions
 
@@ -41,14 +40,11 @@ module _ (domain : Domain) where
 
 module _ (domain : Domain) (problem : Problem) where
   terms_pass : (terms : List Term) → flat_map (unknown_object domain problem) terms ≡ [] → list_all (is_known domain problem) terms ≡ true
-  terms_pass [] none = refl
-  terms_pass (Variable variable ∷ terms) none = terms_pass terms none
-  terms_pass (Object object ∷ terms) none = by (is_known domain problem (Object object)) refl none (terms_pass terms)
+  terms_pass terms none = each_passes (is_known domain problem) terms (λ term among. known term (piece_empty (unknown_object domain problem) terms none term among))
     where
-      by : (known : Bool) → is_known domain problem (Object object) ≡ known → (if known then [] else object.at ∷ []) ++ flat_map (unknown_object domain problem) terms ≡ [] →
-          (flat_map (unknown_object domain problem) terms ≡ [] → list_all (is_known domain problem) terms ≡ true) → (is_known domain problem (Object object) && list_all (is_known domain problem) terms) ≡ true
-      by true here none rest = and_from (is_known domain problem (Object object)) (list_all (is_known domain problem) terms) here (rest none)
-      by false here none rest = absurd cc
+      known : (term : Term) → unknown_object domain problem term ≡ [] → is_known domain problem term ≡ true
+      known (Variable variable) none = refl
+      known (Object object) none = unless_there (is_known domain problem (Object object)) object.at none
 
   objects_pass : (list : List Mention) → unknown_objects domain problem list ≡ [] → list_all (has_objects domain problem) list ≡ true
   objects_pass list none = all_pieces (is_known domain problem) arguments list (terms_pass (flat_map arguments list) none)
@@ -76,22 +72,19 @@ module _ (domain : Domain) (problem : Problem) where
 
 -- what is declared with so many arguments is declared
 pub declared_with_arity : (heads : List Head) (usage : Use) → has_arity heads usage ≡ true → is_declared heads usage.name.name ≡ true
-declared_with_arity [] usage some = some
-declared_with_arity (head ∷ heads) usage some =
-    by (or_cases (is_same head.name.name usage.name.name && nat_eq (length head.variables) usage.arity) (has_arity heads usage) some) (declared_with_arity heads usage)
-  where
-    by : ((is_same head.name.name usage.name.name && nat_eq (length head.variables) usage.arity) ≡ true) ⊎ (has_arity heads usage ≡ true) → (has_arity heads usage ≡ true → is_declared heads usage.name.name ≡ true) → (is_same head.name.name usage.name.name || is_declared heads usage.name.name) ≡ true
-    by (inl here) rest = or_left (is_same head.name.name usage.name.name) (is_declared heads usage.name.name) (and_parts (is_same head.name.name usage.name.name) (nat_eq (length head.variables) usage.arity) here).0
-    by (inr there) rest = or_right (is_same head.name.name usage.name.name) (is_declared heads usage.name.name) (rest there)
+declared_with_arity heads usage some =
+    let is_named = λ (head : Head). is_same head.name.name usage.name.name in
+    let has_as_many = λ (head : Head). nat_eq (length head.variables) usage.arity in
+    let found = passing (λ head. is_named head && has_as_many head) heads some in
+    any_passes is_named found.item heads found.among (and_parts (is_named found.item) (has_as_many found.item) found.passes).0
 
--- one of the heads has the name
+-- one of them has the name
+among_names : {X : Type 0} (name_of : X → Name) (xs : List X) (name : Name) → list_any (λ x. is_same (name_of x) name) xs ≡ list_any (is_same name) (map name_of xs)
+among_names name_of xs name =
+    same_any (λ x. is_same (name_of x) name) (λ x. is_same name (name_of x)) xs (λ x among. nat_list_eq_equiv.symm (name_of x) name) ∙ sym (any_map (is_same name) name_of xs)
+
 pub declared_among : (heads : List Head) (name : Name) → is_declared heads name ≡ list_any (is_same name) (map (λ head. head.name.name) heads)
-declared_among [] name = refl
-declared_among (head ∷ heads) name =
-    ap (λ b. b || is_declared heads name) (nat_list_eq_equiv.symm head.name.name name) ∙ ap (λ b. is_same name head.name.name || b) (declared_among heads name)
+declared_among = among_names (λ (head : Head). head.name.name)
 
--- one of the objects has the name
 pub object_among : (list : List Typed) (name : Name) → list_any (λ known. is_same known.name.name name) list ≡ list_any (is_same name) (map (λ object. object.name.name) list)
-object_among [] name = refl
-object_among (object ∷ list) name =
-    ap (λ b. b || list_any (λ (known : Typed). is_same known.name.name name) list) (nat_list_eq_equiv.symm object.name.name name) ∙ ap (λ b. is_same name object.name.name || b) (object_among list name)
+object_among = among_names (λ (object : Typed). object.name.name)

@@ -1,9 +1,11 @@
 -- In a pair without check faults no name is declared twice.
-use Rattle.std.proofs.Common.{◌≡◌, Bool, true, false, ◌||◌, List, [], ◌∷◌, ◌++◌, map, inl, inr, refl, sym, ap, ◌∙◌, subst}
+use Rattle.std.proofs.Common.{◌≡◌, false, List, [], ◌∷◌, ◌++◌, map, inl, inr, refl, sym, ◌∙◌, subst}
 use Rattle.std.specs.Prelude.{if◌then◌else◌}
 use Rattle.std.specs.List.{AllByRecursion, IsDistinct, list_any}
 use Rattle.std.proofs.lemmas.Cmp.{nat_list_eq_equiv}
+use Rattle.std.proofs.lemmas.Bool.{false_from_ne_true, true≢false}
 use Rattle.std.proofs.lemmas.List.{map-append}
+use Rattle.std.proofs.lemmas.Simd.{map-map}
 use Rattle.pddl_lexer.specs.declared.position.At.{At}
 use Rattle.pddl_parser.specs.declared.types.Action.{Action}
 use Rattle.pddl_parser.specs.declared.types.Domain.{Domain}
@@ -13,11 +15,11 @@ use Rattle.pddl_parser.specs.declared.types.Problem.{Problem}
 use Rattle.pddl_parser.specs.declared.types.Typed.{Typed}
 use Rattle.pddl_parser.specs.Words.{Name, is_same}
 use Rattle.pddl_parser.specs.Objects.{objects}
-use Rattle.lists.proofs.Items.{Among}
+use Rattle.lists.proofs.Items.{Among, any_passes}
 use Rattle.fault_positions.specs.Mentions.{in_domain, in_problem}
 use Rattle.fault_positions.specs.Names.{repeats_after, repeats, names_of, head_names, repeated_variables, domain_repeats, problem_repeats}
 use Rattle.type_checker.specs.Faults.{check_faults}
-use Rattle.type_checker.proofs.NoFaults.{left_empty, right_empty, row_empty}
+use Rattle.type_checker.proofs.NoFaults.{left_empty, right_empty, row_empty, if_there}
 
 -- ---- lists of names
 
@@ -27,25 +29,19 @@ names_in names = map (λ named. named.name) names
 -- the first name is none of those before, and the others repeat none
 pub first_new : (before : List Name) (named : Named) (more : List Named) → repeats_after before (named ∷ more) ≡ [] →
     (list_any (is_same named.name) before ≡ false) × (repeats_after (named.name ∷ before) more ≡ [])
-first_new before named more none = by (list_any (is_same named.name) before) refl none
-  where
-    by : (known : Bool) → list_any (is_same named.name) before ≡ known → (if known then named.at ∷ [] else []) ++ repeats_after (named.name ∷ before) more ≡ [] →
-        (list_any (is_same named.name) before ≡ false) × (repeats_after (named.name ∷ before) more ≡ [])
-    by true known none = absurd cc
-    by false new none = (new, none)
-
-either_false : (a b : Bool) → (a || b) ≡ false → (a ≡ false) × (b ≡ false)
-either_false true b none = absurd cc
-either_false false b none = (refl, none)
+first_new before named more none =
+    let known = list_any (is_same named.name) before in
+    let here = if known then named.at ∷ [] else [] in
+    let others = repeats_after (named.name ∷ before) more in
+    (if_there known named.at (left_empty here others none), right_empty here others none)
 
 -- no name of the list is this one
 abbrev Differ : Name → List Name → Type 0
 Differ name names = AllByRecursion (λ other. is_same name other ≡ false) names
 
 other_than : (name before_name : Name) (before : List Name) → Among before_name before → list_any (is_same name) before ≡ false → is_same name before_name ≡ false
-other_than name before_name [] there none = absurd there
-other_than name before_name (first ∷ before) (inl here) none = ap (is_same name) (sym here) ∙ (either_false (is_same name first) (list_any (is_same name) before) none).0
-other_than name before_name (first ∷ before) (inr there) none = other_than name before_name before there (either_false (is_same name first) (list_any (is_same name) before) none).1
+other_than name before_name before there none =
+    false_from_ne_true (is_same name before_name) (λ same. true≢false (sym (any_passes (is_same name) before_name before there same) ∙ none))
 
 -- those before differ from all
 differ : (before : List Name) (names : List Named) → repeats_after before names ≡ [] → (name : Name) → Among name before → Differ name (names_in names)
@@ -108,23 +104,25 @@ module _ (domain : Domain) (problem : Problem) (none : check_faults domain probl
   no_repeated_object = left_empty (repeats_after (map (λ constant. constant.name.name) domain.constants) (names_of problem.objects)) (repeated_variables (in_problem problem)) positions.1
 
   names_of_all : {X : Type 0} (name_of : X → Named) (xs : List X) → names_in (map name_of xs) ≡ map (λ x. (name_of x).name) xs
-  names_of_all name_of [] = refl
-  names_of_all name_of (x ∷ xs) = ap (λ (names : List Name). (name_of x).name ∷ names) (names_of_all name_of xs)
+  names_of_all = map-map (λ (named : Named). named.name)
+
+  once : {X : Type 0} (name_of : X → Named) (xs : List X) → repeats (map name_of xs) ≡ [] → IsDistinct is_same (map (λ x. (name_of x).name) xs)
+  once name_of xs unrepeated = subst (IsDistinct is_same) (names_of_all name_of xs) (distinct [] (map name_of xs) unrepeated)
 
   pub predicates_once : IsDistinct is_same (map (λ head. head.name.name) domain.predicates)
-  predicates_once = subst (IsDistinct is_same) (names_of_all (λ (head : Head). head.name) domain.predicates) (distinct [] (head_names domain.predicates) no_repeated_predicate)
+  predicates_once = once (λ (head : Head). head.name) domain.predicates no_repeated_predicate
 
   pub functions_once : IsDistinct is_same (map (λ head. head.name.name) domain.functions)
-  functions_once = subst (IsDistinct is_same) (names_of_all (λ (head : Head). head.name) domain.functions) (distinct [] (head_names domain.functions) no_repeated_function)
+  functions_once = once (λ (head : Head). head.name) domain.functions no_repeated_function
 
   pub actions_once : IsDistinct is_same (map (λ action. action.name.name) domain.actions)
-  actions_once = subst (IsDistinct is_same) (names_of_all (λ (action : Action). action.name) domain.actions) (distinct [] action_names no_repeated_action)
+  actions_once = once (λ (action : Action). action.name) domain.actions no_repeated_action
 
   -- constants and objects together
   pub objects_once : IsDistinct is_same (map (λ object. object.name.name) (objects domain problem))
   objects_once =
       let name_of : Typed → Name = λ object. object.name.name in
-      let constants = subst (IsDistinct is_same) (names_of_all (λ (object : Typed). object.name) domain.constants) (distinct [] (names_of domain.constants) no_repeated_constant) in
+      let constants = once (λ (object : Typed). object.name) domain.constants no_repeated_constant in
       let others = subst (IsDistinct is_same) (names_of_all (λ (object : Typed). object.name) problem.objects) (distinct (map name_of domain.constants) (names_of problem.objects) no_repeated_object) in
       subst (IsDistinct is_same) (sym (map-append name_of domain.constants problem.objects))
       (distinct_both (map name_of domain.constants) (map name_of problem.objects) constants others

@@ -15,9 +15,7 @@ use Rattle.pddl_parser.specs.declared.types.Problem.{Problem}
 use Rattle.pddl_parser.specs.Step as step
 use Rattle.pddl_parser.specs.Words.{is_same}
 use Rattle.lists.proofs.Items.{Among, Each, each_both, all_passes, each_passes, all_left, all_right}
-use Rattle.fault_positions.specs.Increases.{Depth}
-use Rattle.fault_positions.specs.Increases.{Outermost, Inner}
-use Rattle.fault_positions.specs.Increases.{Increase, total_cost, joined_depth, may_stand, is_proper, is_total_cost_term, increases_step, increases, ill_formed}
+use Rattle.fault_positions.specs.Increases.{Depth, Outermost, Inner, Increase, total_cost, joined_depth, may_stand, is_proper, is_total_cost_term, increases_step, increases, ill_formed}
 use Rattle.fault_positions.specs.Mentions.{Mention, Variables, Function, use_of, in_condition, in_effect, in_action, effect_step}
 use Rattle.fault_positions.specs.Names.{has_arity, is_declared, is_well_used}
 use Rattle.fault_positions.specs.Scopes as scopes
@@ -28,22 +26,15 @@ use Rattle.type_checker.proofs.Bound.{action_bound}
 use Rattle.type_checker.proofs.Declared.{functions_declared, objects_known}
 use Rattle.type_checker.proofs.EachPart.{in_each_action}
 use Rattle.type_checker.proofs.EffectFolds.{by_folds}
-use Rattle.type_checker.proofs.NoFaults.{left_empty, right_empty, piece_empty, row_empty}
+use Rattle.type_checker.proofs.NoFaults.{left_empty, right_empty, piece_empty, row_empty, unless_there}
 
 -- ---- the form of an effect's increases
 
 one_cost : (list : List Increase) → ill_formed list ≡ [] → is_one_cost list ≡ true
 one_cost [] none = refl
-one_cost (increase ∷ []) none = by increase.is_formed none
-  where
-    by : (formed : Bool) → ((if formed then [] else increase.at ∷ []) ++ []) ≡ [] → formed ≡ true
-    by true none = refl
-    by false none = absurd cc
-one_cost (increase ∷ other ∷ more) none = absurd (some (if increase.is_formed then [] else increase.at ∷ []) none)
-  where
-    some : (xs : List At) → xs ++ (other.at ∷ map (λ (other : Increase). other.at) more) ≡ [] → ⊥
-    some [] none = cc
-    some (x ∷ xs) none = cc
+one_cost (increase ∷ []) none = unless_there increase.is_formed increase.at (left_empty (if increase.is_formed then [] else increase.at ∷ []) [] none)
+one_cost (increase ∷ other ∷ more) none =
+    absurd (cc (right_empty (if increase.is_formed then [] else increase.at ∷ []) (other.at ∷ map (λ (other : Increase). other.at) more) none))
 
 all_formed : (list : List Increase) → is_one_cost list ≡ true → list_all (λ increase. increase.is_formed) list ≡ true
 all_formed [] one = refl
