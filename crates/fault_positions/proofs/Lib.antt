@@ -10,7 +10,6 @@ mod HeadTables
 mod MentionPositions
 mod UsePositions
 mod NameTests
-mod ObjectPositions
 mod Capping
 mod ConditionSizes
 mod EffectCuts

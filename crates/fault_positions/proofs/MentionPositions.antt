@@ -1,5 +1,5 @@
 -- The first position of what the mentions of a file give.
-use Rattle.std.proofs.Common.{◌≡◌, Bool, true, false, cond, List, [], ◌∷◌, ◌++◌, map, not, Some, None, sym, ap, ◌∙◌}
+use Rattle.std.proofs.Common.{◌≡◌, Bool, List, [], ◌∷◌, ◌++◌, map, sym, ap, ◌∙◌}
 use Rattle.std.specs.List.{flat_map, filter}
 use Rattle.std.proofs.lemmas.List.Folds.{flat_map-map}
 use Rattle.std.proofs.lemmas.List.{map-append}
@@ -7,9 +7,8 @@ use Rattle.std.proofs.lemmas.List.Elements.{filter-append}
 use Rattle.pddl_lexer.specs.declared.position.At.{At}
 use Rattle.pddl_parser.specs.declared.types.Named.{Named}
 use Rattle.fault_positions.specs.declared.mentions.Mention as code
-use Rattle.fault_positions.specs.Positions.{earliest, positions_where}
+use Rattle.fault_positions.specs.Positions.{positions_where}
 use Rattle.fault_positions.specs.Mentions.{Mention, Use}
-use Rattle.fault_positions.specs.Names.{use_positions}
 use Rattle.fault_positions.specs.Seen.{seen, all_seen}
 
 -- positions that are given piece by piece
@@ -41,12 +40,3 @@ module _ {A : Type 0} (positions_of : List A → List At) (empty : positions_of 
 
   pub of_mentions : (given : Mention → List A) (mentions : List code.Mention) → flat_map (λ mention. positions_of (given (seen mention))) mentions ≡ positions_of (flat_map given (all_seen mentions))
   of_mentions given mentions = of_pieces (λ mention. given (seen mention)) mentions ∙ ap positions_of (sym (flat_map-map given seen mentions))
-
--- ---- one use
-
-module _ (test : Use → Bool) (usage : Use) where
-  pub right_use : test usage ≡ true → None ≡ earliest (use_positions (filter (λ usage. not (test usage)) (usage ∷ [])))
-  right_use passes = sym (ap (λ b. earliest (use_positions (cond (not b) (usage ∷ []) []))) passes)
-
-  pub wrong_use : test usage ≡ false → Some usage.name.at ≡ earliest (use_positions (filter (λ usage. not (test usage)) (usage ∷ [])))
-  wrong_use fails = sym (ap (λ b. earliest (use_positions (cond (not b) (usage ∷ []) []))) fails)

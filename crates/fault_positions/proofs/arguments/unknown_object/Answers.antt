@@ -1,19 +1,16 @@
-use Rattle.std.proofs.Common.{sym, ap, ◌∙◌}
+use Rattle.std.proofs.Common.{Bool, [], ◌∷◌, sym, ap, ◌∙◌}
+use Rattle.std.specs.Prelude.{if◌then◌else◌}
 use Rattle.pddl_parser.specs.Objects.{objects}
 use Rattle.fault_positions.specs.Arguments.{is_listed}
 use Rattle.fault_positions.specs.Positions.{earliest}
-use Rattle.fault_positions.specs.Names.{unknown_object}
-use Rattle.fault_positions.proofs.ObjectPositions.{known_name, unknown_name}
 use Rattle.fault_positions.proofs.arguments.unknown_object.Goals as goal
 
 pub returns-in-Object : goal.returns-in-Object
 returns-in-Object c =
-    let domain = c.args.objects.now.0 in let problem = c.args.objects.now.1 in
-    unknown_name domain problem c.in-Object.object (ap (is_listed (objects domain problem)) (sym c.as_slice.ensures) ∙ sym c.has.ensures ∙ c.if-not-has.true)
-    ∙ ap (λ term. earliest (unknown_object domain problem term)) (sym c.in-Object.is)
+    let unknown = ap (is_listed (objects c.args.objects.now.0 c.args.objects.now.1)) (sym c.as_slice.ensures) ∙ sym c.has.ensures ∙ c.if-not-has.true in
+    rw c.in-Object.is (sym (ap (λ (b : Bool). earliest (if b then [] else c.in-Object.object.at ∷ [])) unknown))
 
 pub returns-in-Object-2 : goal.returns-in-Object-2
 returns-in-Object-2 c =
-    let domain = c.args.objects.now.0 in let problem = c.args.objects.now.1 in
-    known_name domain problem c.in-Object.object (ap (is_listed (objects domain problem)) (sym c.as_slice.ensures) ∙ sym c.has.ensures ∙ c.if-not-has.false)
-    ∙ ap (λ term. earliest (unknown_object domain problem term)) (sym c.in-Object.is)
+    let known = ap (is_listed (objects c.args.objects.now.0 c.args.objects.now.1)) (sym c.as_slice.ensures) ∙ sym c.has.ensures ∙ c.if-not-has.false in
+    rw c.in-Object.is (sym (ap (λ (b : Bool). earliest (if b then [] else c.in-Object.object.at ∷ [])) known))
