@@ -8,9 +8,9 @@ use Rattle.std.proofs.lemmas.Nat.{and_or_self, and_or_apart, and_le_l, pow_apart
 use Rattle.std.proofs.lemmas.List.{ext_get_or, length-set, length-replicate, get_or-set_same, get_or-set_other, get_or-replicate, get_or_past, set_past}
 use Rattle.std.proofs.lemmas.List.FromFn.{get_or-map-range_with_len, length-map-range_with_len}
 use Rattle.std.proofs.lemmas.List.Elements.{filter-append}
-use Rattle.lists.proofs.Members.{range_member}
+use Rattle.lists.proofs.Members.{range_member, same_filter}
 use Rattle.lists.proofs.LoopSteps.{range_next}
-use Rattle.sas_restriction.proofs.Renumbered.{same_filter, agree}
+use Rattle.sas_restriction.proofs.Renumbered.{agree}
 use Rattle.fact_pairs.specs.Bits.{has_bit, mark_at, marks_of, with_bit}
 use Rattle.fact_pairs.specs.MarkLists.{places}
 use Rattle.fact_pairs.proofs.OneBit.{is_set, has_bit_is}

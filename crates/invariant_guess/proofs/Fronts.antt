@@ -1,13 +1,6 @@
--- Fronts of lists, reads of them, and tests that keep the same items.
-use Rattle.std.proofs.Common.{◌≡◌, ℕ, zero, suc, ◌<◌, ◌≤◌, Bool, cond, inl, inr, List, [], ◌∷◌, ◌++◌, length, get_or, take, refl, ap, ◌∙◌, arith}
-use Rattle.std.specs.List.{filter}
+-- Fronts of lists, and reads of them.
+use Rattle.std.proofs.Common.{◌≡◌, ℕ, zero, suc, ◌<◌, inl, inr, List, [], ◌∷◌, length, get_or, take, arith}
 use Rattle.lists.proofs.Items.{Among}
-
--- tests that say the same of each item keep the same items
-pub same_filter : {X : Type 0} (test other : X → Bool) (xs : List X) → ((x : X) → Among x xs → test x ≡ other x) → filter test xs ≡ filter other xs
-same_filter test other [] same = refl
-same_filter test other (x ∷ xs) same =
-    ap (λ b. cond b (x ∷ filter test xs) (filter test xs)) (same x (inl refl)) ∙ ap (λ l. cond (other x) (x ∷ l) l) (same_filter test other xs (λ y there. same y (inr there)))
 
 -- what stands before a place
 pub before_place : {X : Type 0} (xs : List X) (n : ℕ) (other x : X) → Among x (take n xs) → (i : ℕ) × (i < n) × (i < length xs) × (get_or xs i other ≡ x)

@@ -7,7 +7,7 @@ use Rattle.std.proofs.lemmas.List.Elements.{filter-append}
 use Rattle.std.proofs.lemmas.List.Folds.{list_any-append}
 use Rattle.lists.specs.Members.{is_among}
 use Rattle.lists.proofs.NoRepeats.{Once}
-use Rattle.lists.proofs.Items.{Among, filter_yes, filter_no, slice_among}
+use Rattle.lists.proofs.Items.{Among, filter_yes, filter_no, same_filter, slice_among}
 use Rattle.lists.proofs.LoopSteps.{take_got}
 use Rattle.normal_task.specs.declared.task.Normal.{Normal}
 use Rattle.indexmap.specs.IndexSet.{insert_all}
@@ -21,7 +21,6 @@ use Rattle.candidate_parts.specs.Extensions.{one_predicate}
 use Rattle.invariant_check.proofs.OnePredicate.{once_one_predicate}
 use Rattle.invariant_check.proofs.Verdicts.{accepted_exactly}
 use Rattle.invariant_guess.specs.Trial.{repairs_of, repairs, is_same, after_trial, turn, IsFound}
-use Rattle.invariant_guess.proofs.Fronts.{same_filter}
 use Rattle.invariant_guess.proofs.SameCandidates.{same_candidate}
 use Rattle.invariant_guess.proofs.Repairs.{once_repairs}
 use Rattle.invariant_guess.proofs.Queue.{new_to, turn_queue, there}

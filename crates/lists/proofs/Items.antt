@@ -104,6 +104,14 @@ same_map f g (x ∷ xs) same =
     let rest = same_map f g xs (λ y there. same y (inr there)) in
     cc (here, rest)
 
+-- tests that say the same of each item keep the same items
+pub same_filter : {X : Type 0} (test other : X → Bool) (xs : List X) → ((x : X) → Among x xs → test x ≡ other x) → filter test xs ≡ filter other xs
+same_filter test other [] same = refl
+same_filter test other (x ∷ xs) same =
+    let here = same x (inl refl) in
+    let rest = same_filter test other xs (λ y there. same y (inr there)) in
+    cc (here, rest)
+
 -- a test of a mapped list
 pub any_map : {X Y : Type 0} (test : Y → Bool) (f : X → Y) (xs : List X) → list_any test (map f xs) ≡ list_any (λ x. test (f x)) xs
 any_map test f [] = refl
@@ -372,6 +380,12 @@ pub any_or : {X : Type 0} (test other : X → Bool) (xs : List X) → list_any (
 any_or test other [] = refl
 any_or test other (x ∷ xs) =
     ap (λ r. (test x || other x) || r) (any_or test other xs) ∙ or_cross (test x) (other x) (list_any test xs) (list_any other xs)
+
+-- some of some, in either order
+pub any_swap : {X Y : Type 0} (test : X → Y → Bool) (xs : List X) (ys : List Y) → list_any (λ x. list_any (test x) ys) xs ≡ list_any (λ y. list_any (λ x. test x y) xs) ys
+any_swap test [] ys = sym (none_passes (λ y. false) ys (λ y there is. true≢false (sym is)))
+any_swap test (x ∷ xs) ys =
+    ap (λ r. list_any (test x) ys || r) (any_swap test xs ys) ∙ sym (any_or (test x) (λ y. list_any (λ x. test x y) xs) ys)
 
 -- the test of one item more at the end
 pub or_last : (a b : Bool) → (a || (b || false)) ≡ (b || a)

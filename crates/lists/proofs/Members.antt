@@ -1,9 +1,9 @@
 -- Members of lists, by std's word for them, `Contains`: what `Items` proves of `Among`, said again.
-use Rattle.std.proofs.Common.{◌≡◌, ℕ, ◌+◌, ◌<◌, Bool, true, false, cond, Some, None, List, [], ◌∷◌, map, filter, get_or, ◌⊎◌, refl, sym, ap, ◌∙◌, subst, inl, inr, arith}
+use Rattle.std.proofs.Common.{◌≡◌, ℕ, ◌+◌, ◌<◌, Bool, true, false, cond, Some, None, List, [], ◌∷◌, ◌++◌, map, filter, get_or, ◌⊎◌, refl, sym, ap, ◌∙◌, subst, inl, inr, arith}
 use Rattle.std.specs.List.{Contains, All, AllZip, flat_map, range_with_len, list_any, list_all, find, slice_get}
 use Rattle.std.proofs.lemmas.Bool.{cases_Bool}
 use Rattle.std.proofs.lemmas.Option.{same_Some, none-some, slice_get_within, get_or_from_slice_get}
-use Rattle.std.proofs.lemmas.List.Elements.{Contains-append_right, Contains-get_or}
+use Rattle.std.proofs.lemmas.List.Elements.{Contains-append_left, Contains-append_right, Contains-get_or, All-contains}
 use Rattle.std.proofs.lemmas.List.FromFn.{length-range_with_len, get_or-range_with_len}
 use Rattle.lists.proofs.Items.{among_contains, contains_among, among_map, map_source, among_filter, filter_among, filter_yes, filter_no, among_flat_map, flat_map_piece, any_passes, passing}
 use Rattle.lists.proofs.Items as items
@@ -88,6 +88,17 @@ member_any p xs x in' passes = any_passes p x xs (among_contains xs x in') passe
 -- a fact of each member holds of all
 pub all_from_members : {X : Type 0} (P : X → Type 0) (xs : List X) → ((x : X) → Contains xs x → P x) → All P xs
 all_from_members P xs each k d below = each (get_or xs k d) (Contains-get_or xs k d below)
+
+-- tests that say the same of each member keep the same members
+pub same_filter : {X : Type 0} (p q : X → Bool) (xs : List X) → ((x : X) → Contains xs x → p x ≡ q x) → filter p xs ≡ filter q xs
+same_filter p q xs same = items.same_filter p q xs (λ x among. same x (contains_among xs x among))
+
+-- what holds of all of joined lists holds of all of each
+pub all_front : {X : Type 0} (P : X → Type 0) (xs ys : List X) → All P (xs ++ ys) → All P xs
+all_front P xs ys all = all_from_members P xs (λ x in'. All-contains P (xs ++ ys) x all (Contains-append_left xs ys x in'))
+
+pub all_behind : {X : Type 0} (P : X → Type 0) (xs ys : List X) → All P (xs ++ ys) → All P ys
+all_behind P xs ys all = all_from_members P ys (λ y in'. All-contains P (xs ++ ys) y all (Contains-append_right xs ys y in'))
 
 -- ---- the first member that passes
 

@@ -1,8 +1,8 @@
 -- The objects of listed types, by the types that are found below these.
-use Rattle.std.proofs.Common.{◌≡◌, ℕ, Bool, false, ◌||◌, List, [], ◌∷◌, ◌++◌, map, length, refl, sym, ap, ◌∙◌}
+use Rattle.std.proofs.Common.{◌≡◌, ℕ, Bool, ◌||◌, List, [], ◌∷◌, ◌++◌, map, length, refl, sym, ap, ◌∙◌}
 use Rattle.std.specs.List.{list_any, filter}
 use Rattle.std.proofs.lemmas.List.Elements.{filter_agree}
-use Rattle.lists.proofs.Items.{same_any, any_or}
+use Rattle.lists.proofs.Items.{same_any, any_or, any_swap}
 use Rattle.pddl_parser.specs.declared.types.Domain.{Domain}
 use Rattle.pddl_parser.specs.declared.types.Named.{Named}
 use Rattle.pddl_parser.specs.declared.types.Problem.{Problem}
@@ -13,23 +13,13 @@ use Rattle.declarations.specs.Below.{has, leads_to, has_type_among, is_any, rang
 use Rattle.normal_task.specs.Numbers.{object_number}
 use Rattle.numbering.proofs.Ranges.{ranged}
 
-any_none : {X : Type 0} (xs : List X) → list_any (λ (x : X). false) xs ≡ false
-any_none [] = refl
-any_none (x ∷ xs) = any_none xs
-
-any_swapped : {X Y : Type 0} (test : X → Y → Bool) (xs : List X) (ys : List Y) → list_any (λ y. list_any (λ x. test x y) xs) ys ≡ list_any (λ x. list_any (test x) ys) xs
-any_swapped test xs [] = sym (any_none xs)
-any_swapped test xs (y ∷ ys) =
-    ap (λ b. list_any (λ x. test x y) xs || b) (any_swapped test xs ys)
-    ∙ sym (any_or (λ x. test x y) (λ x. list_any (test x) ys) xs)
-
 module _ (types : List Typed) (listed : List Named) (found : List Name) (below : (name : Name) → has found name ≡ leads_to types listed name) where
   -- some listed type is `object`, or one of the object's own types is found
   same_types : (object : Typed) → list_any (λ type. has_type types object type.name) listed ≡ (list_any (λ type. is_same type.name root) listed || list_any (λ own. has found own.name) object.types)
   same_types object =
       any_or (λ (type : Named). is_same type.name root) (λ (type : Named). list_any (λ (own : Named). leads types (length types) own.name type.name) object.types) listed
       ∙ ap (λ b. list_any (λ (type : Named). is_same type.name root) listed || b)
-      (any_swapped (λ (own type : Named). leads types (length types) own.name type.name) object.types listed
+      (any_swap (λ (type own : Named). leads types (length types) own.name type.name) listed object.types
       ∙ same_any (λ (own : Named). leads_to types listed own.name) (λ (own : Named). has found own.name) object.types (λ own among. sym (below own.name)))
 
 -- an object is kept alike by the types that are found

@@ -25,7 +25,7 @@ use Rattle.sas_sections.proofs.AgainSections.{again_version, again_metric, again
 use Rattle.sas_sections.proofs.AgainOperators.{IsShort, less_is, again_operator}
 use Rattle.sas_sections.proofs.AgainRules.{again_rule}
 use Rattle.sas_sections.proofs.AgainText.{many, each_short, conditions_short, flat_each, mapped_each}
-use Rattle.sas_sections.proofs.Joined.{all_front, all_behind}
+use Rattle.lists.proofs.Members.{all_front, all_behind}
 use Rattle.sas_sections.proofs.WrittenLines.{name_clean, pieces_back}
 use Rattle.sas_task.proofs.TextsTellTasks.{IsSorted, lines_clean}
 use Rattle.sas_reader.specs.Text.{task, with_operators, IsTextOf}

@@ -19,7 +19,7 @@ use Rattle.sas_sections.proofs.Again.{IsSmall, Reads, Again, small_after, again_
 use Rattle.sas_sections.proofs.AgainPairs.{Fits, again_groups, again_goal}
 use Rattle.sas_sections.proofs.AgainSections.{again_variables}
 use Rattle.sas_sections.proofs.AgainText.{many, each_short}
-use Rattle.sas_sections.proofs.Joined.{all_front}
+use Rattle.lists.proofs.Members.{all_front}
 use Rattle.sas_reader.proofs.WholeText.{to_end}
 
 -- the lines are no more than can be counted, and not longer

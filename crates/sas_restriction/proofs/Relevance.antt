@@ -1,7 +1,6 @@
 -- The relevant variables, with all their values and the operators that have an effect on them, meet the condition of the law.
-use Rattle.std.proofs.Common.{◌≡◌, ℕ, ◌<◌, Bool, true, eqb, ltb, List, length, ◌∙◌, sym, inl, inr, arith}
-use Rattle.std.specs.Cmp.{both_ways}
-use Rattle.std.specs.List.{Contains, All, list_any}
+use Rattle.std.proofs.Common.{◌≡◌, ℕ, ◌<◌, true, eqb, ltb, List, length, ◌∙◌, sym, inl, inr, arith}
+use Rattle.std.specs.List.{Contains, All}
 use Rattle.std.proofs.lemmas.Bool.{cases_eq, and_parts, lt-ltb, ltb-true}
 use Rattle.std.proofs.lemmas.Option.{none-some}
 use Rattle.std.proofs.lemmas.List.Elements.{All-contains}
@@ -14,7 +13,7 @@ use Rattle.sas_task.specs.Valid.{IsValid, IsFact}
 use Rattle.sas_task.proofs.States.{is_variable}
 use Rattle.sas_task.proofs.ValidParts.{operator_law, effect_law, rule_law}
 use Rattle.lists.specs.Members.{is_among}
-use Rattle.lists.proofs.Items.{contains_among, same_any}
+use Rattle.lists.proofs.Items.{contains_among, same_any, any_swap}
 use Rattle.lists.proofs.Members.{all_from_members}
 use Rattle.lists.proofs.Members as members
 use Rattle.lists.proofs.Ordered.{same_ordered}
@@ -27,17 +26,6 @@ use Rattle.sas_restriction.proofs.Numbers.{any_member, member_any}
 use Rattle.sas_restriction.proofs.Closed.{has_always, sets_always}
 use Rattle.sas_restriction.proofs.AllValues.{all_closed}
 use Rattle.sas_restriction.proofs.Renumbered.{effect_left, choice_of}
-
--- that some item of one list and some item of another pass a test together, whichever is asked first
-some_turned : {X Y : Type 0} (test : X → Y → Bool) (xs : List X) (ys : List Y) → list_any (λ x. list_any (test x) ys) xs ≡ true → list_any (λ y. list_any (λ x. test x y) xs) ys ≡ true
-some_turned test xs ys some =
-    let x = members.any_member (λ x. list_any (test x) ys) xs some in
-    let y = members.any_member (test x.0) ys x.2 in
-    members.member_any (λ y. list_any (λ x. test x y) xs) ys y.0 y.1 (members.member_any (λ x. test x y.0) xs x.0 x.1 y.2)
-
-any_turned : {X Y : Type 0} (test : X → Y → Bool) (xs : List X) (ys : List Y) → list_any (λ x. list_any (test x) ys) xs ≡ list_any (λ y. list_any (λ x. test x y) xs) ys
-any_turned test xs ys =
-    both_ways (list_any (λ x. list_any (test x) ys) xs) (list_any (λ y. list_any (λ x. test x y) xs) ys) (some_turned test xs ys) (some_turned (λ y x. test x y) ys xs)
 
 -- there is one list of the relevant variables
 pub one_list : (T : Task) (vars vars' : List ℕ) → AreRelevant T vars → AreRelevant T vars' → vars ≡ vars'
@@ -74,10 +62,10 @@ module _ (T : Task) (valid : IsValid T) where
     pub busy_is : (o : Operator) → Contains T.operators o → is_busy (everything T vars) o ≡ changes_some vars o
     busy_is o in-o =
         same_any (effect_stays (everything T vars)) (λ (e : Effect). is_among eqb vars e.var) o.effects (λ e among. effect_left T valid vars e (effect_law T valid o in-o e (contains_among o.effects e among)))
-        ∙ any_turned (λ (e : Effect) v. eqb e.var v) o.effects vars
+        ∙ any_swap (λ (e : Effect) v. eqb e.var v) o.effects vars
 
     pub busy_effect : (o : Operator) → changes_some vars o ≡ true → (e : Effect) × Contains o.effects e × (is_among eqb vars e.var ≡ true)
-    busy_effect o busy = members.any_member (λ (e : Effect). is_among eqb vars e.var) o.effects (any_turned (λ (e : Effect) v. eqb e.var v) o.effects vars ∙ busy)
+    busy_effect o busy = members.any_member (λ (e : Effect). is_among eqb vars e.var) o.effects (any_swap (λ (e : Effect) v. eqb e.var v) o.effects vars ∙ busy)
 
     effect_of : (o : Operator) → Contains T.operators o → operator_stays C o ≡ true → (e : Effect) × Contains o.effects e × (is_among eqb vars e.var ≡ true)
     effect_of o in-o stays = busy_effect o (sym (busy_is o in-o) ∙ (and_parts (all_left C o.conditions) (is_busy (everything T vars) o) stays).1)

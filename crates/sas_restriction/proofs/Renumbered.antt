@@ -1,5 +1,5 @@
 -- Where all values and all of some variables are left, what is left of a task is what stands there, with new numbers for the variables.
-use Rattle.std.proofs.Common.{◌≡◌, ◌≢◌, ℕ, ◌<◌, Bool, true, cond, ◌&&◌, List, [], ◌∷◌, map, filter, length, get_or, None, refl, sym, ap, ◌∙◌}
+use Rattle.std.proofs.Common.{◌≡◌, ◌≢◌, ℕ, ◌<◌, Bool, true, ◌&&◌, List, [], map, filter, length, get_or, None, refl, sym, ap, ◌∙◌}
 use Rattle.std.specs.List.{Contains, All, AllPairs, range_with_len}
 use Rattle.std.proofs.lemmas.List.FromFn.{fill_by_all}
 use Rattle.std.proofs.lemmas.List.Elements.{All-contains}
@@ -14,7 +14,7 @@ use Rattle.sas_task.specs.Orders.{pair_cmp}
 use Rattle.sas_task.proofs.States.{is_variable}
 use Rattle.sas_task.proofs.ValidParts.{rule_law}
 use Rattle.lists.proofs.Items.{contains_among, same_map}
-use Rattle.lists.proofs.Members.{member_first, member_later, filter_every, filter_member}
+use Rattle.lists.proofs.Members.{filter_every, filter_member, same_filter}
 use Rattle.sas_orders.specs.InOrder.{sorted}
 use Rattle.sas_restriction.specs.Choice.{Choice, IsChoice, is_shown, is_left, all_left, new_val, new_pair, new_pairs, variable_at, new_variable, fact_stays, new_group, effect_stays, new_effect, rule_stays, new_rule}
 use Rattle.sas_restriction.specs.Everything.{all_values, everything}
@@ -22,12 +22,6 @@ use Rattle.sas_restriction.specs.Reordered.{place_in, renumbered_pair, renumbere
 use Rattle.sas_restriction.proofs.AllValues.{value_member, member_value, value_left, facts_left, value_stays, all_closed}
 use Rattle.sas_restriction.proofs.Closed.{rule_has}
 use Rattle.lists.proofs.Ordered.{range_increasing}
-
--- tests that agree at each item let the same items pass
-pub same_filter : {X : Type 0} (p q : X → Bool) (xs : List X) → ((x : X) → Contains xs x → p x ≡ q x) → filter p xs ≡ filter q xs
-same_filter p q [] same = refl
-same_filter p q (x ∷ xs) same =
-    ap (λ b. cond b (x ∷ filter p xs) (filter p xs)) (same x (member_first x xs)) ∙ ap (λ l. cond (q x) (x ∷ l) l) (same_filter p q xs (λ y in'. same y (member_later x y xs in')))
 
 -- maps that agree at each item
 pub agree : {X Y : Type 0} (f g : X → Y) (xs : List X) → ((x : X) → Contains xs x → f x ≡ g x) → map f xs ≡ map g xs

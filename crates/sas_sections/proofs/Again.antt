@@ -13,7 +13,7 @@ use Rattle.sas_lines.specs.Forms.{◌>>=◌, ◌>>◌, Unread, Form, here, follo
 use Rattle.sas_lines.specs.Numbers.{number_line, at_least, number_or_none_line}
 use Rattle.sas_sections.proofs.Lines.{same_bytes}
 use Rattle.sas_sections.proofs.Numerals.{numeral_number}
-use Rattle.sas_sections.proofs.Joined.{all_behind}
+use Rattle.lists.proofs.Members.{all_behind}
 
 -- the text is shorter than any count that can't be read
 pub record IsSmall (now : Unread) : Type 0 where

@@ -29,8 +29,7 @@ use Rattle.sas_sections.proofs.AgainSections.{name_passes}
 use Rattle.sas_task.proofs.States.{is_variable}
 use Rattle.sas_task.proofs.TextsTellTasks.{find_kept}
 use Rattle.lists.proofs.Items.{filter_among, none_passes, map_back}
-use Rattle.lists.proofs.Members.{all_from_members, member_any}
-use Rattle.sas_sections.proofs.Joined.{all_front}
+use Rattle.lists.proofs.Members.{all_from_members, all_front, member_any}
 use Rattle.sas_sections.proofs.InTurn.{in_turn, in_turn_rises, in_turn_all, same_in_turn, pairs_in_turn, filter_in_turn}
 use Rattle.sas_sections.proofs.Tabled.{any_found}
 use Rattle.sas_sections.proofs.ToldEffects.{told_words, told_lines, pair_value, told_value, nothing_found}

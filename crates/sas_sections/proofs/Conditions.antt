@@ -1,5 +1,5 @@
 -- Pairs that were read are facts in order, and are written as they were read.
-use Rattle.std.proofs.Common.{◌≡◌, ℕ, ◌+◌, ◌-◌, ◌<◌, true, false, ◌&&◌, ◌||◌, eqb, ltb, List, [], ◌∷◌, ◌++◌, length, map, get_or, Some, Ok, inl, inr, refl, sym, ap, ◌∙◌, subst, append-nil, arith, length-append}
+use Rattle.std.proofs.Common.{◌≡◌, ℕ, ◌+◌, ◌-◌, ◌<◌, true, ◌&&◌, ◌||◌, eqb, ltb, List, [], ◌∷◌, ◌++◌, length, map, get_or, Some, Ok, inl, inr, refl, sym, ap, ◌∙◌, subst, append-nil, arith, length-append}
 use Rattle.std.specs.Prelude.{slice_get}
 use Rattle.std.specs.List.{All, AllPairs, flat_map}
 use Rattle.std.specs.List.Sorted.{IsStrictlyIncreasing}
@@ -15,7 +15,7 @@ use Rattle.sas_task.specs.Output.{Line, numeral, counted, pair_words, pair_lines
 use Rattle.sas_task.specs.Task.{Task}
 use Rattle.sas_task.specs.Valid.{IsValue, IsFact, AreConditions, ComesBefore}
 use Rattle.sas_lines.specs.Contexts.{is_value, is_next_condition, is_next_fact}
-use Rattle.sas_lines.specs.Forms.{◌>>=◌, Unread, line, listed, passing, given}
+use Rattle.sas_lines.specs.Forms.{◌>>=◌, Unread, line, listed, given}
 use Rattle.sas_lines.specs.Numbers.{number, number_line}
 use Rattle.sas_sections.specs.Pairs.{value, pair, condition, fact, effect_conditions, conditions}
 use Rattle.sas_task.proofs.Checks.{value_from_test, before_from_test}

@@ -1,7 +1,6 @@
 mod Listed
 mod Tabled
 mod Ordered
-pub mod Joined
 pub mod Kept
 mod Numerals
 pub mod Lines

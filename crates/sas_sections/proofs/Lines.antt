@@ -1,5 +1,5 @@
 -- Lines and words that meet their rules are those that are written.
-use Rattle.std.proofs.Common.{◌≡◌, ◌≢◌, ℕ, ◌-◌, ◌^◌, ◌<◌, ◌≤◌, Bool, true, false, not, ◌&&◌, cond, eqb, ltb, List, [], ◌∷◌, ◌++◌, length, get_or, Option, Some, None, Ok, inl, inr, refl, sym, ap, ◌∙◌, subst, append-nil}
+use Rattle.std.proofs.Common.{◌≡◌, ◌≢◌, ℕ, ◌-◌, ◌^◌, ◌<◌, ◌≤◌, Bool, true, not, ◌&&◌, cond, eqb, ltb, List, [], ◌∷◌, ◌++◌, length, get_or, Option, Some, None, Ok, inl, inr, refl, sym, ap, ◌∙◌, subst, append-nil}
 use Rattle.std.specs.Prelude.{codes, nat_le, IfSome}
 use Rattle.std.specs.List.{All, onto_first}
 use Rattle.std.specs.Option.{option_map}
@@ -18,7 +18,7 @@ use Rattle.sas_lines.proofs.Cuts.{some_piece}
 use Rattle.sas_sections.proofs.Kept.{parts, passed, checked, was_met, TakesLines, TakesWords, line_taken, word_taken, words_ended, read_same}
 use Rattle.sas_sections.proofs.Numerals.{number_numeral}
 use Rattle.lists.specs.Names.{IsName}
-use Rattle.sas_sections.proofs.Joined.{all_behind}
+use Rattle.lists.proofs.Members.{all_behind}
 use Rattle.lists.proofs.Names.{IsOneLine, name_from}
 
 pub same_bytes : (a b : List ℕ) → is_same a b ≡ true → a ≡ b
