@@ -1,13 +1,10 @@
 -- Tables whose keys are borrowed names, beside the names themselves.
 use Rattle.std.proofs.Common.{◌≡◌, ℕ, suc, ◌+◌, ◌<◌, Bool, true, false, not, cond, ◌||◌, List, [], ◌∷◌, ◌++◌, Some, None, map, length, get_or, nat_lt, Bor, refl, sym, ap, ◌∙◌, subst, arith, if◌then◌else◌}
 use Rattle.std.specs.List.{list_any, position, position_or_len}
-use Rattle.std.proofs.lemmas.Cmp.{nat_list_eq_equiv}
 use Rattle.std.proofs.lemmas.List.{map_push}
-use Rattle.std.proofs.lemmas.List.Folds.{list_any-append}
-use Rattle.std.proofs.lemmas.Map.Steps.{list_any_congr}
 use Rattle.lists.proofs.Items.{any_map}
 use Rattle.names.specs.Names.{Name, is_same}
-use Rattle.names.proofs.SameNames.{same_name}
+use Rattle.names.proofs.SameNames.{same_name, with_name, among_those}
 
 abbrev pub Key : Type 0
 Key = Bor (List ℕ)
@@ -20,29 +17,6 @@ position_or_len-now p [] = refl
 position_or_len-now p (key ∷ keys) = ap (λ n. cond (not (p key.now)) (1 + n) 0) (position_or_len-now p keys)
 
 -- ---- one name more
-
--- the names with one more, unless it is there
-abbrev with_name : List Name → Name → List Name
-with_name names name = if list_any (is_same name) names then names else names ++ name ∷ []
-
--- what is among them
-among_those : (names : List Name) (name other : Name) → list_any (is_same other) (with_name names name) ≡ (is_same other name || list_any (is_same other) names)
-among_those names name other = by (list_any (is_same name) names) refl (is_same other name) refl
-  where
-    last : (here there : Bool) → (there || (here || false)) ≡ (here || there)
-    last true true = refl
-    last true false = refl
-    last false true = refl
-    last false false = refl
-
-    by : (known : Bool) → list_any (is_same name) names ≡ known → (same : Bool) → is_same other name ≡ same →
-        list_any (is_same other) (if known then names else names ++ name ∷ []) ≡ (same || list_any (is_same other) names)
-    by true is true same = list_any_congr nat_list_eq_equiv other name names same ∙ is
-    by true is false other_name = refl
-    by false is same s =
-        list_any-append (is_same other) names (name ∷ [])
-        ∙ last (is_same other name) (list_any (is_same other) names)
-        ∙ ap (λ b. b || list_any (is_same other) names) s
 
 -- the table with one key more
 module _ (keys : List Key) (key : Key) (names : List Name) (is : map (λ key. key.now) keys ≡ names)
