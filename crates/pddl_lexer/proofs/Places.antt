@@ -73,33 +73,26 @@ place_after depth at inner more i k i-is p =
       same = p.same;
     }
 
-pub place : (depth : ℕ) (tree : Members) (i : ℕ) → i < length (nodes tree) → Place depth tree i
-place depth NoMore i lt = absurd (omega arith)
-place depth (WordThen at bytes more) zero lt = record {
+place_first : (depth : ℕ) (tree : Members) → from tree 0 ≡ tree → is_empty tree ≡ false → Place depth tree 0
+place_first depth tree here some = record {
   deep = depth;
   not_less = omega arith;
-  some = refl;
+  some = ap is_empty here ∙ some;
   more_nodes = [];
   more_entries = [];
-  nodes_are = sym (append-nil _);
-  entries_are = sym (append-nil _);
+  nodes_are = ap nodes (sym here) ∙ sym (append-nil (nodes (from tree 0)));
+  entries_are = ap (entries depth) (sym here) ∙ sym (append-nil (entries depth (from tree 0)));
   ends = tt;
   same = refl;
 }
+
+pub place : (depth : ℕ) (tree : Members) (i : ℕ) → i < length (nodes tree) → Place depth tree i
+place depth NoMore i lt = absurd (omega arith)
+place depth (WordThen at bytes more) zero lt = place_first depth (WordThen at bytes more) refl refl
 place depth (WordThen at bytes more) (suc i) lt =
     let p = place depth more i (omega arith) in
     record { deep = p.deep; not_less = p.not_less; some = p.some; more_nodes = p.more_nodes; more_entries = p.more_entries; nodes_are = p.nodes_are; entries_are = p.entries_are; ends = p.ends; same = p.same }
-place depth (ListThen at inner more) zero lt = record {
-  deep = depth;
-  not_less = omega arith;
-  some = refl;
-  more_nodes = [];
-  more_entries = [];
-  nodes_are = sym (append-nil _);
-  entries_are = sym (append-nil _);
-  ends = tt;
-  same = refl;
-}
+place depth (ListThen at inner more) zero lt = place_first depth (ListThen at inner more) refl refl
 place depth (ListThen at inner more) (suc i) lt =
     elim (cases_lt i (length (nodes inner))) [
       | inl inner_lt ↦ place_inside depth at inner more i inner_lt (place (suc depth) inner i inner_lt)

@@ -1,8 +1,7 @@
 -- What one turn of the reader's loop keeps.
 use Rattle.std.proofs.Common.{◌≡◌, ℕ, suc, ◌<◌, ◌≤◌, ◌+◌, ◌-◌, ◌^◌, Bool, cond, eqb, ltb, true, false, List, [], ◌∷◌, ◌++◌, length, not, ◌==◌, get_or, take, drop, Option, Some, None, refl, sym, ap, subst, ◌∙◌, arith}
-use Rattle.std.proofs.lemmas.List.{take_all}
-use Rattle.std.proofs.lemmas.List.Sums.{take_while-cons}
-use Rattle.std.specs.List.{take_while}
+use Rattle.std.proofs.lemmas.List.{take_all, length-take}
+use Rattle.std.specs.List.{prefix_len, take_while}
 use Rattle.std.specs.Vec.{vec_len}
 use Rattle.pddl_lexer.specs.declared.scanner.Scanner.{Scanner}
 use Rattle.pddl_lexer.specs.declared.scanner.Mark.{Mark}
@@ -56,13 +55,7 @@ line_low [] = omega arith
 line_low (b ∷ behind) = elim (eqb b 10) as (λ t. cond t (line behind + 1) (line behind) ≤ suc (suc (length behind))) [ true ↦ omega (arith, line_low behind) | false ↦ omega (arith, line_low behind) ]
 
 since_low : (behind : List ℕ) → length (take_while (λ b. not (b == line_feed)) behind) ≤ length behind
-since_low [] = omega arith
-since_low (b ∷ behind) =
-    subst (λ (bytes : List ℕ). length bytes ≤ suc (length behind)) (sym (take_while-cons (λ b. not (b == line_feed)) b behind)) (by (not (b == line_feed)) (since_low behind))
-  where
-    by : (test : Bool) → length (take_while (λ b. not (b == line_feed)) behind) ≤ length behind → length (cond test (b ∷ take_while (λ b. not (b == line_feed)) behind) []) ≤ suc (length behind)
-    by true low = omega (arith, low)
-    by false low = omega arith
+since_low behind = omega (arith, length-take (prefix_len (λ b. not (b == line_feed)) behind) behind)
 
 -- the line and the column can grow: neither is over one more than the number of bytes before the place
 pub line_fits : (text : List ℕ) (scanner : Scanner) (b : Builder) (after : List ℕ) → Passed text scanner b after → 1 ≤ length after → scanner.at.line + 1 < 2 ^ 64

@@ -1,7 +1,7 @@
 -- What has been read of a text, place by place.
-use Rattle.std.proofs.Common.{◌≡◌, ℕ, suc, ◌<◌, ◌≤◌, ◌+◌, Bool, true, false, cond, not, ◌&&◌, ◌||◌, ltb, List, [], ◌∷◌, ◌++◌, length, map, Option, Some, None, refl, sym, ap, subst, ◌∙◌, append_assoc, arith}
+use Rattle.std.proofs.Common.{◌≡◌, ℕ, suc, ◌<◌, ◌≤◌, ◌+◌, Bool, true, false, cond, ◌&&◌, ◌||◌, ltb, List, [], ◌∷◌, ◌++◌, length, map, Option, Some, None, refl, sym, ap, subst, ◌∙◌, append_assoc, arith}
 use Rattle.std.proofs.lemmas.List.{append-nil, length-append}
-use Rattle.std.proofs.lemmas.Bool.{lt-ltb, leb-false, leb-true}
+use Rattle.std.proofs.lemmas.Bool.{lt-ltb, leb-false, leb-true, not-false}
 use Rattle.pddl_lexer.specs.declared.scanner.Mark.{Mark}
 use Rattle.pddl_lexer.specs.declared.scanner.Mark.TheVariants.{Nothing, Bad, Opening, Closing, Beginning}
 use Rattle.pddl_lexer.specs.declared.fault.Kind.{Kind}
@@ -97,10 +97,6 @@ right_wrong : (a b : Bool) → (a && b) ≡ false → b ≡ true → a ≡ false
 right_wrong true b e h = absurd cc
 right_wrong false b e h = refl
 
-not_false : (b : Bool) → not b ≡ false → b ≡ true
-not_false true e = refl
-not_false false e = absurd cc
-
 -- a ( that is no fault has fewer than 100 open lists around it
 fine_depth : (behind : List ℕ) → kind_at Opening behind ≡ None → opened behind < closed behind + 100
 unfolding kind_at
@@ -116,7 +112,7 @@ fine_closing behind e = leb-false _ _ (guard_none _ _ _ e).0
 
 fine_beginning : (behind : List ℕ) → kind_at Beginning behind ≡ None → (begun behind ≡ true) × (after_end behind ≡ false)
 unfolding kind_at
-fine_beginning behind e = let g = guard_none _ _ _ e in (not_false _ g.0, (guard_none _ _ _ g.1).0)
+fine_beginning behind e = let g = guard_none _ _ _ e in (not-false _ g.0, (guard_none _ _ _ g.1).0)
 
 fine_bad : (behind : List ℕ) → kind_at Bad behind ≡ None → ⊥
 unfolding kind_at
@@ -252,7 +248,7 @@ pub record IsWhole (text : List ℕ) (partial : Partial) : Type 0 where
 
 fine_end : (behind : List ℕ) → kind_at_end behind ≡ None → (at_top behind ≡ true) × (begun behind ≡ true)
 unfolding kind_at_end
-fine_end behind e = let g = guard_none _ _ _ e in (not_false _ g.0, not_false _ (guard_none _ _ _ g.1).0)
+fine_end behind e = let g = guard_none _ _ _ e in (not-false _ g.0, not-false _ (guard_none _ _ _ g.1).0)
 
 whole : (text behind : List ℕ) (partial : Partial) → Agrees partial behind → IsSingle partial → kind_at_end behind ≡ None → spelled text ≡ written_so_far partial ++ [] → tree_faults text ≡ [] → IsWhole text partial
 whole text behind (Outside NoMore) counts single fine spelled_is faultless = absurd (cc ((fine_end behind fine).1, counts.begun_is))
