@@ -2,18 +2,14 @@
 use Rattle.std.proofs.Common.{◌≡◌, ℕ, ◌<◌, true, List, filter, length, get_or, None, refl, sym, ap, ◌∙◌, subst}
 use Rattle.std.specs.List.{range_with_len}
 use Rattle.lists.proofs.Items.{among_contains, contains_among, same_items_any}
-use Rattle.sas_task.specs.declared.parts.Pair.{Pair}
 use Rattle.sas_task.specs.declared.parts.Variable.{Variable}
-use Rattle.sas_task.specs.Task.{Task}
-use Rattle.sas_task.specs.Valid.{IsValid}
+use Rattle.sas_task.specs.Task.{Task, of_parts}
 use Rattle.sas_task.specs.Alike.{AreAlike, RulesAgree}
 use Rattle.sas_task.proofs.Alike.{task_back}
-use Rattle.sas_task.proofs.ValidParts.{rule_law}
 use Rattle.sas_restriction.specs.Choice.{Choice, effect_stays}
 use Rattle.sas_restriction.specs.Closed.{Leaves, EffectTransition, RuleTransition}
 use Rattle.sas_restriction.specs.Restriction.{restriction}
 use Rattle.sas_restriction.proofs.Alike.{IsBlind, one_restriction}
-use Rattle.sas_restriction.proofs.Valid.{one_after}
 use Rattle.task_simplifier.specs.Kept.{IsKept, Initial, ByEffect, ByRule, AreKept}
 use Rattle.task_simplifier.specs.Projection.{stays, nothing_twice, projected, project_to, kept_in, IsProjection}
 use Rattle.task_simplifier.proofs.OneProjection.{one_projection}
@@ -66,11 +62,7 @@ blind kept task a b is =
     (λ e in'. among_contains a.effects e ((is.effects e).1 (contains_among b.effects e in')))
 
 same_choice : (kept : ℕ → List ℕ) (a b : Task) → AreAlike a b → projected kept a ≡ projected kept b
-same_choice kept a b is =
-    let mk = λ (vs : List Variable) (goal : List Pair). let t : Task = record { metric = b.metric; variables = vs; groups = b.groups; state = b.state; goal = goal; operators = b.operators; rules = b.rules } in t in
-    let one : projected kept (mk a.variables a.goal) ≡ projected kept (mk b.variables b.goal) =
-    ap (λ vs. projected kept (mk vs a.goal)) is.variables ∙ ap (λ goal. projected kept (mk b.variables goal)) is.goal in
-    one
+same_choice kept a b is i = projected kept (of_parts b.metric (is.variables i) b.groups b.state (is.goal i) b.operators b.rules)
 
 -- ---- the projection
 
@@ -85,10 +77,3 @@ one_of_alike a b p q agree is one other =
     ∙ one_projection b (project_to (kept_in one.kept) b) q
     (record { kept = one.kept; count = one.count ∙ ap (λ (vs : List Variable). length vs) is.variables; are = are_kept_alike a b is (kept_in one.kept) one.are; same = refl })
     other
-
--- the rules of a valid task agree
-pub valid_rules : (task : Task) → IsValid task → RulesAgree task
-valid_rules task valid a b in-a in-b same = (
-  (rule_law task valid a in-a).default ∙ ap (λ v. get_or task.state v 0) same ∙ sym (rule_law task valid b in-b).default,
-  one_after task valid a b in-a in-b same,
-)

@@ -1,5 +1,5 @@
 -- The variables that stay, and what the projection leaves, as the code holds it.
-use Rattle.std.proofs.Common.{◌≡◌, ℕ, ◌<◌, List, [], filter, length, Option, None, ap, ◌∙◌, subst}
+use Rattle.std.proofs.Common.{◌≡◌, ℕ, ◌<◌, List, [], length, Option, None, ap, ◌∙◌, subst}
 use Rattle.std.specs.List.{All, range_with_len}
 use Rattle.std.specs.List.Sorted.{IsStrictlyIncreasing}
 use Rattle.std.proofs.lemmas.List.Elements.{All-from_get_or}
