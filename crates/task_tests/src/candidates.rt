@@ -9,12 +9,9 @@ use std::alloc::Global;
 pub(crate) type PartRow = (&'static str, &'static [u64], Option<u64>);
 
 fn predicate_of(normal: &Normal, name: &str) -> Option<u64> {
-    for (place, row) in normal.predicates.as_slice().iter().enumerate() {
-        if row.name.as_slice() == name.as_bytes() {
-            return Some(place as u64);
-        }
-    }
-    None
+    let mut rows = normal.predicates.as_slice().iter();
+    let place = rows.position(|row| row.name.as_slice() == name.as_bytes())?;
+    Some(place as u64)
 }
 
 fn part_of(alloc: Global, normal: &Normal, row: PartRow) -> Option<Part> {
@@ -58,11 +55,9 @@ pub(crate) fn are_candidates(
     candidates: &[Candidate],
     rows: &[&[PartRow]],
 ) -> bool {
-    for (place, candidate) in candidates.iter().enumerate() {
-        match rows.get(place) {
-            Some(row) if is_candidate(alloc, normal, candidate, row) => {}
-            _ => return false,
-        }
-    }
     candidates.len() == rows.len()
+        && candidates
+            .iter()
+            .zip(rows)
+            .all(|(found, row)| is_candidate(alloc, normal, found, row))
 }

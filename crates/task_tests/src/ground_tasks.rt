@@ -56,29 +56,25 @@ fn is_reached(ground: &Ground, reached: &Reached, task: &Task) -> bool {
 
 fn is_fact(fact: &Fact, layer: u64, row: &(&str, Option<u64>)) -> bool {
     fact.shown.as_slice() == row.0.as_bytes()
-        && match row.1 {
-            Some(number) => fact.derived && layer == number,
-            None => !fact.derived && layer == 0,
-        }
+        && fact.derived == row.1.is_some()
+        && layer == row.1.unwrap_or(0)
 }
 
 fn are_facts(facts: &[Fact], layers: &[u64], rows: &[(&str, Option<u64>)]) -> bool {
-    for (place, fact) in facts.iter().enumerate() {
-        match (layers.get(place), rows.get(place)) {
-            (Some(layer), Some(row)) if is_fact(fact, *layer, row) => {}
-            _ => return false,
-        }
-    }
-    facts.len() == rows.len() && layers.len() == rows.len()
+    facts.len() == rows.len()
+        && layers.len() == rows.len()
+        && facts
+            .iter()
+            .zip(layers)
+            .zip(rows)
+            .all(|((fact, layer), row)| is_fact(fact, *layer, row))
 }
 
 fn has_facts(alloc: Global, reached: &Reached, rows: &[(&str, Option<u64>)]) -> bool
     requires { IsLawful reached.now }
 {
-    match layers(alloc, reached) {
-        Ok(layers) => are_facts(reached.facts.as_slice(), layers.as_slice(), rows),
-        Err(_) => false,
-    }
+    let facts = reached.facts.as_slice();
+    matches!(layers(alloc, reached), Ok(layers) if are_facts(facts, layers.as_slice(), rows))
 }
 
 fn is_reached_so(alloc: Global, ground: &Ground, row: &Grounded) -> bool

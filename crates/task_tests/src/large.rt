@@ -34,24 +34,12 @@ fn reaches(alloc: Global, ground: Ground, facts: usize, actions: usize) -> Resul
     Ok(has_sizes(&reached?, facts, actions))
 }
 
-fn are_lines_reached(alloc: Global) -> Result<bool, AllocError> {
-    reaches(alloc, line_task(alloc, 200000)?, 400000, 399998)
-}
-
-fn is_half_reached(alloc: Global) -> Result<bool, AllocError> {
-    let ground = ring_task(alloc, 2000)?;
-    let are_there = ground.actions.as_slice().len() == 2000;
-    Ok(reaches(alloc, ground, 1000, 1000)? && are_there)
-}
-
 #[test]
-fn two_lines_and_half_a_ring_are_reached(rt: HostRuntime) {
-    assert!(rt;
-        matches!(are_lines_reached(rt.alloc()), Ok(true)),
-        "two lines"
-    );
-    assert!(rt;
-        matches!(is_half_reached(rt.alloc()), Ok(true)),
-        "half a ring"
-    );
+fn two_lines_and_half_a_ring_are_reached(rt: HostRuntime) -> Result<(), AllocError> {
+    let lines = line_task(rt.alloc(), 200000)?;
+    assert!(rt; reaches(rt.alloc(), lines, 400000, 399998)?, "two lines");
+    let ring = ring_task(rt.alloc(), 2000)?;
+    assert!(rt; ring.actions.as_slice().len() == 2000, "a ring");
+    assert!(rt; reaches(rt.alloc(), ring, 1000, 1000)?, "half a ring");
+    Ok(())
 }

@@ -173,24 +173,18 @@ pub(crate) fn is_shown<R: Shown>(names: &Names<'_>, row: &R, text: &str) -> bool
 
 /// Whether the rows are those of the lines, in their order.
 pub(crate) fn are_in_order<R: Shown>(names: &Names<'_>, rows: &[R], lines: &[&str]) -> bool {
-    for (place, row) in rows.iter().enumerate() {
-        match lines.get(place) {
-            Some(text) if is_shown(names, row, text) => {}
-            _ => return false,
-        }
-    }
     rows.len() == lines.len()
+        && rows
+            .iter()
+            .zip(lines)
+            .all(|(row, line)| is_shown(names, row, line))
 }
 
 /// How many of the rows have this line.
 fn count<R: Shown>(names: &Names<'_>, rows: &[R], text: &str) -> usize {
-    let mut count = 0usize;
-    for row in rows {
-        if is_shown(names, row, text) {
-            count = count.saturating_add(1);
-        }
-    }
-    count
+    rows.iter()
+        .filter(|row| is_shown(names, *row, text))
+        .count()
 }
 
 /// Whether the rows are those of the lines, which differ from one another, each as often as is said, in whatever order.

@@ -12,10 +12,8 @@ struct Ones(&'static [&'static [PartRow]]);
 
 impl Asked for Ones {
     fn is_answered(&self, alloc: Global, normal: &Normal) -> bool {
-        match one_predicate(alloc, normal) {
-            Ok(ones) => are_candidates(alloc, normal, ones.as_slice(), self.0),
-            Err(_) => false,
-        }
+        let ones = one_predicate(alloc, normal);
+        matches!(ones, Ok(ones) if are_candidates(alloc, normal, ones.as_slice(), self.0))
     }
 }
 

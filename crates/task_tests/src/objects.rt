@@ -12,10 +12,7 @@ fn pushed(alloc: Global, numbers: &[u64]) -> Result<Objects, AllocError> {
 }
 
 fn are_kept(objects: Result<Objects, AllocError>, numbers: &[u64]) -> bool {
-    match objects {
-        Ok(objects) => objects.as_slice() == numbers,
-        Err(_) => false,
-    }
+    matches!(objects, Ok(objects) if objects.as_slice() == numbers)
 }
 
 static LISTS: [&[u64]; 4] = [&[3, 1, 4], &[3, 1, 4, 1], &[], &[5, 6, 7, 8]];

@@ -13,13 +13,8 @@ struct Search(u64, u64, &'static [&'static [PartRow]]);
 
 impl Asked for Search {
     fn is_answered(&self, alloc: Global, normal: &Normal) -> bool {
-        match find(alloc, normal, self.0) {
-            Ok(found) => {
-                found.tried == self.1
-                    && are_candidates(alloc, normal, found.accepted.as_slice(), self.2)
-            }
-            Err(_) => false,
-        }
+        matches!(find(alloc, normal, self.0), Ok(found) if found.tried == self.1
+            && are_candidates(alloc, normal, found.accepted.as_slice(), self.2))
     }
 }
 
