@@ -1,5 +1,5 @@
 -- Candidates with one part, and those with one part more than a candidate, in the order in which they are tried (Helmert 2009, section 5).
-use Rattle.std.specs.Prelude.{ℕ, zero, suc, Bool, true, false, not, ◌&&◌, nat_eq, nat_lt, List, [], ◌∷◌, map, length, get_or, filter, Option, Some, None, slice_get, if◌then◌else◌}
+use Rattle.std.specs.Prelude.{ℕ, zero, suc, Bool, false, not, ◌&&◌, nat_eq, nat_lt, List, [], ◌∷◌, map, length, get_or, filter, Option, Some, None, slice_get, if◌then◌else◌}
 use Rattle.std.specs.List.{list_any, flat_map, range_with_len, position_or_len}
 use Rattle.std.specs.Option.{option_map_or}
 use Rattle.normal_task.specs.declared.task.Normal.{Normal}

@@ -1,5 +1,5 @@
 -- A scope with one variable more, and its table.
-use Rattle.std.proofs.Common.{◌≡◌, ℕ, suc, ◌+◌, ◌<◌, Bool, true, false, List, ◌∷◌, drop, length, get_or, Option, Some, Bor, refl, sym, ap, ◌∙◌, arith, drop-cons, add-one, if◌then◌else◌}
+use Rattle.std.proofs.Common.{◌≡◌, ℕ, suc, ◌+◌, ◌<◌, Bool, true, false, List, ◌∷◌, drop, length, get_or, Some, Bor, refl, sym, ap, ◌∙◌, arith, drop-cons, add-one, if◌then◌else◌}
 use Rattle.std.specs.Option.{option_map}
 use Rattle.indexmap.specs.IndexMap.{IndexMap, Updates}
 use Rattle.pddl_parser.specs.declared.types.Domain.{Domain}

@@ -34,7 +34,7 @@ use Rattle.normal_task.specs.declared.task.CostRow.TheVariants as costs
 use Rattle.normal_task.specs.declared.task.ValueRow.{ValueRow}
 use Rattle.normal_task.specs.Numbers.{head_names, function_number}
 use Rattle.normal_task.specs.Meaning as task
-use Rattle.normal_task.specs.Meaning.{Binding, objects_at, is_same_value}
+use Rattle.normal_task.specs.Meaning.{Binding, is_same_value}
 use Rattle.normal_task.specs.Parts.{Scope}
 use Rattle.normal_task.specs.Normalised.{parameter_scope, cost_row, increase_row, action_cost, once_after, value_row}
 use Rattle.normal_task.proofs.Alls.{all-left, all-right, all-both_tests}

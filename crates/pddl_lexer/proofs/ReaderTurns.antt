@@ -1,5 +1,5 @@
 -- What one turn of the reader's loop keeps.
-use Rattle.std.proofs.Common.{◌≡◌, ℕ, suc, ◌<◌, ◌≤◌, ◌+◌, ◌-◌, ◌^◌, Bool, cond, eqb, ltb, true, false, List, [], ◌∷◌, ◌++◌, length, not, ◌==◌, get_or, take, drop, Option, Some, None, refl, sym, ap, subst, ◌∙◌, arith}
+use Rattle.std.proofs.Common.{◌≡◌, ℕ, suc, ◌<◌, ◌≤◌, ◌+◌, ◌-◌, ◌^◌, cond, eqb, ltb, true, false, List, [], ◌∷◌, ◌++◌, length, not, ◌==◌, get_or, take, drop, Option, Some, None, refl, sym, ap, subst, ◌∙◌, arith}
 use Rattle.std.proofs.lemmas.List.{take_all, length-take}
 use Rattle.std.specs.List.{prefix_len, take_while}
 use Rattle.std.specs.Vec.{vec_len}

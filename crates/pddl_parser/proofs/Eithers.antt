@@ -7,7 +7,7 @@ use Rattle.pddl_parser.specs.declared.end.ParseEnd.TheVariants as ends
 use Rattle.pddl_parser.specs.declared.types.Head.{Head}
 use Rattle.pddl_parser.specs.declared.types.Named.{Named}
 use Rattle.pddl_parser.specs.declared.types.Typed.{Typed}
-use Rattle.pddl_parser.specs.Outcome.{Reading, Reads, Faults, made, both, own, Outcome, first}
+use Rattle.pddl_parser.specs.Outcome.{Reading, Reads, Faults, made, both, own, first}
 use Rattle.pddl_parser.specs.Shapes.{Check, passes, check_either}
 use Rattle.pddl_parser.specs.Values.{eithers}
 use Rattle.pddl_parser.proofs.Readings.{◌>>=◌}

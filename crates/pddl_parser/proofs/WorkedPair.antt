@@ -1,5 +1,5 @@
 -- The plans of the lamp: one switch, which costs 3.
-use Rattle.std.proofs.Common.{◌≡◌, ℕ, ◌<◌, Bool, true, false, ◌||◌, List, [], ◌∷◌, ◌++◌, map, Option, Some, inl, inr, ◌⊎◌, refl, sym, ap, ◌∙◌, subst, arith}
+use Rattle.std.proofs.Common.{◌≡◌, ℕ, Bool, true, false, ◌||◌, List, [], ◌∷◌, ◌++◌, map, Option, Some, inl, inr, refl, sym, ap, ◌∙◌, subst, arith}
 use Rattle.std.specs.Prelude.{sum, codes, IsSome, unwrap_or}
 use Rattle.std.proofs.lemmas.Bool.{or_left, true≢false}
 use Rattle.lists.proofs.Items.{among_contains, Among}
@@ -11,7 +11,7 @@ use Rattle.pddl_parser.specs.declared.types.Effect.{Effect}
 use Rattle.pddl_parser.specs.declared.types.Effect.TheVariants.{Add, Increase}
 use Rattle.pddl_parser.specs.Objects.{Binding}
 use Rattle.pddl_parser.specs.Holds.{GroundAtom, State, ground, holds_step, holds}
-use Rattle.pddl_parser.specs.Step.{Step, name_of, increases_step, increases, total, action_cost, writes_step, writes}
+use Rattle.pddl_parser.specs.Step.{Step, name_of, increases_step, increases, total, writes_step, writes}
 use Rattle.pddl_parser.specs.Plan.{pddl_task, HasPlan}
 use Rattle.pddl_parser.specs.WorkedPair.{start, alone, switch, lamp, lit_lamp}
 use Rattle.pddl_parser.proofs.ConditionCases as c

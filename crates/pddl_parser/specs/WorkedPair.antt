@@ -1,5 +1,5 @@
 -- A domain and a problem for worked examples: a lamp that one action switches on, which costs 3.
-use Rattle.std.specs.Prelude.{ℕ, true, List, [], ◌∷◌, codes}
+use Rattle.std.specs.Prelude.{true, [], ◌∷◌, codes}
 use Rattle.pddl_lexer.specs.declared.position.At.{At}
 use Rattle.pddl_parser.specs.declared.types.Action.{Action}
 use Rattle.pddl_parser.specs.declared.types.Atom as atoms

@@ -11,10 +11,9 @@ use Rattle.sas_task.specs.declared.parts.Rule.{Rule}
 use Rattle.sas_task.specs.Output.{Line, numeral, counted, bytes_of, text_of, pair_lines, variable_lines, group_lines, goal_lines, state_lines, prevail, effect_line, operator_lines, rule_lines, lines, version_lines, metric_lines}
 use Rattle.sas_task.specs.Task.{Task, of_parts}
 use Rattle.sas_task.specs.Valid.{IsValid, IsValue, IsValidGroup, IsValidEffect, IsValidOperator, IsValidRule, SetAlike, default_of}
-use Rattle.sas_lines.specs.declared.fault.SasPlace.{SasPlace}
 use Rattle.sas_lines.specs.declared.fault.SasPlace.TheVariants as places
 use Rattle.sas_lines.specs.Contexts.{so_far}
-use Rattle.sas_lines.specs.Forms.{◌>>=◌, ◌>>◌, Unread, Form, followed, unread, pieces_of, in_section, section, listed}
+use Rattle.sas_lines.specs.Forms.{◌>>=◌, ◌>>◌, Unread, unread, pieces_of, section, listed}
 use Rattle.sas_lines.specs.Numbers.{number_line}
 use Rattle.sas_sections.specs.Operators.{operator, operators, spared}
 use Rattle.sas_sections.specs.Rules.{rule, rules}

@@ -10,7 +10,7 @@ use Rattle.std.proofs.lemmas.List.Elements.{All-nil, All-cons, All-head, All-tai
 use Rattle.std.proofs.lemmas.List.Splits.{slice_split-cons_yes, slice_split-cons_no}
 use Rattle.sas_task.specs.Output.{Line, numeral}
 use Rattle.sas_task.specs.Output as output
-use Rattle.sas_lines.specs.Words.{is_same, is_name, less_space}
+use Rattle.sas_lines.specs.Words.{is_same, is_name}
 use Rattle.sas_lines.specs.Words as words
 use Rattle.sas_lines.specs.Forms.{Unread, Form, ◌>>=◌, ◌>>◌, pieces_of, passing, met, next_line, word, fixed, begin_words, line, end_words, given, with_words}
 use Rattle.sas_lines.specs.Numbers.{number_line, at_least, number_or_none_line, number, number_or_none}

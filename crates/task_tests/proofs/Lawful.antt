@@ -1,8 +1,7 @@
 -- Tasks of moves are lawful.
-use Rattle.std.proofs.Common.{◌≡◌, ℕ, zero, suc, ◌+◌, ◌<◌, Bool, true, false, not, ◌&&◌, List, [], ◌∷◌, length, replicate, nat_lt, refl, sym, ap, ◌∙◌, subst, arith}
+use Rattle.std.proofs.Common.{◌≡◌, ℕ, zero, suc, ◌<◌, Bool, true, false, not, ◌&&◌, List, [], ◌∷◌, length, replicate, refl, ap, ◌∙◌, arith}
 use Rattle.std.specs.Prelude.{All as Each, codes}
-use Rattle.std.specs.List.{list_all}
-use Rattle.std.proofs.lemmas.Bool.{and_from, lt-ltb}
+use Rattle.std.proofs.lemmas.Bool.{lt-ltb}
 use Rattle.std.proofs.lemmas.List.{length-replicate, get_or-replicate}
 use Rattle.std.proofs.lemmas.List.Sums.{list_all-from_AllPass}
 use Rattle.normal_task.specs.declared.task.GroundAtom.{GroundAtom}
@@ -12,7 +11,7 @@ use Rattle.static_matcher.specs.declared.types.Ground.{Ground}
 use Rattle.static_matcher.specs.declared.types.GroundAction.{GroundAction}
 use Rattle.static_matcher.specs.declared.types.GoalRow.TheVariants.{All}
 use Rattle.static_matcher.specs.Lawful.{is_object, is_atom, is_basic_atom, is_action, IsLawful}
-use Rattle.task_tests.specs.Moves.{atom_at, row_of, move_of, IsMove, IsStart, AreStarts}
+use Rattle.task_tests.specs.Moves.{atom_at, row_of, IsMove, IsStart, AreStarts}
 
 module _ (count : ℕ) (init : List GroundAtom) (moves : List GroundAction) where
   abbrev pub task_of : Ground

@@ -1,5 +1,5 @@
 -- The variables with their tallies, in order.
-use Rattle.std.proofs.Common.{◌≡◌, map, length, get_or, ap, ◌∙◌}
+use Rattle.std.proofs.Common.{map, length, get_or, ap, ◌∙◌}
 use Rattle.std.specs.List.{range_with_len}
 use Rattle.sas_orders.specs.InOrder.{in_order}
 use Rattle.order_variables.specs.declared.counted.Counted.{Counted}

@@ -3,7 +3,6 @@ use Rattle.std.proofs.Common.{◌<◌, length, sym, ap, ◌∙◌, subst}
 use Rattle.std.specs.List.{All}
 use Rattle.sas_restriction.specs.Choice.{IsChoice}
 use Rattle.sas_restriction.specs.Restriction.{restriction}
-use Rattle.sas_restriction.specs.Reordered.{variable_order}
 use Rattle.sas_restriction.proofs.Order.{order_below, choice}
 use Rattle.sas_restriction.proofs.Reordered.{all_stay, reordered_is}
 use Rattle.order_variables.proofs.Reorders.{all_leave, shown_is}

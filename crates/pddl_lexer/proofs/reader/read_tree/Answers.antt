@@ -4,7 +4,7 @@ use Rattle.pddl_lexer.specs.declared.fault.Fault.{Fault}
 use Rattle.pddl_lexer.specs.declared.fault.TreeEnd.TheVariants as ends
 use Rattle.pddl_lexer.proofs.ReaderTurns.{Whole, IsAnswer, counts, few_open, line_fits, column_fits, fault_here, fault_end, first_same, some_first, passed_more, passed_all, passed_answer, first_and_others, first_and_after, nothing}
 use Rattle.pddl_lexer.proofs.reader.read_tree.Goals as goal
-use Rattle.pddl_lexer.proofs.reader.read_tree.Goals.{In-None, After-drop-builder-2, After-drop-builder-in-Some, After-drop-builder-in-Some-kind_at_end}
+use Rattle.pddl_lexer.proofs.reader.read_tree.Goals.{In-None, After-drop-builder-2}
 
 -- ---- a fault at a place
 

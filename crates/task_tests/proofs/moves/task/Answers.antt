@@ -1,6 +1,4 @@
-use Rattle.std.proofs.Common.{◌≡◌, ◌∷◌, [], sym, ◌∙◌, subst, false}
-use Rattle.std.specs.Prelude.{codes}
-use Rattle.static_matcher.specs.declared.types.Ground.{Ground}
+use Rattle.std.proofs.Common.{◌≡◌, sym, ◌∙◌, subst, false}
 use Rattle.static_matcher.specs.declared.types.GoalRow.TheVariants.{All}
 use Rattle.static_matcher.specs.Lawful.{IsLawful}
 use Rattle.task_tests.proofs.Lawful.{task_of, lawful}
