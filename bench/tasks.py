@@ -207,6 +207,18 @@ def ring(nodes):
     )
 
 
+def chains(objects):
+    """A chain of objects, and an action over five of them that asks for the links between these and takes one away: no link is
+    static, so that each choice of five objects is tried."""
+    return (
+        b"""(define (domain chains) (:predicates (linked ?x ?y) (joined ?x ?y))
+(:action join :parameters (?a ?b ?c ?d ?e) :precondition (and (linked ?a ?b) (linked ?b ?c) (linked ?c ?d) (linked ?d ?e))
+ :effect (and (joined ?a ?e) (not (linked ?a ?b)))))""",
+        b"(define (problem p) (:domain chains) (:objects " + b" ".join(b"o%d" % i for i in range(objects)) + b") (:init "
+        + b" ".join(b"(linked o%d o%d)" % (i, i + 1) for i in range(objects - 1)) + b") (:goal (joined o0 o4)))",
+    )
+
+
 def walled_grid(squares):
     """Stones are pushed over a square grid, of whose squares every seventh is a wall, to the rim that is opposite."""
     side = round(squares ** 0.5)
