@@ -58,25 +58,13 @@ abbrev with_parts : Reached → List Fact → List ℕ → GoalRow ℕ → Reach
 with_parts b facts init goal = record { facts = facts; init = init; actions = b.actions; axioms = b.axioms; goal = goal; metric = b.metric }
 
 -- what is made of facts, initial state and goal alone is the same
-from_parts : {X : Type 0} (f : List Fact → List ℕ → GoalRow ℕ → X) (a b : Reached) → AreAlikeReached a b → f a.facts a.init a.goal ≡ f b.facts b.init b.goal
-from_parts f a b is = ap (λ facts. f facts a.init a.goal) is.facts ∙ ap (λ init. f b.facts init a.goal) is.init ∙ ap (λ goal. f b.facts b.init goal) is.goal
+from_parts : {X : Type 0} (f : Reached → X) (a b : Reached) → AreAlikeReached a b → f (with_parts b a.facts a.init a.goal) ≡ f b
+from_parts f a b is = ap (λ facts. f (with_parts b facts a.init a.goal)) is.facts ∙ ap (λ init. f (with_parts b b.facts init a.goal)) is.init ∙ ap (λ goal. f (with_parts b b.facts b.init goal)) is.goal
 
 module _ (cover : Cover) (layers : List ℕ) (a b : Reached) (is : AreAlikeReached a b) where
-  variables-same : (map (variable_over a layers) cover ++ (goal_part_of cover layers a).variables) ≡ (map (variable_over b layers) cover ++ (goal_part_of cover layers b).variables)
-  variables-same = from_parts (λ facts init goal. let r = with_parts b facts init goal in map (variable_over r layers) cover ++ (goal_part_of cover layers r).variables) a b is
-
-  state-same : (values_in cover (initial (reached_task a)) ++ (goal_part_of cover layers a).values) ≡ (values_in cover (initial (reached_task b)) ++ (goal_part_of cover layers b).values)
-  state-same = from_parts (λ facts init goal. let r = with_parts b facts init goal in values_in cover (initial (reached_task r)) ++ (goal_part_of cover layers r).values) a b is
-
-  goal-same : (goal_part_of cover layers a).goal ≡ (goal_part_of cover layers b).goal
-  goal-same = from_parts (λ facts init goal. (goal_part_of cover layers (with_parts b facts init goal)).goal) a b is
-
-  rules-same : (goal_part_of cover layers a).rules ≡ (goal_part_of cover layers b).rules
-  rules-same = from_parts (λ facts init goal. (goal_part_of cover layers (with_parts b facts init goal)).rules) a b is
-
   all-rules : SameMembers (flat_map (rules_at cover) a.axioms ++ (goal_part_of cover layers a).rules) (flat_map (rules_at cover) b.axioms ++ (goal_part_of cover layers b).rules)
   all-rules =
-      subst (λ rules. SameMembers (flat_map (rules_at cover) a.axioms ++ (goal_part_of cover layers a).rules) (flat_map (rules_at cover) b.axioms ++ rules)) rules-same (λ r. (
+      subst (λ rules. SameMembers (flat_map (rules_at cover) a.axioms ++ (goal_part_of cover layers a).rules) (flat_map (rules_at cover) b.axioms ++ rules)) (from_parts (λ r. (goal_part_of cover layers r).rules) a b is) (λ r. (
         append_part (flat_map (rules_at cover) a.axioms) (flat_map (rules_at cover) b.axioms) (goal_part_of cover layers a).rules (pieces_part (rules_at cover) a.axioms b.axioms (λ row. (is.axioms row).0)) r,
         append_part (flat_map (rules_at cover) b.axioms) (flat_map (rules_at cover) a.axioms) (goal_part_of cover layers a).rules (pieces_part (rules_at cover) b.axioms a.axioms (λ row. (is.axioms row).1)) r,
       ))
@@ -88,12 +76,12 @@ pub one_encoding : (cover : Cover) (mutexes others : List (List ℕ)) (layers : 
 one_encoding cover mutexes others layers a b one other is same p q =
     record {
       metric = p.metric ∙ is.metric ∙ sym q.metric;
-      variables = p.variables ∙ variables-same cover layers a b is ∙ sym q.variables;
+      variables = p.variables ∙ from_parts (λ r. map (variable_over r layers) cover ++ (goal_part_of cover layers r).variables) a b is ∙ sym q.variables;
       groups =
           permuted (groups_of cover mutexes) (groups_of cover others) one.groups other.groups p.groups q.groups
           (mapped (group_of cover) (filter (λ group. nat_le 2 (length group)) mutexes) (filter (λ group. nat_le 2 (length group)) others) (filtered (λ group. nat_le 2 (length group)) mutexes others same));
-      state = p.state ∙ state-same cover layers a b is ∙ sym q.state;
-      goal = p.goal ∙ goal-same cover layers a b is ∙ sym q.goal;
+      state = p.state ∙ from_parts (λ r. values_in cover (initial (reached_task r)) ++ (goal_part_of cover layers r).values) a b is ∙ sym q.state;
+      goal = p.goal ∙ from_parts (λ r. (goal_part_of cover layers r).goal) a b is ∙ sym q.goal;
       operators = operators_part cover mutexes others layers a b one other (λ action. (is.actions action).0) p q;
       back = operators_part cover others mutexes layers b a other one (λ action. (is.actions action).1) q p;
       rules =

@@ -1,18 +1,17 @@
 -- The covers meet what the encoding asks.
-use Rattle.std.proofs.Common.{◌≡◌, ℕ, ◌<◌, ◌≤◌, Bool, true, false, List, [], ◌∷◌, ◌++◌, map, length, refl, sym, ap, ◌∙◌, subst, inl, inr, arith}
+use Rattle.std.proofs.Common.{◌≡◌, not, ℕ, ◌<◌, ◌≤◌, Bool, true, false, List, [], ◌∷◌, ◌++◌, map, length, refl, sym, ap, ◌∙◌, subst, inl, inr, arith}
 use Rattle.std.specs.List.{Contains, All, range_with_len}
 use Rattle.std.specs.List.Sorted.{IsStrictlyIncreasing}
 use Rattle.std.proofs.lemmas.Bool.{both_ways, cases_eq, cases_lt}
 use Rattle.std.proofs.lemmas.List.Elements.{All-contains, All-from_get_or, Contains-get_or}
 use Rattle.std.proofs.lemmas.List.FromFn.{length-map-range_with_len, get_or-map-range_with_len}
-use Rattle.lists.proofs.Members.{no_member, member_first, all_from_members, member_single}
-use Rattle.planning.specs.Task.{State}
+use Rattle.lists.proofs.Members.{no_member, member_first, filter_every, all_from_members, member_single}
 use Rattle.relaxed_reach.specs.declared.types.Reached.{Reached}
 use Rattle.relaxed_reach.specs.ReachedTask.{is_derived}
 use Rattle.fdr_effects.specs.Places.{Cover, set_of}
-use Rattle.relaxed_reach.specs.Exclusive.{AtMostOne, IsExclusive}
+use Rattle.relaxed_reach.specs.Exclusive.{IsExclusive}
 use Rattle.fdr_encoder.specs.Covers.{singles, IsGroupCover, MakesVariables, IsBasicGroup}
-use Rattle.group_cover.specs.Cover.{IsCover, AreParts, uncovered, single}
+use Rattle.group_cover.specs.Cover.{IsCover, AreParts, uncovered, single, is_covered}
 use Rattle.group_cover.proofs.Parts.{covers_all, share_as_groups, lie_inside, are_filled, are_sorted, are_facts}
 
 -- a set of fewer than two facts is the one fact that it has
@@ -21,9 +20,6 @@ one_fact [] f in' small = absurd (no_member f in')
 one_fact (g ∷ []) f in' small = ap (λ h. h ∷ []) (member_single g f in')
 one_fact (g ∷ h ∷ set) f in' small = absurd (omega arith)
 
-alone_exclusive : (state : State ℕ) (f : ℕ) → AtMostOne state (f ∷ [])
-alone_exclusive state f g h g-in h-in g-true h-true = sym (member_single f g g-in) ∙ member_single f h h-in
-
 -- each large set lies inside a group
 abbrev LieIn : List (List ℕ) → Cover → Type 0
 LieIn groups cover = (var : ℕ) → var < length cover → 2 ≤ length (set_of cover var) → (group : List ℕ) × Contains groups group × ((fact : ℕ) → Contains (set_of cover var) fact → Contains group fact)
@@ -31,7 +27,7 @@ LieIn groups cover = (var : ℕ) → var < length cover → 2 ≤ length (set_of
 exclusive_sets : (reached : Reached) (groups : List (List ℕ)) (cover : Cover) → All (IsExclusive reached) groups → LieIn groups cover → All (IsExclusive reached) cover
 exclusive_sets reached groups cover exclusive inside =
     All-from_get_or (IsExclusive reached) cover [] (λ var below state reachable. elim (cases_lt (length (set_of cover var)) 2) [
-      | inl small ↦ λ f g f-in g-in f-true g-true. alone_exclusive state f f g (member_first f []) (subst (λ l. Contains l g) (one_fact (set_of cover var) f f-in small) g-in) f-true g-true
+      | inl small ↦ λ f g f-in g-in f-true g-true. member_single f g (subst (λ l. Contains l g) (one_fact (set_of cover var) f f-in small) g-in)
       | inr large ↦
           let group = inside var below large in
           λ f g f-in g-in f-true g-true. All-contains (IsExclusive reached) groups group.0 exclusive group.1 state reachable f g (group.2 f f-in) (group.2 g g-in) f-true g-true
@@ -57,11 +53,8 @@ cover_from_groups reached groups cover are-groups is =
       ];
     }
   where
-    law : (group : List ℕ) → Contains groups group → IsBasicGroup reached group
-    law group in' = All-contains (IsBasicGroup reached) groups group are-groups in'
-
     basic : (group : List ℕ) → Contains groups group → (f : ℕ) → Contains group f → is_derived reached.facts f ≡ false
-    basic group in' f f-in = All-contains (λ f. is_derived reached.facts f ≡ false) group f (law group in').basic f-in
+    basic group in' f f-in = All-contains (λ f. is_derived reached.facts f ≡ false) group f (All-contains (IsBasicGroup reached) groups group are-groups in').basic f-in
 
     alone : (var fact : ℕ) → var < length cover → Contains (set_of cover var) fact → is_derived reached.facts fact ≡ true → set_of cover var ≡ fact ∷ []
     alone var fact below in' derived =
@@ -127,12 +120,9 @@ module _ (facts : ℕ) where
           filled = λ var below. let one = single_at var (at_count var below) in subst (λ l. 0 < length l) (sym one) (omega arith);
           covered = λ fact below. (fact, subst (λ k. fact < k) (sym singles_count) below, subst (λ l. Contains l fact) (sym (single_at fact below)) (member_first fact []));
         };
-        inside = λ var below large. let one = ap (λ (l : List ℕ). length l) (single_at var (at_count var below)) in absurd (two_ones (length (set_of (singles facts) var)) one large);
+        inside = λ var below large. let one : length (set_of (singles facts) var) ≡ 1 = ap (λ (l : List ℕ). length l) (single_at var (at_count var below)) in absurd (omega (arith, one, large));
         shared = λ var other fact below other-below apart in' other-in. absurd (apart (single_member var fact below in' ∙ sym (single_member other fact other-below other-in)));
       }
-    where
-      two_ones : (k : ℕ) → k ≡ 1 → 2 ≤ k → ⊥
-      two_ones k one large = omega arith
 
 pub singles_are_cover : (reached : Reached) → MakesVariables reached (singles (length reached.facts))
 singles_are_cover reached = cover_from_groups reached [] (singles (length reached.facts)) (λ k d below. absurd (omega arith)) (singles_cover (length reached.facts))
@@ -145,12 +135,8 @@ no_parts : (full : Bool) (parts : List (List ℕ)) → AreParts full [] [] parts
 no_parts full [] are = refl
 no_parts full (set ∷ parts) are = absurd (no_member are.0.group are.0.best.of_groups)
 
-all_uncovered : (facts : List ℕ) → uncovered [] facts ≡ facts
-all_uncovered [] = refl
-all_uncovered (fact ∷ facts) = ap (λ l. fact ∷ l) (all_uncovered facts)
-
 pub cover_without_groups : (full : Bool) (facts : ℕ) (cover : Cover) → IsCover full facts [] cover → cover ≡ singles facts
 cover_without_groups full facts cover is =
     is.whole
     ∙ ap (λ (parts : List (List ℕ)). parts ++ map single (uncovered parts (range_with_len 0 facts))) (no_parts full is.parts is.in_turn)
-    ∙ ap (map single) (all_uncovered (range_with_len 0 facts))
+    ∙ ap (map single) (filter_every (λ fact. not (is_covered [] fact)) (range_with_len 0 facts) (λ fact in'. refl))

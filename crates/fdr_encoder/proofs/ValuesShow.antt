@@ -4,7 +4,7 @@ use Rattle.std.specs.Cmp.{both_ways as same_tests}
 use Rattle.std.specs.List.{Contains, list_any, find, flat_map, range_with_len, position_or_len}
 use Rattle.std.specs.Option.{option_map_or}
 use Rattle.std.proofs.Math.Bool.{and-true}
-use Rattle.std.proofs.lemmas.Bool.{cases_Bool, cases_lt, cond-true, cond-false, eqb-true, eq-eqb, and_parts, and_from, false≢true}
+use Rattle.std.proofs.lemmas.Bool.{lt-ltb, le-ltb, cases_Bool, cases_lt, cond-true, cond-false, eqb-true, eq-eqb, and_parts, and_from, false≢true}
 use Rattle.std.proofs.lemmas.Option.{none-some}
 use Rattle.std.proofs.lemmas.List.FromFn.{length-map-range_with_len, get_or-map-range_with_len}
 use Rattle.sas_task.specs.declared.parts.Pair.{Pair}
@@ -155,16 +155,10 @@ module _ (reached : Reached) (lawful : IsLawful reached) (cover : Cover) (ok : M
   shown state var = cond (ltb var n) (value_in cover state var) 1
 
   pub shown_low : (state : State ℕ) (var : ℕ) → var < n → shown state var ≡ value_in cover state var
-  shown_low state var low = cond-true (ltb var n) (value_in cover state var) 1 (ltb_true low)
-    where
-      ltb_true : var < n → ltb var n ≡ true
-      ltb_true low = grind (arith, low)
+  shown_low state var low = cond-true (ltb var n) (value_in cover state var) 1 (lt-ltb var n low)
 
   pub shown_past : (state : State ℕ) (var : ℕ) → n ≤ var → shown state var ≡ 1
-  shown_past state var past = cond-false (ltb var n) (value_in cover state var) 1 (ltb_false past)
-    where
-      ltb_false : n ≤ var → ltb var n ≡ false
-      ltb_false past = grind (arith, past)
+  shown_past state var past = cond-false (ltb var n) (value_in cover state var) 1 (le-ltb var n past)
 
   -- a vector of the task that shows a state without derived facts
   module _ (state : State ℕ) (one-state : AreExclusive cover state) (plain : (f : ℕ) → derived f ≡ true → state f ≡ false) (vector : List ℕ) (lists : Lists (length task.variables) (shown state) vector) where
@@ -196,17 +190,11 @@ module _ (reached : Reached) (lawful : IsLawful reached) (cover : Cover) (ok : M
 
       full_low : (var : ℕ) → var < n → get_or full_vector var 0 ≡ value_in cover full var
       unfolding full_value
-      full_low var low = full_at var (within cover mutexes layers reached task encoding var low) ∙ cond-true (ltb var n) (value_in cover full var) (cond (goal_holds full reached.goal) 0 1) (is_low var low)
-        where
-          is_low : (v : ℕ) → v < n → ltb v n ≡ true
-          is_low v low = grind (arith, low)
+      full_low var low = full_at var (within cover mutexes layers reached task encoding var low) ∙ cond-true (ltb var n) (value_in cover full var) (cond (goal_holds full reached.goal) 0 1) (lt-ltb var n low)
 
       full_past : (var : ℕ) → n ≤ var → var < length task.variables → get_or full_vector var 0 ≡ cond (goal_holds full reached.goal) 0 1
       unfolding full_value
-      full_past var past below = full_at var below ∙ cond-false (ltb var n) (value_in cover full var) (cond (goal_holds full reached.goal) 0 1) (is_past var past)
-        where
-          is_past : (v : ℕ) → n ≤ v → ltb v n ≡ false
-          is_past v past = grind (arith, past)
+      full_past var past below = full_at var below ∙ cond-false (ltb var n) (value_in cover full var) (cond (goal_holds full reached.goal) 0 1) (le-ltb var n past)
 
       rule_value : (var layer : ℕ) → var < length task.variables → layer_of task var ≡ Some layer → get_or full_vector var 0 ≡ cond (list_any (fires_for full_vector var) task.rules) 0 1
       rule_value var layer below is =
@@ -228,7 +216,7 @@ module _ (reached : Reached) (lawful : IsLawful reached) (cover : Cover) (ok : M
       unfolding full_vector
       full_completes =
           record {
-            count = full_count ∙ sym lists.count;
+            count = length-map-range_with_len full_value 0 (length task.variables) ∙ sym lists.count;
             basic = λ var below is.
                 let within' : var < length task.variables = subst (λ k. var < k) lists.count below in
                 elim (cases_lt var n) [
@@ -245,9 +233,6 @@ module _ (reached : Reached) (lawful : IsLawful reached) (cover : Cover) (ok : M
                 ∙ sym (found_value (fires_for full_vector var) task.rules (rule_after cover mutexes layers reached task encoding))
                 ∙ ap (λ d. option_map_or (λ (r : Rule). r.after) (firing_rule task full_vector var) d) (sym (default_is var layer within' is));
           }
-        where
-          full_count : length full_vector ≡ length task.variables
-          full_count = length-map-range_with_len full_value 0 (length task.variables)
 
       values_full : full_vector ≡ values task vector
       values_full = values_only task valid vector lists.count full_vector full_completes
