@@ -8,7 +8,6 @@ ghost use Rattle.static_matcher.specs.Literals.{initial};
 ghost use Rattle.relaxed_reach.specs.ReachedTask.{reached_task};
 ghost use Rattle.fdr_effects.specs.Places.{values_in};
 ghost use Rattle.group_cover.specs.Cover.{IsCover};
-ghost use Rattle.fdr_encoder.specs.Operators.{operators_at};
 ghost use Rattle.fdr_encoder.specs.Encoding as parts;
 ghost use Rattle.fdr_encoder.specs.GoalForms.{goal_part_in};
 ghost use Rattle.relaxed_reach.specs.Lawful.{IsLawful};
@@ -24,7 +23,7 @@ use fdr_effects::groups::groups;
 use group_cover::{Cover, Groups};
 use lists::List;
 use relaxed_reach::Reached;
-use sas_task::{Operator, Rule, SasTask, Variable};
+use sas_task::{Rule, SasTask, Variable};
 use std::alloc::{AllocError, Global};
 
 /// The encoding over a cover of the facts (Helmert 2009, section 6). The variable of a set of two or more facts has a
@@ -86,7 +85,7 @@ fn encode_over(
     let groups = groups(alloc, index, mutexes)?;
     let state = state(alloc, reached, index, goal)?;
     let pairs = goal.pairs(alloc, index.variables())?;
-    let operators = all_operators(alloc, reached, index)?;
+    let operators = operators(alloc, reached, index)?;
     let rules = all_rules(alloc, reached, index, goal)?;
     Ok(SasTask::from_parts(
         reached.metric,
@@ -132,18 +131,6 @@ fn state(
     )?;
     let mut all = start(alloc, truths.as_slice(), index.sets())?;
     goal.push_value(&mut all)?;
-    Ok(List::from_vec(all))
-}
-
-/// The operators of the actions.
-fn all_operators(
-    alloc: Global,
-    reached: &Reached,
-    index: &Index,
-) -> Result<List<Operator>, AllocError>
-    ensures { IfOk result (λ all. all ≡ flat_map (operators_at index.now) reached.now.actions) }
-{
-    let all = operators(alloc, index, reached.actions.as_slice())?;
     Ok(List::from_vec(all))
 }
 
