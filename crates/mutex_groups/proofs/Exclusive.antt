@@ -1,13 +1,13 @@
 -- Groups are exclusive: a reachable state of the reached task shows one of the normal task, where the instance has weight at most one.
-use Rattle.std.proofs.Common.{◌≡◌, ℕ, zero, suc, ◌+◌, ◌<◌, true, false, not, ◌&&◌, List, length, nat_eq, refl, sym, ap, ◌∙◌, subst, arith, inl, inr, Option, Some, None}
+use Rattle.std.proofs.Common.{◌≡◌, ℕ, true, false, not, ◌&&◌, List, length, nat_eq, refl, sym, ap, ◌∙◌, subst, arith, Option, Some, None}
 use Rattle.std.specs.List.{Contains, list_all, range_with_len, slice_get}
 use Rattle.std.specs.Option.{option_map, option_map_or, unwrap_or}
 use Rattle.std.proofs.lemmas.Bool.{true≢false, and_parts, eqb-true, not-true, not_from_false}
 use Rattle.std.specs.List.Sorted.{IsStrictlyIncreasing}
-use Rattle.std.proofs.lemmas.List.FromFn.{length-range_with_len, get_or-range_with_len}
 use Rattle.std.proofs.lemmas.List.Kept.{IsStrictlyIncreasing-filter}
 use Rattle.std.proofs.lemmas.Option.{slice_get-map}
 use Rattle.lists.proofs.NoRepeats.{among_range}
+use Rattle.lists.proofs.Ordered.{range_increasing}
 use Rattle.lists.proofs.Items.{Among, among_contains, filter_among, all_passes, each_passes, passing}
 use Rattle.normal_task.specs.declared.task.GroundAtom.{GroundAtom}
 use Rattle.normal_task.specs.declared.task.Normal.{Normal}
@@ -22,7 +22,7 @@ use Rattle.static_matcher.proofs.LawfulNormal.{keeps_statics, instances_ranked}
 use Rattle.relaxed_reach.specs.declared.types.Fact.{Fact}
 use Rattle.relaxed_reach.specs.declared.types.Reached.{Reached}
 use Rattle.relaxed_reach.specs.ReachedTask.{atoms_of}
-use Rattle.relaxed_reach.specs.Reachable.{is_among, number_of, numbering, fact_of}
+use Rattle.relaxed_reach.specs.Reachable.{is_among, number_of, fact_of}
 use Rattle.relaxed_reach.proofs.ReachedMeaning as reached_law
 use Rattle.relaxed_reach.proofs.OrderedFacts.{facts_apart}
 use Rattle.relaxed_reach.proofs.Numbers.{place_among, place_is}
@@ -139,16 +139,9 @@ groups_are_exclusive task candidates reached groups lawful formed are of accepte
 
 -- ---- sorted lists of basic facts
 
-rising : (a n : ℕ) → IsStrictlyIncreasing (range_with_len a n)
-rising a n k within =
-    let size = length-range_with_len a n in
-    let here = get_or-range_with_len a n k 0 (omega (arith, size, within)) in
-    let next = get_or-range_with_len a n (k + 1) 0 (omega (arith, size, within)) in
-    omega (arith, here, next)
-
 pub are_sorted : GroupsAreSorted
 are_sorted task candidates reached group is =
-    subst IsStrictlyIncreasing (sym is.facts) (IsStrictlyIncreasing-filter (covers_fact is.candidate is.instance reached.facts) (range_with_len 0 (length reached.facts)) (rising 0 (length reached.facts)))
+    subst IsStrictlyIncreasing (sym is.facts) (IsStrictlyIncreasing-filter (covers_fact is.candidate is.instance reached.facts) (range_with_len 0 (length reached.facts)) (range_increasing (length reached.facts)))
 
 pub are_facts : GroupsAreFacts
 are_facts task candidates reached group is fact in' =

@@ -47,9 +47,6 @@ module _ (task : Normal) (lawful : IsLawful task) (candidate : Candidate) (insta
   abbrev covered : List GroundAtom
   covered = filter (covers candidate instance) task.init
 
-  true-at-start : (atom : GroundAtom) → Among atom task.init → initial task atom ≡ true
-  true-at-start atom there = any_passes (λ known. is_same_atom known atom) atom task.init there (atom_same atom)
-
   of-start : (atom : GroundAtom) → initial task atom ≡ true → Among atom task.init
   of-start atom is =
       let found = passing (λ known. is_same_atom known atom) task.init is in
@@ -62,7 +59,7 @@ module _ (task : Normal) (lawful : IsLawful task) (candidate : Candidate) (insta
   are-those atom = (
     λ there.
         let kept = filter_among (covers candidate instance) atom task.init (among_contains covered atom there) in
-        (kept.1, true-at-start atom kept.0),
+        (kept.1, any_passes (λ known. is_same_atom known atom) atom task.init kept.0 (atom_same atom)),
     λ those. contains_among covered atom (among_filter (covers candidate instance) atom task.init (of-start atom those.1) those.0),
   )
 
