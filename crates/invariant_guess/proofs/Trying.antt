@@ -6,6 +6,8 @@ use Rattle.std.proofs.lemmas.List.{take-append-le}
 use Rattle.std.proofs.lemmas.List.Elements.{filter-append}
 use Rattle.std.proofs.lemmas.List.Folds.{list_any-append}
 use Rattle.lists.specs.Members.{is_among}
+use Rattle.std.proofs.Math.Bool.{or-false}
+use Rattle.lists.proofs.Members.{filter_every}
 use Rattle.lists.proofs.NoRepeats.{Once}
 use Rattle.lists.proofs.Items.{Among, filter_yes, filter_no, same_filter, slice_among}
 use Rattle.lists.proofs.LoopSteps.{take_got}
@@ -96,14 +98,10 @@ added_once queue (first ∷ more) once = by (cases_Bool (is_among is_same queue 
         rest = same_filter (λ (c : Candidate). not (is_among is_same (queue ++ first ∷ []) c)) (λ (c : Candidate). not (is_among is_same queue c)) more (λ c there. ap not (known c there))
           where
             known : (c : Candidate) → Among c more → is_among is_same (queue ++ first ∷ []) c ≡ is_among is_same queue c
-            known c there = list_any-append (is_same c) queue (first ∷ []) ∙ ap (λ b. is_among is_same queue c || (b || false)) (other c there) ∙ no_more (is_among is_same queue c)
+            known c there = list_any-append (is_same c) queue (first ∷ []) ∙ ap (λ b. is_among is_same queue c || (b || false)) (other c there) ∙ or-false (is_among is_same queue c)
               where
                 other : (c : Candidate) → Among c more → is_same c first ≡ false
                 other c there = false_from_ne_true (is_same c first) (λ is. once.0 (subst (λ x. Among x more) (same_candidate c first is) there))
-
-                no_more : (b : Bool) → (b || (false || false)) ≡ b
-                no_more true = refl
-                no_more false = refl
 
 -- ---- the loop
 
@@ -116,15 +114,11 @@ pub record IsTrying (task : Normal) (max : ℕ) (queue : List Candidate) (number
 
 pub at_first : (task : Normal) (max : ℕ) (queue accepted : List Candidate) → queue ≡ insert_all is_same [] (one_predicate task) → accepted ≡ [] → IsTrying task max queue 0 accepted
 at_first task max queue accepted is none = record {
-  queue_is = is ∙ added_once [] (one_predicate task) (once_one_predicate task) ∙ all-new (one_predicate task);
+  queue_is = is ∙ added_once [] (one_predicate task) (once_one_predicate task) ∙ filter_every (λ (c : Candidate). not (is_among is_same [] c)) (one_predicate task) (λ c in'. refl);
   within = omega arith;
   open_before = λ earlier before. absurd (omega (arith, before));
   accepted_are = none;
 }
-  where
-    all-new : (xs : List Candidate) → new_to [] xs ≡ xs
-    all-new [] = refl
-    all-new (x ∷ xs) = ap (λ l. x ∷ l) (all-new xs)
 
 module _ (task : Normal) (max : ℕ) (queue : List Candidate) (number : ℕ) (accepted : List Candidate) (trying : IsTrying task max queue number accepted) (more : number < max) (within : number < length queue)
     (tried : Candidate) (at : slice_get queue number ≡ Some tried) (queue' accepted' : List Candidate)
