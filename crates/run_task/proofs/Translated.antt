@@ -40,7 +40,7 @@ use Rattle.pass_book.specs.Passes.{IsChain}
 use Rattle.sas_task.specs.Task.{Task}
 use Rattle.sas_task.specs.Valid.{IsValid}
 use Rattle.sas_task.specs.Solution.{HasSolution, system as solutions}
-use Rattle.sas_task.specs.Keeps.{HasShorterSolution, Keeps, KeepsChanging}
+use Rattle.sas_task.specs.Keeps.{Keeps, KeepsChanging}
 use Rattle.sas_task.proofs.KeepsLaws.{shorter_through}
 use Rattle.run_task.specs.RunTask.{IsRunEncoding}
 use Rattle.run_task.specs.Theorem.{Translates}
@@ -75,19 +75,16 @@ module _ (domain : Domain) (problem : Problem) (reached : Reached) (sets : List 
   solution_of : (names : List Name) (cost : ℕ) → HasBusyPlan domain problem names cost → HasSolution task names cost
   solution_of names cost plan = changing names cost (same.busy_plans names cost ((means.plans.busy_plans names cost).0 plan))
 
-  -- the names of the steps that aren't idle are those of a solution
-  shorter : (names : List Name) (cost : ℕ) → HasPlan domain problem names cost → HasShorterSolution task names cost
-  shorter names cost plan =
-      let left = idle names cost plan in
-      let busy = left_plan (pddl_task domain problem) names cost plan left in
-      record { names' = _; cost' = _; shorter = busy.1; no_dearer = left.no_dearer; solution = solution_of _ _ busy.0 }
-
   pub translates : IsValid task → NamesTellCosts task.operators → SolutionsCostTheTotal → Translates [] domain problem task
   translates valid tells costs =
       record {
         no_more = plan_of;
         complete = λ none. solution_of;
-        no_less = shorter;
+        -- the names of the steps that aren't idle are those of a solution
+        no_less = λ names cost plan.
+            let left = idle names cost plan in
+            let busy = left_plan (pddl_task domain problem) names cost plan left in
+            record { names' = _; cost' = _; shorter = busy.1; no_dearer = left.no_dearer; solution = solution_of _ _ busy.0 };
         idle = idle;
         mapped = λ plan cost solution. subst (HasPlan domain problem (step_names (steps task.operators plan))) (costs task plan cost valid tells solution) (plan_of (step_names (steps task.operators plan)) cost solution);
         sound = kept.sound same.is_sound;
