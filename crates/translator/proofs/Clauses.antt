@@ -143,18 +143,9 @@ module _ (one : OneEnding) (before now : Store) (words : Option Asked) where
     device status (called meant text (unwritten asked output named why) (whole grows same)) meant_so = inr (inl why.rose)
     device status (called meant text (written asked output named is reads writes) (whole grows same)) meant_so = absurd cc
 
-    by_counts : (status : Status) → Called before now words screen screen_now status → status ≢ statuses.Device → (now.reads ≡ before.reads) × (now.writes ≡ before.writes) × (screen_now.faults ≡ screen.faults)
+    pub by_counts : (status : Status) → Called before now words screen screen_now status → status ≢ statuses.Device → (now.reads ≡ before.reads) × (now.writes ≡ before.writes) × (screen_now.faults ≡ screen.faults)
     by_counts status (called meant text ends (part broke rose)) other = absurd (other refl)
     by_counts status (called meant text ends (whole grows same)) other = let both = counts meant text ends other in (both.0, both.1, same)
-
-    pub reads_stay : (status : Status) → Called before now words screen screen_now status → status ≢ statuses.Device → now.reads ≡ before.reads
-    reads_stay status call other = (by_counts status call other).0
-
-    pub writes_stay : (status : Status) → Called before now words screen screen_now status → status ≢ statuses.Device → now.writes ≡ before.writes
-    writes_stay status call other = (by_counts status call other).1
-
-    pub faults_stay : (status : Status) → Called before now words screen screen_now status → status ≢ statuses.Device → screen_now.faults ≡ screen.faults
-    faults_stay status call other = (by_counts status call other).2
 
     pub absent_input : (status : Status) → Called before now words screen screen_now status → LacksFile before.files words → (status ≡ statuses.Device) ⊎ (status ≡ statuses.NoMemory)
     absent_input status (called meant text ends (part broke rose)) lacks = inl refl

@@ -20,26 +20,6 @@ begins : (bytes rest : List ℕ) → bytes ≡ capital ∷ rest → first bytes 
 unfolding first
 begins bytes rest is = ap first is
 
-usage_first : first usage_line ≡ 117
-unfolding usage_line first
-usage_first = refl
-
-memory_first : first memory_line ≡ 116
-unfolding memory_line first
-memory_first = refl
-
-unreadable_first : (name : List ℕ) → first (unreadable_line name) ≡ 116
-unfolding unreadable_line first
-unreadable_first name = refl
-
-unwritable_first : (name : List ℕ) → first (unwritable_line name) ≡ 116
-unfolding unwritable_line first
-unwritable_first name = refl
-
-refusal_first : (name : List ℕ) (message : Message) → first (refusal_line name message) ≡ 116
-unfolding fault_line first
-refusal_first name message = refl
-
 task_first : (summary : Summary) (plan : List ℕ) → first (task_lines summary plan) ≡ 84
 unfolding summary_lines first
 task_first summary plan = refl
@@ -48,19 +28,24 @@ small : (bytes rest : List ℕ) (byte : ℕ) → first bytes ≡ byte → byte �
 small bytes rest byte is other begins_so = other (sym is ∙ begins bytes rest begins_so)
 
 pub usage_small : (rest : List ℕ) → usage_line ≢ capital ∷ rest
-usage_small rest = small usage_line rest 117 usage_first (λ e. omega (arith, e))
+unfolding usage_line first
+usage_small rest = small usage_line rest 117 refl (λ e. omega (arith, e))
 
 pub memory_small : (rest : List ℕ) → memory_line ≢ capital ∷ rest
-memory_small rest = small memory_line rest 116 memory_first (λ e. omega (arith, e))
+unfolding memory_line first
+memory_small rest = small memory_line rest 116 refl (λ e. omega (arith, e))
 
 pub unreadable_small : (name rest : List ℕ) → unreadable_line name ≢ capital ∷ rest
-unreadable_small name rest = small (unreadable_line name) rest 116 (unreadable_first name) (λ e. omega (arith, e))
+unfolding unreadable_line first
+unreadable_small name rest = small (unreadable_line name) rest 116 refl (λ e. omega (arith, e))
 
 pub unwritable_small : (name rest : List ℕ) → unwritable_line name ≢ capital ∷ rest
-unwritable_small name rest = small (unwritable_line name) rest 116 (unwritable_first name) (λ e. omega (arith, e))
+unfolding unwritable_line first
+unwritable_small name rest = small (unwritable_line name) rest 116 refl (λ e. omega (arith, e))
 
 pub refusal_small : (name : List ℕ) (message : Message) (rest : List ℕ) → refusal_line name message ≢ capital ∷ rest
-refusal_small name message rest = small (refusal_line name message) rest 116 (refusal_first name message) (λ e. omega (arith, e))
+unfolding fault_line first
+refusal_small name message rest = small (refusal_line name message) rest 116 refl (λ e. omega (arith, e))
 
 pub begins_capital : (summary : Summary) (plan : List ℕ) (byte : ℕ) (rest : List ℕ) → task_lines summary plan ≡ byte ∷ rest → byte ≡ capital
 unfolding first

@@ -297,11 +297,6 @@ pub stops_too : {A : Type 0} (P : End → Type 0) (end : End) (result : Result A
 stops_too P end (Ok value) is stops = tt
 stops_too P end (Err e) is stops = subst P (sym is) stops
 
--- want of memory, where no read failed
-pub starved_reading : {A B : Type 0} (before now : Store) (names titles : List (List ℕ)) (Comes : Contents → Ending B → Type 0) (result : Result A End) → IsErrAnd result (λ e. e ≡ ends.NoMemory) → now.reads ≡ before.reads
-    → IfErr result (StopsReading before now names titles Comes)
-starved_reading before now names titles Comes result is reads = stops_too (StopsReading before now names titles Comes) ends.NoMemory result is reads
-
 pub ends_too : (before now : Store) (words : Option Asked) (end : End) (result : Outcome) → IsErrAnd result (λ e. e ≡ end) → Ends before now words (status_of (Err end)) (line_of (Err end)) → Ends before now words (status_of result) (line_of result)
 ends_too before now words end (Ok value) is ends = absurd is
 ends_too before now words end (Err e) is ends = subst (λ (x : End). Ends before now words (status_of (Err x)) (line_of (Err x))) (sym is) ends

@@ -1,4 +1,4 @@
-use Rattle.translator.proofs.Clauses.{usage, refuses, device, reads_stay, writes_stay, faults_stay, absent_input, input_fault, refused_input, complete, done, theorem, untouched_unless_written, left, in_part, others, fault_printed, unread_printed, absent_printed, summary_begun}
+use Rattle.translator.proofs.Clauses.{usage, refuses, device, by_counts, absent_input, input_fault, refused_input, complete, done, theorem, untouched_unless_written, left, in_part, others, fault_printed, unread_printed, absent_printed, summary_begun}
 use Rattle.translator.proofs.command.translate.Goals as goal
 
 pub returns-clause-usage : goal.returns-clause-usage
@@ -11,13 +11,13 @@ pub returns-clause-device : goal.returns-clause-device
 returns-clause-device g c = device c.one_ending_of_a_run.ensures _ _ _ _ _ _ c.called.ensures.called
 
 pub returns-clause-reads : goal.returns-clause-reads
-returns-clause-reads g c = reads_stay c.one_ending_of_a_run.ensures _ _ _ _ _ _ c.called.ensures.called
+returns-clause-reads g c = λ other. (by_counts c.one_ending_of_a_run.ensures _ _ _ _ _ _ c.called.ensures.called other).0
 
 pub returns-clause-writes : goal.returns-clause-writes
-returns-clause-writes g c = writes_stay c.one_ending_of_a_run.ensures _ _ _ _ _ _ c.called.ensures.called
+returns-clause-writes g c = λ other. (by_counts c.one_ending_of_a_run.ensures _ _ _ _ _ _ c.called.ensures.called other).1
 
 pub returns-clause-faults : goal.returns-clause-faults
-returns-clause-faults g c = faults_stay c.one_ending_of_a_run.ensures _ _ _ _ _ _ c.called.ensures.called
+returns-clause-faults g c = λ other. (by_counts c.one_ending_of_a_run.ensures _ _ _ _ _ _ c.called.ensures.called other).2
 
 pub returns-clause-absent : goal.returns-clause-absent
 returns-clause-absent g c = absent_input c.one_ending_of_a_run.ensures _ _ _ _ _ _ c.called.ensures.called

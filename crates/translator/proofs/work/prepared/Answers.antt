@@ -1,6 +1,7 @@
 -- The task of the run, what passes make of it, the plan that is mapped back to this, and their text.
 use Rattle.std.proofs.Common.{◌≡◌, rules, List, subst}
 use Rattle.std.proofs.lemmas.Result.{IfOk-weaker, IfErr-weaker}
+use Rattle.messages.specs.declared.outcome.End.TheVariants.{NoMemory}
 use Rattle.pass_book.specs.declared.kind.PassKind.{PassKind}
 use Rattle.pass_book.specs.Passes.{IsChain}
 use Rattle.sas_task.specs.Output.{text_of}
@@ -11,7 +12,7 @@ use Rattle.translator.specs.Requests.{asked_by}
 use Rattle.translator.specs.Run.{all_inputs, all_titles, ComesTo}
 use Rattle.translator.specs.Stages.{IsRead, StopsReading, output_by}
 use Rattle.translator.specs.Store.{store}
-use Rattle.translator.proofs.Sources.{run_stops, plan_stops, run_writes, passed_so, starved_reading, asks_for_source, asks_for_plan}
+use Rattle.translator.proofs.Sources.{run_stops, plan_stops, run_writes, passed_so, stops_too, asks_for_source, asks_for_plan}
 use Rattle.translator.proofs.work.prepared.Goals as goal
 
 pub returns-in_err-first-clause-err : goal.returns-in_err-first-clause-err
@@ -24,7 +25,9 @@ returns-in_err-first-clause-asks g c = asks_for_source (asked_by c.args.request.
 
 pub returns-in_err-made-clause-err : goal.returns-in_err-made-clause-err
 returns-in_err-made-clause-err g c =
-    starved_reading (store g.F.Files c.args.files.now) (store g.F.Files c.made.new.files) (all_inputs (asked_by c.args.request.now)) (all_titles (asked_by c.args.request.now)) (λ held. ComesTo held (asked_by c.args.request.now)) c.from_residual-in_err-made.result c.from_residual-in_err-made.ensures.1 c.in_ok-first.ensures.ok.0
+    let asked = asked_by c.args.request.now in
+    stops_too (StopsReading (store g.F.Files c.args.files.now) (store g.F.Files c.made.new.files) (all_inputs asked) (all_titles asked) (λ held. ComesTo held asked)) NoMemory
+    c.from_residual-in_err-made.result c.from_residual-in_err-made.ensures.1 c.in_ok-first.ensures.ok.0
 
 pub returns-in_err-made-clause-asks : goal.returns-in_err-made-clause-asks
 returns-in_err-made-clause-asks g c = asks_for_source (asked_by c.args.request.now) (store g.F.Files c.args.files.now) (store g.F.Files c.made.new.files) c.in_ok-first.ensures.asks
