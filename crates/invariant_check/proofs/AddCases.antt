@@ -30,9 +30,6 @@ apart_by_classes candidate ranges literals pairs instance predicate places other
 -- ---- two add effects
 
 module _ (candidate : Candidate) (schema : Schema) (part : Part) (e : EffectRow) (other : Part) (f : EffectRow) where
-  pub of_its_predicate : other.predicate ≡ f.predicate → is_light_beside candidate schema part e other f ≡ part_passes (is_light_beside candidate schema part e) f other
-  of_its_predicate same = ap (λ b. not b || is_light_beside candidate schema part e other f) (sym (eq-eqb other.predicate f.predicate same))
-
   pub two_adds : (ranges : List (List ℕ)) (literals condition : List Literal) (pairs : List (Place × Place)) (instance second places : List Place) →
       ranges ≡ ranges_with schema e f → condition ≡ map (moved (length schema.parameters) (length e.variables)) f.condition → places ≡ map (moved_place (length schema.parameters) (length e.variables)) f.places →
       literals ≡ schema.condition ++ (e.condition ++ (condition ++ denied e ∷ denied_atom f.predicate places ∷ [])) → instance ≡ instance_of part e → second ≡ at_positions (Object 0) other.places places → pairs ≡ zip instance second →

@@ -5,7 +5,7 @@ use Rattle.std.specs.List.{list_any, list_all, filter}
 use Rattle.std.proofs.lemmas.Bool.{true≢false, and_parts, and_from, eqb-true, eq-eqb, ltb-true, ltb-false, lt-ltb}
 use Rattle.std.proofs.lemmas.List.{get_or_append_left}
 use Rattle.std.proofs.Math.Seq.{get_or-append_right}
-use Rattle.lists.proofs.Items.{Among, all_passes, any_passes, passing, map_source, flat_map_piece}
+use Rattle.lists.proofs.Items.{Among, all_passes, any_passes, passing, map_source, filter_among, flat_map_piece}
 use Rattle.normal_task.specs.declared.task.Literal.{Literal}
 use Rattle.normal_task.specs.declared.task.Literal.TheVariants.{Holds, Equal}
 use Rattle.normal_task.specs.declared.task.Normal.{Normal}
@@ -18,7 +18,7 @@ use Rattle.normal_task.specs.Within.{place_within, literal_within}
 use Rattle.normal_task.proofs.Alls.{all-weaker}
 use Rattle.contradictions.specs.Contradictory.{objects_of, is_among}
 use Rattle.contradictions.specs.GivenTerms.{with_terms, literal_with}
-use Rattle.contradictions.proofs.SamePlaces.{same_place, same_places}
+use Rattle.contradictions.proofs.SamePlaces.{get_or_map, same_place, same_places}
 use Rattle.invariant_check.specs.Accepted.{is_same_literal, is_listed, fits, terms}
 
 -- ---- lawful literals
@@ -53,17 +53,12 @@ place-given : (objects values : Binding) (given : List Place) (place : Place) �
 place-given objects values given (Object object) = refl
 place-given objects values given (Variable number) = by (nat_lt number (length objects)) refl
   where
-    get-map : (xs : List Place) (n : ℕ) → object_at (objects ++ values) (get_or xs n (Object 0)) ≡ get_or (map (object_at (objects ++ values)) xs) n 0
-    get-map [] n = refl
-    get-map (x ∷ xs) zero = refl
-    get-map (x ∷ xs) (suc n) = get-map xs n
-
     by : (b : Bool) → nat_lt number (length objects) ≡ b →
         object_at (objects ++ values) (if b then Variable number else get_or given (number - length objects) (Object 0)) ≡ get_or (objects ++ map (object_at (objects ++ values)) given) number 0
     by true e = let l = ltb-true number (length objects) e in get_or_append_left objects values 0 number l ∙ sym (get_or_append_left objects (map (object_at (objects ++ values)) given) 0 number l)
     by false e =
         let l = ltb-false number (length objects) e in
-        get-map given (number - length objects) ∙ sym (get_or-append_right objects (map (object_at (objects ++ values)) given) number 0 l)
+        get_or_map (object_at (objects ++ values)) given (number - length objects) (Object 0) ∙ sym (get_or-append_right objects (map (object_at (objects ++ values)) given) number 0 l)
 
 pub places-given : (objects values : Binding) (given places : List Place) →
     objects_at (objects ++ values) (map (with_terms (length objects) given) places) ≡ objects_at (objects ++ map (object_at (objects ++ values)) given) places
@@ -140,21 +135,12 @@ fittings-choose task ranges binding typed [] given (inr never) = absurd never
 fittings-choose task ranges binding typed (range ∷ variables) given there =
     let found = flat_map_piece (λ item. map (λ others. item ∷ others) (choices (map (λ range. filter (fits ranges range) (terms task ranges)) variables))) (filter (fits ranges range) (terms task ranges)) given there in
     let rest = map_source (λ (others : List Place). found.source ∷ others) (choices (map (λ range. filter (fits ranges range) (terms task ranges)) variables)) given found.inside in
-    let fit = filter-passes (fits ranges range) found.source (terms task ranges) found.among in
+    let fit = (filter_among (fits ranges range) found.source (terms task ranges) found.among).1 in
     let here = contained range (objects_of ranges found.source) fit (object_at binding found.source) (choice-typed ranges binding typed found.source) in
     let more = fittings-choose task ranges binding typed variables rest.source rest.among in
     subst (λ (g : List Place). is_choice (range ∷ variables) (map (object_at binding) g) ≡ true) rest.gives
     (and_from (list_any (nat_eq (object_at binding found.source)) range) (is_choice variables (map (object_at binding) rest.source)) here more)
   where
-    filter-passes : {X : Type 0} (test : X → Bool) (item : X) (xs : List X) → Among item (filter test xs) → test item ≡ true
-    filter-passes test item [] none = absurd none
-    filter-passes {X = X} test item (x ∷ xs) in' = by (test x) refl in' (filter-passes test item xs)
-      where
-        by : (b : Bool) → test x ≡ b → Among item (cond b (x ∷ filter test xs) (filter test xs)) → (Among item (filter test xs) → test item ≡ true) → test item ≡ true
-        by true e (inl here) more = sym (ap test here) ∙ e
-        by true e (inr there) more = more there
-        by false e there more = more there
-
     contained : (range objects : List ℕ) → list_all (is_among range) objects ≡ true → (object : ℕ) → is_among objects object ≡ true → is_among range object ≡ true
     contained range objects all object is =
         let found = passing (nat_eq object) objects is in

@@ -5,6 +5,7 @@ use Rattle.std.specs.List.{list_any, list_all, filter, flat_map, range_with_len,
 use Rattle.std.proofs.lemmas.Bool.{true≢false, and_parts, and_from, not-true, not_from_false, eqb-true, eq-eqb, ne_eqb, ltb-true, ltb-false, lt-ltb, cases_Bool, cases_eq, cases_lt}
 use Rattle.std.proofs.lemmas.List.{length-append, length-map}
 use Rattle.std.proofs.lemmas.List.FromFn.{length-range_with_len}
+use Rattle.std.proofs.lemmas.Simd.{map-map}
 use Rattle.lists.proofs.Items.{Among, among_at, among_map, map_source, among_which, among_left, among_right, filter_among, among_filter, among_flat_map, flat_map_piece, each_passes, all_passes, any_passes, none_passes, passing, same_map, map_itself}
 use Rattle.lists.proofs.NoRepeats.{Once, once_append, once_filter, once_map, once_flat_map, once_front, once_behind, once_apart, among_range, range_among, once_range, no_longer, same_place, position_once, found, same_at_each, same_image}
 use Rattle.normal_task.specs.declared.task.Normal.{Normal}
@@ -261,23 +262,16 @@ module _ (task : Normal) (candidate : Candidate) (formed : is_well_formed task c
 
   same_predicate : (one other : Part) → IsNewPart one → IsNewPart other → in_form task (put_in one candidate.parts) ≡ in_form task (put_in other candidate.parts) → one.predicate ≡ other.predicate
   same_predicate one other one_is other_is same =
-      let kept = subst (Among one.predicate) (sym (named one candidate.parts) ∙ ap predicates same ∙ named other candidate.parts) (among_map (λ (part : Part). part.predicate) one (put_in one candidate.parts) (among_put one candidate.parts)) in
+      let kept = subst (Among one.predicate) (sym (form (put_in one candidate.parts)) ∙ ap predicates same ∙ form (put_in other candidate.parts)) (among_map (λ (part : Part). part.predicate) one (put_in one candidate.parts) (among_put one candidate.parts)) in
       let from = map_source (λ (part : Part). part.predicate) (put_in other candidate.parts) one.predicate kept in
       elim (put_among other candidate.parts from.source from.among) [
         | inl is ↦ sym from.gives ∙ sym (ap (λ (part : Part). part.predicate) is)
         | inr old ↦ absurd (one_is.new (subst (λ p. Among p (predicates candidate.parts)) from.gives (among_map (λ (part : Part). part.predicate) from.source candidate.parts old)))
       ]
     where
-      kept-names : (places : List ℕ) (first : Part) (parts : List Part) → predicates (map (renamed places first) parts) ≡ predicates parts
-      kept-names places first [] = refl
-      kept-names places first (part ∷ parts) = ap (λ l. part.predicate ∷ l) (kept-names places first parts)
-
       form : (parts : List Part) → predicates (in_form task parts) ≡ predicates parts
       form [] = refl
-      form (first ∷ more) = kept-names (rising_places task first) first (first ∷ more)
-
-      named : (part : Part) (parts : List Part) → predicates (in_form task (put_in part parts)) ≡ predicates (put_in part parts)
-      named part parts = form (put_in part parts)
+      form (first ∷ more) = map-map (λ (part : Part). part.predicate) (renamed (rising_places task first) first) (first ∷ more)
 
   apart : (one other : Part) → IsNewPart one → IsNewPart other → with_part task candidate one ≡ with_part task candidate other → one ≡ other
   apart one other one_is other_is same =

@@ -1,12 +1,12 @@
 -- Trying the terms that are required, and one other for a variable that stands nowhere, finds a delete effect that balances wherever trying all terms that fit does.
 use Rattle.std.proofs.Common.{◌≡◌, ℕ, zero, suc, ◌+◌, ◌-◌, ◌<◌, ◌≤◌, Bool, true, false, not, ◌&&◌, List, [], ◌∷◌, ◌++◌, map, length, get_or, inl, inr, refl, sym, ap, ◌∙◌, subst, arith}
 use Rattle.std.specs.Prelude.{nat_eq, nat_lt, Option, Some, None, if◌then◌else◌}
-use Rattle.std.specs.Cmp.{both_ways}
+use Rattle.std.specs.Cmp.{both_ways as same_tests}
 use Rattle.std.specs.Cmp.Lexicographic.{pointwise}
 use Rattle.std.specs.List.{list_any, list_all, flat_map, filter, range_with_len, position}
 use Rattle.std.specs.Option.{option_map_or}
 use Rattle.std.proofs.Math.Bool.{and-false}
-use Rattle.std.proofs.lemmas.Bool.{true≢false, eqb-true, eq-eqb, ltb-true, ltb-false, lt-ltb, and_parts, and_from, or_left, not-true}
+use Rattle.std.proofs.lemmas.Bool.{both_ways, true≢false, eqb-true, eq-eqb, ltb-true, ltb-false, lt-ltb, and_parts, and_from, or_left, not-true}
 use Rattle.std.proofs.lemmas.List.Quantifiers.{position-Some}
 use Rattle.lists.proofs.Items.{Among, all_passes, any_passes, passing, map_source, among_map, among_left, among_right, among_which, among_flat_map, flat_map_piece, among_filter, filter_among, same_map, same_any}
 use Rattle.lists.proofs.NoRepeats.{among_range, range_among}
@@ -23,7 +23,7 @@ use Rattle.contradictions.specs.declared.types.Part.{Part}
 use Rattle.contradictions.specs.Candidates.{at_positions}
 use Rattle.contradictions.specs.Contradictory.{is_same_place, terms_of, is_among}
 use Rattle.contradictions.specs.GivenTerms.{with_terms, literal_with}
-use Rattle.contradictions.proofs.SamePlaces.{get_or_map, true-false, same_place, place_itself}
+use Rattle.contradictions.proofs.SamePlaces.{get_or_map, same_place, place_itself}
 use Rattle.invariant_check.specs.Accepted.{required, instance_of, apart_from, is_same_literal, is_listed, terms, fits, fittings, row_with, never_restores, balances, has_balance}
 use Rattle.invariant_check.specs.Attempts.{is_at_instance, stated_at, some_terms, tried_for, tried, is_fitting, are_fitting, balances_given, balances_somehow}
 use Rattle.invariant_check.proofs.Bindings.{same_literal}
@@ -257,8 +257,8 @@ module _ (task : Normal) (candidate : Candidate) (schema : Schema) (part : Part)
             other = some.0;
             tried_one = subst (λ at. Among some.0 (pool range at)) (sym none) (among_right some.0 (flat_map terms_of rest) (some_terms task ranges range) some.1);
             fits_too = some.2;
-            same = λ s. absurd (true-false (list_any (is_same_place (Variable number)) (d.places ++ flat_map terms_of d.condition))
-                (any_passes (is_same_place (Variable number)) (Variable number) (d.places ++ flat_map terms_of d.condition) s (place_itself (Variable number))) isnt);
+            same = λ s. absurd (both_ways (list_any (is_same_place (Variable number)) (d.places ++ flat_map terms_of d.condition))
+                isnt (any_passes (is_same_place (Variable number)) (Variable number) (d.places ++ flat_map terms_of d.condition) s (place_itself (Variable number))));
           }
 
       by : (at : Option ℕ) → position (is_same_place (Variable number)) d.places ≡ at → Pick number range term
@@ -344,7 +344,7 @@ module _ (task : Normal) (candidate : Candidate) (schema : Schema) (part : Part)
 
   -- what is tried finds the terms that balance, if there are some
   pub somehow : balances_somehow task candidate schema e rest (instance_of part e) d ≡ list_any tests (fittings task ranges d)
-  somehow = both_ways _ _ forth back
+  somehow = same_tests _ _ forth back
     where
       forth : balances_somehow task candidate schema e rest (instance_of part e) d ≡ true → list_any tests (fittings task ranges d) ≡ true
       forth is =

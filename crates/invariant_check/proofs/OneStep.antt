@@ -3,7 +3,7 @@ use Rattle.std.proofs.Common.{◌≡◌, ℕ, ◌+◌, Bool, true, false, not, �
 use Rattle.std.specs.Prelude.{nat_eq, zip}
 use Rattle.std.specs.List.{list_any, list_all}
 use Rattle.std.specs.Cmp.Lexicographic.{pointwise}
-use Rattle.std.proofs.lemmas.Bool.{cases_Bool, eqb-true, eq-eqb, and_parts, and_from, or_cases, not-true, not_from_false}
+use Rattle.std.proofs.lemmas.Bool.{both_ways, cases_Bool, eqb-true, eq-eqb, and_parts, and_from, or_cases, not-true, not_from_false}
 use Rattle.lists.proofs.Items.{Among, all_passes, any_passes, passing, among_contains}
 use Rattle.normal_task.specs.declared.task.EffectRow.{EffectRow}
 use Rattle.normal_task.specs.declared.task.GroundAtom.{GroundAtom}
@@ -31,7 +31,7 @@ use Rattle.contradictions.specs.Contradictory.{is_same_place, in_one_class, all_
 use Rattle.contradictions.specs.GivenTerms.{with_terms, literal_with}
 use Rattle.contradictions.proofs.Contradiction.{equal_objects, never_contradictory}
 use Rattle.contradictions.proofs.Covering.{Covering, covering, covered}
-use Rattle.contradictions.proofs.SamePlaces.{true-false, same_places, at_positions-map, zip_equal}
+use Rattle.contradictions.proofs.SamePlaces.{same_places, at_positions-map, zip_equal}
 use Rattle.invariant_check.specs.Accepted.{each_add, instance_of, denied, apart_from, ranges_with, both_added, are_light, is_light_in, is_light, required, is_listed, fittings, row_with, added_beside, never_restores, balances, has_balance, is_balanced_at, is_balanced, is_accepted}
 use Rattle.invariant_check.specs.Soundness.{is_basic}
 use Rattle.invariant_check.proofs.Bindings.{place-within, literal-within, literal-more, places-given, all-met-given, listed-passes, choice-typed, fittings-choose}
@@ -71,7 +71,7 @@ fires full schema objects adds atom is =
 -- ---- add effects that pass
 
 implied : (a b : Bool) → (not a || b) ≡ true → a ≡ true → b ≡ true
-implied a b is a-is = elim (or_cases (not a) b is) [ inl isnt ↦ absurd (true-false a a-is (not-true a isnt)) | inr b-is ↦ b-is ]
+implied a b is a-is = elim (or_cases (not a) b is) [ inl isnt ↦ absurd (both_ways a (not-true a isnt) a-is) | inr b-is ↦ b-is ]
 
 -- an add effect on a predicate of the candidate passes
 pub add-passes : (candidate : Candidate) (schema : Schema) (test : Part → EffectRow → Bool) → each_add candidate schema test ≡ true →
@@ -210,15 +210,6 @@ module _ (task : Normal) (candidate : Candidate) (instance : List ℕ) (full : S
     abbrev cy : Covering candidate instance y
     cy = covering candidate instance y is-y
 
-    e-required : (more : Binding) → are_met full (objects ++ (fy.values ++ more)) (required schema fy.row) ≡ true
-    e-required more = met-first y true fy more (required schema fy.row) (required-within y true fy) (required-met y true fy)
-
-    e-denied : (more : Binding) → is_met full (objects ++ (fy.values ++ more)) (denied fy.row) ≡ true
-    e-denied more = denied-met y true fy not-y (objects ++ (fy.values ++ more)) fy.row.places (places-first y true fy more)
-
-    e-instance : (more : Binding) → objects_at (objects ++ (fy.values ++ more)) (instance_of cy.part fy.row) ≡ instance
-    e-instance more = instance-is y true fy cy (objects ++ (fy.values ++ more)) fy.row.places (places-first y true fy more)
-
     never-added : is_contradictory candidate (schema.parameters ++ fy.row.variables) (required schema fy.row ++ denied fy.row ∷ []) [] (instance_of cy.part fy.row) ≡ true → ⊥
     never-added =
         never_contradictory candidate (schema.parameters ++ fy.row.variables) (required schema fy.row ++ denied fy.row ∷ []) [] (instance_of cy.part fy.row) full (objects ++ fy.values)
@@ -320,8 +311,8 @@ module _ (task : Normal) (candidate : Candidate) (instance : List ℕ) (full : S
             | inr is ↦ is
             | inl other ↦
                 elim (or_cases (not fa.row.adds) (not (nat_eq fa.row.predicate d.predicate)) other) [
-                  | inl isnt ↦ absurd (true-false fa.row.adds fa.kind (not-true fa.row.adds isnt))
-                  | inr differ ↦ absurd (true-false (nat_eq fa.row.predicate d.predicate) (eq-eqb fa.row.predicate d.predicate same-predicates) (not-true (nat_eq fa.row.predicate d.predicate) differ))
+                  | inl isnt ↦ absurd (both_ways fa.row.adds (not-true fa.row.adds isnt) fa.kind)
+                  | inr differ ↦ absurd (both_ways (nat_eq fa.row.predicate d.predicate) (not-true (nat_eq fa.row.predicate d.predicate) differ) (eq-eqb fa.row.predicate d.predicate same-predicates))
                 ]
           ] in
           let left : objects_at binding a.places ≡ objects_at (objects ++ fa.values) fa.row.places = places-apart x true fa fy.row fy.values long in
@@ -329,13 +320,13 @@ module _ (task : Normal) (candidate : Candidate) (instance : List ℕ) (full : S
           ap (λ (b : Binding). objects_at b row.places) (sym (append-assoc objects fy.values fa.values)) ∙ places-kept (objects ++ fy.values) fa.values row.places row-places-within in
           let os : objects_at (objects ++ fa.values) fa.row.places ≡ objects_at (objects ++ values) d.places = ap (λ (b : GroundAtom). b.objects) (fa.is ∙ sym same) in
           let met : are_met full binding (added_beside schema fy.row a) ≡ true =
-          all-both (is_met full binding) (required schema fy.row) _ (e-required fa.values)
+          all-both (is_met full binding) (required schema fy.row) _ (met-first y true fy fa.values (required schema fy.row) (required-within y true fy) (required-met y true fy))
           (all-both (is_met full binding) a.condition (denied fy.row ∷ []) (met-apart x true fa fy.row fy.values long)
-          (and_from (is_met full binding (denied fy.row)) true (e-denied fa.values) refl)) in
+          (and_from (is_met full binding (denied fy.row)) true (denied-met y true fy not-y binding fy.row.places (places-first y true fy fa.values)) refl)) in
           never_contradictory candidate (ranges_with schema fy.row a) (added_beside schema fy.row a) (zip a.places row.places) (instance_of cy.part fy.row) full binding met
           (zip_equal (object_at binding) a.places row.places (left ∙ os ∙ sym same-places ∙ sym right))
           (choice-typed (ranges_with schema fy.row a) binding (choice-append schema.parameters (fy.row.variables ++ a.variables) objects (fy.values ++ fa.values) typed (choice-append fy.row.variables a.variables fy.values fa.values fy.typed fa.typed)))
-          (subst (λ (i : List ℕ). IsAtMostOne full candidate i) (sym (e-instance fa.values)) most) contradiction
+          (subst (λ (i : List ℕ). IsAtMostOne full candidate i) (sym (instance-is y true fy cy binding fy.row.places (places-first y true fy fa.values))) most) contradiction
 
     -- where an atom of the instance was true, it is deleted, and not added again
     pub never-both : is_balanced_at task candidate schema cy.part fy.row ≡ true → (x : GroundAtom) → covers candidate instance x ≡ true → full x ≡ true →
@@ -350,7 +341,7 @@ module _ (task : Normal) (candidate : Candidate) (instance : List ℕ) (full : S
               most (deleted d.item d.among given.item given.among given.passes) x (deleted-covered d.item d.among given.item given.among given.passes) is-x (deleted-true d.item d.among given.item given.among given.passes) yes-x in
               elim kept [
                 | inl restored ↦ never-restored d.item d.among given.item given.among given.passes x same restored
-                | inr stays ↦ true-false (writes full false schema.effects objects x) (subst (λ (a : GroundAtom). writes full false schema.effects objects a ≡ true) same (deleted-written d.item d.among given.item given.among given.passes)) stays
+                | inr stays ↦ both_ways (writes full false schema.effects objects x) stays (subst (λ (a : GroundAtom). writes full false schema.effects objects a ≡ true) same (deleted-written d.item d.among given.item given.among given.passes))
               ]
         ]
 
@@ -391,7 +382,7 @@ keeps_at_most_one task candidate lawful basic accepted instance state step next 
           never-both task candidate instance full most-full schema objects lawful-schema known.typed takes.applicable b is-b (same b is-b ∙ not-b) fb
           (add-passes candidate schema (is_balanced_at task candidate schema) balanced cb.part fb.row fb.among fb.kind cb.among (cb.same_predicate ∙ sym (ap (λ (a : GroundAtom). a.predicate) fb.is)))
           a is-a (same a is-a ∙ yes-a) kept
-      | inr stays ↦ true-false (state b) stays.0 not-b
+      | inr stays ↦ both_ways (state b) not-b stays.0
     ] in
     elim (cases_Bool (state x)) [
       | inl yes-x ↦
@@ -409,9 +400,9 @@ keeps_at_most_one task candidate lawful basic accepted instance state step next 
                         | inl fy ↦
                             two-added task candidate instance full most-full schema objects lawful-schema known.typed takes.applicable light x y is-x is-y
                             (same x is-x ∙ not-x) (same y is-y ∙ not-y) fx fy
-                        | inr stays ↦ absurd (true-false (state y) stays.0 not-y)
+                        | inr stays ↦ absurd (both_ways (state y) not-y stays.0)
                       ]
-                  | inr stays ↦ absurd (true-false (state x) stays.0 not-x)
+                  | inr stays ↦ absurd (both_ways (state x) not-x stays.0)
                 ]
           ]
     ]

@@ -5,8 +5,11 @@ use Rattle.std.specs.Prelude.{nat_eq, nat_lt, Option, Some, None, if◌then◌el
 use Rattle.std.specs.Option.{unwrap_or}
 use Rattle.std.specs.List.{IsDistinct, AllByRecursion, flat_map, position, position_or_len, remove, insert}
 use Rattle.std.proofs.lemmas.Bool.{ltb-false, true≢false, false_from_ne_true, eqb-true, eq-eqb}
+use Rattle.std.specs.Cmp.{nat_eq_equiv}
+use Rattle.std.proofs.lemmas.Grind.{get_or_default_zero}
 use Rattle.std.proofs.lemmas.List.{map-append}
 use Rattle.std.proofs.lemmas.List.Edits.{length-remove}
+use Rattle.std.proofs.lemmas.List.Elements.{All-from_recursion}
 use Rattle.std.proofs.lemmas.List.Sums.{prefix_len-le-length}
 use Rattle.std.proofs.lemmas.Simd.{map-map}
 use Rattle.lists.proofs.Items.{Among, map_flat_map}
@@ -51,11 +54,6 @@ module _ {X : Type 0} (P : X → Type 0) where
   each-append [] ys each more = more
   each-append (x ∷ xs) ys each more = (each.0, each-append xs ys each.1 more)
 
-  each-at : (xs : List X) (d : ℕ) (other : X) → d < length xs → AllByRecursion P xs → P (get_or xs d other)
-  each-at [] d other within each = absurd (omega (arith, within))
-  each-at (x ∷ xs) zero other within each = each.0
-  each-at (x ∷ xs) (suc d) other within each = each-at xs d other (omega (arith, within)) each.1
-
   each-remove : (xs : List X) (d : ℕ) → AllByRecursion P xs → AllByRecursion P (remove xs d)
   each-remove [] zero each = each
   each-remove [] (suc d) each = each
@@ -96,13 +94,10 @@ unfolding IsDistinct
 distinct-from_apart [] apart = tt
 distinct-from_apart (x ∷ xs) apart = (apart.0, distinct-from_apart xs apart.1)
 
-turned : (x y : ℕ) → nat_eq x y ≡ false → nat_eq y x ≡ false
-turned x y differ = false_from_ne_true (nat_eq y x) (λ is. true≢false (sym (eq-eqb x y (sym (eqb-true y x is))) ∙ differ))
-
 without-none : (x : ℕ) (ys : List ℕ) → Lacks x ys → without x ys ≡ ys
 without-none x [] none = refl
 without-none x (y ∷ ys) none =
-    ap (λ b. if not b then y ∷ without x ys else without x ys) (turned x y none.0) ∙ ap (λ l. y ∷ l) (without-none x ys none.1)
+    ap (λ b. if not b then y ∷ without x ys else without x ys) (nat_eq_equiv.symm y x ∙ none.0) ∙ ap (λ l. y ∷ l) (without-none x ys none.1)
 
 lacks-at : (y : ℕ) (before : List ℕ) (x : ℕ) (rest : List ℕ) → Lacks y (before ++ x ∷ rest) → nat_eq y x ≡ false
 lacks-at y [] x rest none = none.0
@@ -209,7 +204,7 @@ inside count (suc m) free chosen within size =
     each-flat (λ ds. Within count (unranked free ds)) (λ d. map (λ ds. d ∷ ds) (next d)) 0 (count - length chosen - 0) (length free) (omega (arith, size)) (λ d below.
     let fewer : length (remove free d) ≡ count - length (chosen ++ d ∷ []) = omega (arith, length-remove free d below, length-append chosen (d ∷ []), size) in
     each-map (λ ds. Within count (unranked free ds)) (λ ds. d ∷ ds) (next d)
-    (each-beside (get_or free d 0 < count) (λ ds. Within count (unranked (remove free d) ds)) (next d) (each-at (λ place. place < count) free d 0 below within)
+    (each-beside (get_or free d 0 < count) (λ ds. Within count (unranked (remove free d) ds)) (next d) (All-from_recursion (λ place. place < count) free within d 0 below)
     (inside count m (remove free d) (chosen ++ d ∷ []) (each-remove (λ place. place < count) free d within) fewer)))
 
 numbers-within : (a n count : ℕ) → a + n ≤ count → Within count (numbers a n)
@@ -223,18 +218,13 @@ AllInside count left = AllByRecursion (λ ds. Within count (unranked (numbers 0 
 pub all_inside : (count m : ℕ) → AllInside count (ways low (high count) m [])
 all_inside count m = inside count m (numbers 0 count) [] (numbers-within 0 count count (omega arith)) (omega (arith, length-numbers 0 count))
 
-same-at : (xs : List ℕ) (d other : ℕ) → d < length xs → get_or xs d other ≡ get_or xs d 0
-same-at [] d other within = absurd (omega (arith, within))
-same-at (x ∷ xs) zero other within = refl
-same-at (x ∷ xs) (suc d) other within = same-at xs d other (omega (arith, within))
-
 -- clones of what stands at places in the pool
 pub clones-are : (pool places items : List ℕ) → Within (length pool) places → ClonesAt (λ x y. y ≡ x) pool places items → items ≡ map (λ d. get_or pool d 0) places
 clones-are pool [] [] within clones = refl
 clones-are pool [] (item ∷ items) within clones = absurd clones
 clones-are pool (place ∷ places) [] within clones = absurd clones
 clones-are pool (place ∷ places) (item ∷ items) within clones =
-    ap (λ x. x ∷ items) (clones.0 ∙ same-at pool place item within.0) ∙ ap (λ l. get_or pool place 0 ∷ l) (clones-are pool places items within.1 clones.1)
+    ap (λ x. x ∷ items) (clones.0 ∙ get_or_default_zero pool place item within.0) ∙ ap (λ l. get_or pool place 0 ∷ l) (clones-are pool places items within.1 clones.1)
 
 -- ---- the positions left to parameters are apart
 

@@ -6,7 +6,9 @@ use Rattle.std.specs.Option.{option_to_list, option_map_or}
 use Rattle.std.proofs.lemmas.Bool.{true≢false, and_parts, and_from, not-true, not_from_false, eqb-true, eq-eqb, ne_eqb, ltb-true, ltb-false, lt-ltb, cases_Bool, cases_eq, cases_lt}
 use Rattle.std.proofs.lemmas.List.{length-append, length-map}
 use Rattle.std.proofs.lemmas.List.FromFn.{length-range_with_len}
+use Rattle.std.proofs.lemmas.Option.{none-some}
 use Rattle.lists.proofs.Items.{Among, among_at, among_map, map_source, among_which, among_left, among_right, filter_among, among_filter, among_flat_map, flat_map_piece, each_passes, all_passes, any_passes, passing, same_map, map_itself}
+use Rattle.lists.proofs.Members.{filter_every}
 use Rattle.lists.proofs.NoRepeats.{Once, once_append, once_filter, once_map, once_flat_map, once_front, once_behind, once_apart, among_range, range_among, once_range, no_longer, all_there, same_place, position_once, found, same_at_each, same_image}
 use Rattle.normal_task.specs.declared.task.Normal.{Normal}
 use Rattle.normal_task.specs.Lawful.{is_rising}
@@ -86,10 +88,7 @@ left_apart arity (Some other) place there (inr none) = none
 counted_below : (arity : ℕ) (counted : Option ℕ) (place : ℕ) → Among counted (countings arity) → Among place (option_to_list counted) → place < arity
 counted_below arity None place in' none = absurd none
 counted_below arity (Some other) place in' (inr none) = absurd none
-counted_below arity (Some other) place (inl here) (inl is) = absurd (none_some here)
-  where
-    none_some : None ≡ Some other → ⊥
-    none_some same = cc same
+counted_below arity (Some other) place (inl here) (inl is) = absurd (none-some other here)
 counted_below arity (Some other) place (inr there) (inl is) =
     let from = map_source (λ (n : ℕ). Some n) (range_with_len 0 arity) (Some other) there in
     let value : from.source ≡ other = cc from.gives in
@@ -111,11 +110,9 @@ length-without place places once there =
 
 -- all places are left, but for the counted one
 left_all : (arity : ℕ) (counted : Option ℕ) → Among counted (countings arity) → arity ≡ length (left_by arity counted) + length (option_to_list counted)
-left_all arity None there = let whole = ap length (all-kept (range_with_len 0 arity)) ∙ length-range_with_len 0 arity in omega (arith, whole)
-  where
-    all-kept : (places : List ℕ) → filter (λ position. not (is_counted None position)) places ≡ places
-    all-kept [] = refl
-    all-kept (place ∷ places) = ap (λ l. place ∷ l) (all-kept places)
+left_all arity None there =
+    let whole = ap length (filter_every (λ position. not (is_counted None position)) (range_with_len 0 arity) (λ position in'. refl)) ∙ length-range_with_len 0 arity in
+    omega (arith, whole)
 left_all arity (Some place) there =
     let below = counted_below arity (Some place) place there (inl refl) in
     let one = length-without place (range_with_len 0 arity) (once_range 0 arity) (range_among 0 arity place (omega arith) (omega (arith, below))) in

@@ -1,12 +1,12 @@
 -- Weights of at most one.
 use Rattle.std.proofs.Common.{◌≡◌, ℕ, ◌≤◌, true, false, List, [], ◌∷◌, length, inl, inr, refl, sym, ◌∙◌, subst, arith}
 use Rattle.std.specs.List.{IsDistinct}
+use Rattle.std.proofs.lemmas.Bool.{both_ways}
 use Rattle.lists.proofs.Items.{Among, among_contains, contains_among}
 use Rattle.normal_task.specs.declared.task.GroundAtom.{GroundAtom}
 use Rattle.normal_task.specs.Meaning.{State, initial, is_same_atom}
 use Rattle.contradictions.specs.declared.types.Candidate.{Candidate}
 use Rattle.contradictions.specs.Candidates.{covers, IsAtMostOne, HasWeight}
-use Rattle.contradictions.proofs.SamePlaces.{true-false}
 use Rattle.invariant_check.specs.Soundness.{WeightsStayAtMostOne}
 use Rattle.invariant_check.proofs.Sound.{invariants_are_sound}
 use Rattle.normal_task.proofs.OnceEach.{atom_same}
@@ -34,7 +34,7 @@ few-atoms state candidate instance (x ∷ y ∷ atoms) most those once =
     let one = those x (inl refl) in
     let other = those y (inr (inl refl)) in
     let same : x ≡ y = most x y one.0 other.0 one.1 other.1 in
-    absurd (true-false (is_same_atom x y) (subst (λ (z : GroundAtom). is_same_atom x z ≡ true) same (atom_same x)) (differ x y atoms once))
+    absurd (both_ways (is_same_atom x y) (differ x y atoms once) (subst (λ (z : GroundAtom). is_same_atom x z ≡ true) same (atom_same x)))
 
 pub weights_stay : WeightsStayAtMostOne
 weights_stay task candidate lawful basic accepted instance weight has few state reachable later has' =

@@ -1,5 +1,6 @@
 use Rattle.std.proofs.Common.{◌≡◌, ◌∷◌, [], ◌++◌, ◌∙◌, ap, map, sym, length}
-use Rattle.std.specs.Prelude.{zip}
+use Rattle.std.specs.Prelude.{not, ◌||◌, zip}
+use Rattle.std.proofs.lemmas.Bool.{eq-eqb}
 use Rattle.normal_task.specs.declared.task.Place.TheVariants.{Object}
 use Rattle.normal_task.specs.Parts.{moved, moved_place}
 use Rattle.contradictions.specs.Candidates.{at_positions}
@@ -8,7 +9,7 @@ use Rattle.contradictions.specs.Renamings.{denied_atom, renamed_literals, rename
 use Rattle.contradictions.proofs.Cases.{answers_too, equated_is}
 use Rattle.invariant_check.specs.Accepted.{denied, instance_of, is_light_beside, part_passes}
 use Rattle.invariant_check.specs.Attempts.{are_one_or_apart}
-use Rattle.invariant_check.proofs.AddCases.{of_its_predicate, two_adds}
+use Rattle.invariant_check.proofs.AddCases.{two_adds}
 use Rattle.invariant_check.proofs.light.are_light.Goals as goal
 
 pub returns : goal.returns
@@ -38,5 +39,5 @@ returns c =
     (ap (λ firsts. are_one_or_apart candidate (all_ranges c.ranges_of.result) c.as_slice-7.result.now (map as_pair c.as_slice-8.result.now) c.as_slice-9.result.now e.predicate firsts f.predicate places) c.as_slice-10.ensures
     ∙ two_adds candidate schema part e other f (all_ranges c.ranges_of.result) c.as_slice-7.result.now beside.condition.items (map as_pair c.as_slice-8.result.now) c.as_slice-9.result.now c.in_ok-second.second.items places
     c.ranges_of.ensures condition of_f literals instance second pairs
-    ∙ of_its_predicate candidate schema part e other f c.if-other.false)
+    ∙ ap (λ b. not b || is_light_beside candidate schema part e other f) (sym (eq-eqb other.predicate f.predicate c.if-other.false)))
     c.are_one_or_apart.ensures
