@@ -1,8 +1,8 @@
 -- The groups that initial atoms give are all groups.
-use Rattle.std.proofs.Common.{◌≡◌, ℕ, zero, suc, ◌<◌, Bool, true, false, not, ◌&&◌, ◌||◌, List, [], ◌∷◌, Option, Some, None, map, length, nat_eq, get_or, refl, sym, ap, ◌∙◌, subst, arith, if◌then◌else◌, inl, inr}
+use Rattle.std.proofs.Common.{◌≡◌, ℕ, zero, suc, ◌<◌, true, false, not, ◌&&◌, ◌||◌, List, [], ◌∷◌, Option, Some, None, map, length, nat_eq, get_or, refl, sym, ap, ◌∙◌, subst, arith, inl, inr}
 use Rattle.std.specs.Prelude.{replicate}
-use Rattle.std.specs.List.{list_any, list_all, filter, find, range_with_len, slice_get, Contains, IsDistinct}
-use Rattle.std.specs.Option.{option_map, option_map_or, option_to_list}
+use Rattle.std.specs.List.{list_any, list_all, filter, range_with_len, slice_get, Contains, IsDistinct}
+use Rattle.std.specs.Option.{option_map_or, option_to_list}
 use Rattle.std.proofs.lemmas.Bool.{true≢false, and_parts, and_from, eqb-true, eq-eqb, ne_eqb, ltb-true}
 use Rattle.std.proofs.lemmas.List.{length-map}
 use Rattle.std.proofs.lemmas.Cmp.{nat_list_eq_equiv}
