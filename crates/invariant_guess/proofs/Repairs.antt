@@ -1,5 +1,5 @@
 -- The repairs of a well-formed candidate are well formed, each once, and have one part more.
-use Rattle.std.proofs.Common.{◌≡◌, Bool, true, false, List, [], Option, Some, None}
+use Rattle.std.proofs.Common.{◌≡◌, Bool, true, false, [], Option, Some, None}
 use Rattle.std.specs.Prelude.{if◌then◌else◌}
 use Rattle.lists.proofs.Items.{Among, filter_among}
 use Rattle.lists.proofs.NoRepeats.{Once, once_filter}
