@@ -21,7 +21,6 @@ use Rattle.fdr_encoder.specs.Encoding.{IsEncoding}
 use Rattle.sas_task.specs.Task.{Task}
 use Rattle.sas_task.specs.Alike.{AreAlike, RulesAgree}
 use Rattle.task_simplifier.specs.Projection.{IsProjection}
-use Rattle.command_line.specs.declared.accepted.Settings.{Settings}
 use Rattle.pass_book.specs.declared.kind.PassKind.{PassKind}
 use Rattle.pass_book.specs.Passes.{IsChain}
 use Rattle.run_task.specs.RunTask.{IsRunEncoding, IsRunTask}
