@@ -1,8 +1,7 @@
 -- What is built for add effects, or for a delete effect, is the case of the definition.
-use Rattle.std.proofs.Common.{◌≡◌, ℕ, Bool, true, false, not, ◌&&◌, ◌||◌, List, [], ◌∷◌, ◌++◌, map, length, sym, ap, ◌∙◌}
+use Rattle.std.proofs.Common.{◌≡◌, ℕ, Bool, true, false, ◌&&◌, ◌||◌, List, [], ◌∷◌, ◌++◌, map, length, sym, ap, ◌∙◌}
 use Rattle.std.specs.Prelude.{nat_eq, zip}
 use Rattle.std.specs.List.{list_all}
-use Rattle.std.proofs.lemmas.Bool.{eq-eqb}
 use Rattle.normal_task.specs.declared.task.EffectRow.{EffectRow}
 use Rattle.normal_task.specs.declared.task.Literal.{Literal}
 use Rattle.normal_task.specs.declared.task.Literal.TheVariants.{Holds}
@@ -17,7 +16,7 @@ use Rattle.contradictions.specs.Candidates.{at_positions}
 use Rattle.contradictions.specs.Contradictory.{are_same_terms, has_contradiction, in_one_class, all_pairs, standing}
 use Rattle.contradictions.specs.GivenTerms.{with_terms, literal_with}
 use Rattle.contradictions.specs.Renamings.{denied_atom}
-use Rattle.invariant_check.specs.Accepted.{denied, ranges_with, instance_of, is_light_beside, part_passes, is_listed, apart_from}
+use Rattle.invariant_check.specs.Accepted.{denied, ranges_with, instance_of, is_light_beside, is_listed, apart_from}
 use Rattle.invariant_check.specs.Attempts.{is_at_instance, are_one_or_apart, leaves_deleted, are_fitting, balances_given}
 
 pub apart_by_classes : (candidate : Candidate) (ranges : List (List ℕ)) (literals : List Literal) (pairs : List (Place × Place)) (instance : List Place) (predicate : ℕ) (places : List Place) (other : ℕ) (others : List Place) (same : Place → Place → Bool) →

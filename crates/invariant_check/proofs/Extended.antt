@@ -1,19 +1,19 @@
 -- The candidates with one part more than a well-formed one are well formed, and each stands once in the list of them.
-use Rattle.std.proofs.Common.{◌≡◌, ℕ, zero, suc, ◌+◌, ◌<◌, ◌≤◌, Bool, true, false, not, ◌&&◌, ◌⊎◌, inl, inr, List, [], ◌∷◌, ◌++◌, map, length, get_or, Option, Some, None, refl, sym, ap, ◌∙◌, subst, arith}
+use Rattle.std.proofs.Common.{◌≡◌, ℕ, suc, ◌<◌, ◌≤◌, Bool, true, false, not, ◌⊎◌, inl, inr, List, [], ◌∷◌, map, length, get_or, refl, sym, ap, ◌∙◌, subst, arith}
 use Rattle.std.specs.Prelude.{nat_eq, nat_lt, if◌then◌else◌}
-use Rattle.std.specs.List.{list_any, list_all, filter, flat_map, range_with_len, position_or_len}
-use Rattle.std.proofs.lemmas.Bool.{true≢false, and_parts, and_from, not-true, not_from_false, eqb-true, eq-eqb, ne_eqb, ltb-true, ltb-false, lt-ltb, cases_Bool, cases_eq, cases_lt}
-use Rattle.std.proofs.lemmas.List.{length-append, length-map}
+use Rattle.std.specs.List.{filter, flat_map, range_with_len, position_or_len}
+use Rattle.std.proofs.lemmas.Bool.{true≢false, not-true, not_from_false, eqb-true, eq-eqb, ltb-true, ltb-false}
+use Rattle.std.proofs.lemmas.List.{length-map}
 use Rattle.std.proofs.lemmas.List.FromFn.{length-range_with_len}
 use Rattle.std.proofs.lemmas.Simd.{map-map}
-use Rattle.lists.proofs.Items.{Among, among_at, among_map, map_source, among_which, among_left, among_right, filter_among, among_filter, among_flat_map, flat_map_piece, each_passes, all_passes, any_passes, none_passes, passing, same_map, map_itself}
-use Rattle.lists.proofs.NoRepeats.{Once, once_append, once_filter, once_map, once_flat_map, once_front, once_behind, once_apart, among_range, range_among, once_range, no_longer, same_place, position_once, found, same_at_each, same_image}
+use Rattle.lists.proofs.Items.{Among, among_at, among_map, map_source, filter_among, among_filter, among_flat_map, flat_map_piece, any_passes, none_passes}
+use Rattle.lists.proofs.NoRepeats.{Once, once_filter, once_map, once_flat_map, range_among, no_longer, same_place, position_once, same_at_each, same_image}
 use Rattle.normal_task.specs.declared.task.Normal.{Normal}
 use Rattle.normal_task.specs.Lawful.{is_rising}
 use Rattle.contradictions.specs.declared.types.Candidate.{Candidate}
 use Rattle.contradictions.specs.declared.types.Part.{Part}
-use Rattle.candidate_parts.specs.Extensions.{is_changing, arity_of, changing, is_counted, left_by, countings, without, orders, part_at, with_one, one_predicate, parts_counting, parts_of, put_in, renamed, rising_places, in_form, with_part, has_predicate, extensions}
-use Rattle.invariant_check.specs.WellFormed.{used_places, is_part_for, is_named_by_first, is_well_formed}
+use Rattle.candidate_parts.specs.Extensions.{changing, part_at, parts_of, put_in, renamed, rising_places, in_form, with_part, has_predicate, extensions}
+use Rattle.invariant_check.specs.WellFormed.{is_well_formed}
 use Rattle.normal_task.proofs.RisingLists.{rises_from, rises_behind, below_rising, once_rising}
 use Rattle.invariant_check.proofs.FormedParts.{IsPartFor, AreFormed, predicates, formed_facts, formed_test}
 use Rattle.invariant_check.proofs.NamedAnew.{renamed_part, renamed_apart, first_rises, rising_is, in_rising, found_first, part_once, first_once}

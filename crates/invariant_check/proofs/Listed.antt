@@ -1,26 +1,26 @@
 -- Where parameters are named such that the first part's places rise, there is one way to name them. So the extensions of a candidate are all that have one part more.
-use Rattle.std.proofs.Common.{◌≡◌, ℕ, zero, suc, ◌<◌, ◌≤◌, Bool, true, false, not, ◌⊎◌, inl, inr, List, [], ◌∷◌, map, length, get_or, refl, sym, ap, ◌∙◌, subst, arith}
-use Rattle.std.specs.Prelude.{nat_eq, nat_lt, IsTrue, ◌↔◌}
+use Rattle.std.proofs.Common.{◌≡◌, ℕ, ◌<◌, true, inl, inr, List, [], ◌∷◌, map, length, get_or, refl, sym, ap, ◌∙◌, subst, arith}
+use Rattle.std.specs.Prelude.{nat_eq, nat_lt, ◌↔◌}
 use Rattle.std.specs.Cmp.{nat_eq_equiv}
-use Rattle.std.specs.List.{Contains, list_any, list_all, filter, flat_map, range_with_len, position_or_len}
-use Rattle.std.proofs.lemmas.Bool.{eqb-true, ltb-true, lt-ltb, not_from_false, not-true, false_from_ne_true}
+use Rattle.std.specs.List.{Contains, range_with_len, position_or_len}
+use Rattle.std.proofs.lemmas.Bool.{eqb-true, ltb-true, lt-ltb}
 use Rattle.std.proofs.lemmas.List.{length-map}
 use Rattle.std.proofs.lemmas.List.FromFn.{length-range_with_len, length-map-range_with_len, get_or-map-range_with_len}
 use Rattle.std.proofs.lemmas.Simd.{map-map}
-use Rattle.lists.proofs.Items.{Among, among_at, among_contains, contains_among, among_map, map_source, among_flat_map, among_filter, each_passes, all_passes, same_map, map_itself}
+use Rattle.lists.proofs.Items.{Among, among_at, among_contains, contains_among, among_map, map_source, each_passes, all_passes, same_map, map_itself}
 use Rattle.lists.proofs.NoRepeats.{Once, once_map, once_range, among_range, range_among, all_there, position_once, same_at_each}
 use Rattle.normal_task.specs.declared.task.Normal.{Normal}
-use Rattle.normal_task.specs.Lawful.{differ, is_rising}
+use Rattle.normal_task.specs.Lawful.{is_rising}
 use Rattle.contradictions.specs.declared.types.Candidate.{Candidate}
 use Rattle.contradictions.specs.declared.types.Part.{Part}
 use Rattle.contradictions.specs.Candidates.{at_positions}
-use Rattle.candidate_parts.specs.Extensions.{changing, parts_of, part_at, put_in, renamed, rising_places, in_form, with_part, has_predicate, one_predicate, extensions}
-use Rattle.invariant_check.specs.Names.{of_parts, IsNaming, named, AreSame, with_one_more, HasOneMore, OnePredicateIsAll, ExtensionsAreAll, SameAreEqual}
-use Rattle.invariant_check.specs.WellFormed.{is_part_for, is_named_by_first, is_well_formed}
+use Rattle.candidate_parts.specs.Extensions.{part_at, put_in, renamed, rising_places, in_form, with_part, one_predicate, extensions}
+use Rattle.invariant_check.specs.Names.{of_parts, IsNaming, named, HasOneMore, OnePredicateIsAll, ExtensionsAreAll, SameAreEqual}
+use Rattle.invariant_check.specs.WellFormed.{is_named_by_first, is_well_formed}
 use Rattle.normal_task.proofs.RisingLists.{differ_once, once_differ, same_rising}
 use Rattle.invariant_check.proofs.FormedParts.{IsPartFor, part_facts, part_test, AreFormed, predicates, formed_facts}
-use Rattle.invariant_check.proofs.OnePredicate.{among_changing, one_predicate_formed, one_part, one_listed}
-use Rattle.invariant_check.proofs.NamedAnew.{first_once, of_first, in_rising, rising-once, rising-many, found_first, rising_is}
+use Rattle.invariant_check.proofs.OnePredicate.{one_predicate_formed, one_part, one_listed}
+use Rattle.invariant_check.proofs.NamedAnew.{first_once, in_rising, rising-once, rising-many, found_first, rising_is}
 use Rattle.invariant_check.proofs.Extended.{put_among, among_put, kept_put, rising_put, extension_formed, IsNewPart, lacks, is_lacked, extended, extends}
 
 -- ---- names

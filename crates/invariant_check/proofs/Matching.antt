@@ -6,7 +6,7 @@ use Rattle.std.specs.Cmp.Lexicographic.{pointwise}
 use Rattle.std.specs.List.{list_any, list_all, flat_map, filter, range_with_len, position}
 use Rattle.std.specs.Option.{option_map_or}
 use Rattle.std.proofs.Math.Bool.{and-false}
-use Rattle.std.proofs.lemmas.Bool.{both_ways, true≢false, eqb-true, eq-eqb, ltb-true, ltb-false, lt-ltb, and_parts, and_from, or_left, not-true}
+use Rattle.std.proofs.lemmas.Bool.{both_ways, true≢false, eq-eqb, ltb-true, ltb-false, lt-ltb, and_parts, and_from, or_left, not-true}
 use Rattle.std.proofs.lemmas.List.Quantifiers.{position-Some}
 use Rattle.lists.proofs.Items.{Among, all_passes, any_passes, passing, map_source, among_map, among_left, among_right, among_which, among_flat_map, flat_map_piece, among_filter, filter_among, same_map, same_any}
 use Rattle.lists.proofs.NoRepeats.{among_range, range_among}

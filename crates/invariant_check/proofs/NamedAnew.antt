@@ -1,17 +1,17 @@
 -- Parts whose parameters are named anew, by the places of the first part.
-use Rattle.std.proofs.Common.{◌≡◌, ℕ, zero, suc, ◌+◌, ◌<◌, ◌≤◌, Bool, true, false, not, ◌&&◌, ◌⊎◌, inl, inr, List, [], ◌∷◌, ◌++◌, map, length, get_or, Option, Some, None, refl, sym, ap, ◌∙◌, subst, arith}
-use Rattle.std.specs.Prelude.{nat_eq, nat_lt, if◌then◌else◌}
+use Rattle.std.proofs.Common.{◌≡◌, ℕ, ◌<◌, true, inl, inr, List, map, length, get_or, refl, sym, ap, ◌∙◌, subst, arith}
+use Rattle.std.specs.Prelude.{nat_eq}
 use Rattle.std.specs.Cmp.{nat_eq_equiv}
-use Rattle.std.specs.List.{list_any, list_all, filter, flat_map, range_with_len, position_or_len}
-use Rattle.std.specs.Option.{option_to_list, option_map_or}
-use Rattle.std.proofs.lemmas.Bool.{true≢false, and_parts, and_from, not-true, not_from_false, eqb-true, eq-eqb, ne_eqb, ltb-true, ltb-false, lt-ltb, cases_Bool, cases_eq, cases_lt}
+use Rattle.std.specs.List.{list_any, range_with_len, position_or_len}
+use Rattle.std.specs.Option.{option_to_list}
+use Rattle.std.proofs.lemmas.Bool.{eqb-true}
 use Rattle.std.proofs.lemmas.List.{length-append, length-map}
-use Rattle.lists.proofs.Items.{Among, among_at, among_map, map_source, among_which, among_left, among_right, filter_among, among_filter, among_flat_map, flat_map_piece, each_passes, all_passes, any_passes, passing, same_map, map_itself}
-use Rattle.lists.proofs.NoRepeats.{Once, once_append, once_filter, once_map, once_flat_map, once_front, once_behind, once_apart, among_range, range_among, once_range, no_longer, same_place, position_once, found, same_at_each, same_image}
+use Rattle.lists.proofs.Items.{Among, among_at, map_source, among_which, among_left, among_right, filter_among, among_filter, any_passes, same_map, map_itself}
+use Rattle.lists.proofs.NoRepeats.{Once, once_append, once_filter, once_map, once_front, once_behind, once_apart, range_among, once_range, no_longer, same_place, position_once, found, same_at_each, same_image}
 use Rattle.normal_task.specs.declared.task.Normal.{Normal}
 use Rattle.normal_task.specs.Lawful.{is_rising}
 use Rattle.contradictions.specs.declared.types.Part.{Part}
-use Rattle.candidate_parts.specs.Extensions.{is_changing, arity_of, changing, is_counted, left_by, countings, without, orders, part_at, with_one, one_predicate, parts_counting, parts_of, put_in, renamed, rising_places, in_form, with_part, has_predicate, extensions}
+use Rattle.candidate_parts.specs.Extensions.{arity_of, renamed, rising_places}
 use Rattle.normal_task.proofs.RisingLists.{among_if, rising_filter, rising_range}
 use Rattle.invariant_check.proofs.FormedParts.{IsPartFor}
 

@@ -1,20 +1,20 @@
 -- The candidates with one part are the well-formed ones, each once.
-use Rattle.std.proofs.Common.{◌≡◌, ℕ, zero, suc, ◌+◌, ◌<◌, ◌≤◌, Bool, true, false, not, ◌&&◌, ◌⊎◌, inl, inr, List, [], ◌∷◌, ◌++◌, map, length, get_or, Option, Some, None, refl, sym, ap, ◌∙◌, subst, arith}
-use Rattle.std.specs.List.{list_any, list_all, filter, flat_map, range_with_len, position_or_len}
-use Rattle.std.specs.Option.{option_to_list, option_map_or}
-use Rattle.std.proofs.lemmas.Bool.{true≢false, and_parts, and_from, not-true, not_from_false, eqb-true, eq-eqb, ne_eqb, ltb-true, ltb-false, lt-ltb, cases_Bool, cases_eq, cases_lt}
+use Rattle.std.proofs.Common.{◌≡◌, ℕ, ◌<◌, ◌≤◌, true, false, not, ◌&&◌, ◌⊎◌, inl, inr, List, [], ◌∷◌, map, length, Option, refl, sym, ap, ◌∙◌, subst, arith}
+use Rattle.std.specs.List.{list_all, range_with_len}
+use Rattle.std.specs.Option.{option_map_or}
+use Rattle.std.proofs.lemmas.Bool.{true≢false, and_from, cases_lt}
 use Rattle.std.proofs.lemmas.Option.{slice_get_past}
-use Rattle.lists.proofs.Items.{Among, among_at, among_map, map_source, among_which, among_left, among_right, filter_among, among_filter, among_flat_map, flat_map_piece, each_passes, all_passes, any_passes, passing, same_map, map_itself}
-use Rattle.lists.proofs.NoRepeats.{Once, once_append, once_filter, once_map, once_flat_map, once_front, once_behind, once_apart, among_range, range_among, once_range, no_longer, same_place, position_once, found, same_at_each, same_image}
+use Rattle.lists.proofs.Items.{Among, among_map, map_source, filter_among, among_filter, among_flat_map, flat_map_piece}
+use Rattle.lists.proofs.NoRepeats.{Once, once_filter, once_map, once_flat_map, range_among, once_range}
 use Rattle.normal_task.specs.declared.task.Normal.{Normal}
 use Rattle.normal_task.specs.declared.task.PredicateRow.{PredicateRow}
 use Rattle.normal_task.specs.Lawful.{is_rising}
 use Rattle.contradictions.specs.declared.types.Candidate.{Candidate}
 use Rattle.contradictions.specs.declared.types.Part.{Part}
 use Rattle.invariant_check.specs.Names.{of_parts}
-use Rattle.candidate_parts.specs.Extensions.{is_changing, arity_of, changing, is_counted, left_by, countings, without, orders, part_at, with_one, one_predicate, parts_counting, parts_of, put_in, renamed, rising_places, in_form, with_part, has_predicate, extensions}
-use Rattle.invariant_check.specs.WellFormed.{used_places, is_part_for, is_named_by_first, is_well_formed}
-use Rattle.invariant_check.proofs.FormedParts.{IsPartFor, AreFormed, predicates, part_facts, part_test, formed_facts}
+use Rattle.candidate_parts.specs.Extensions.{is_changing, arity_of, changing, left_by, countings, part_at, with_one, one_predicate}
+use Rattle.invariant_check.specs.WellFormed.{is_part_for, is_well_formed}
+use Rattle.invariant_check.proofs.FormedParts.{AreFormed, predicates, part_test, formed_facts}
 use Rattle.invariant_check.proofs.PartsOf.{IsCounting, counting_part, once_left, rising_left, once_countings, counting_is, all_left}
 
 pub changing_facts : (task : Normal) (predicate : ℕ) → Among predicate (changing task) → is_changing task predicate ≡ true
