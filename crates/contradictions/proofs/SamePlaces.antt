@@ -11,9 +11,6 @@ use Rattle.normal_task.specs.declared.task.Place.TheVariants.{Variable, Object}
 use Rattle.contradictions.specs.Candidates.{at_positions}
 use Rattle.contradictions.specs.Contradictory.{is_same_place}
 
-pub true-false : (b : Bool) → b ≡ true → b ≡ false → ⊥
-true-false b is isnt = true≢false (sym is ∙ isnt)
-
 -- ---- tests of equality
 
 pub same_place : (x y : Place) → is_same_place x y ≡ true → x ≡ y

@@ -1,5 +1,5 @@
 -- Candidates that differ by the names of their parameters, or by the order of their parts, are the same. What it is to have one part more (Helmert 2009, section 5).
-use Rattle.std.specs.Prelude.{◌≡◌, ℕ, Bool, true, false, nat_eq, nat_lt, List, ◌∷◌, map, length, Contains, IsTrue, ◌↔◌}
+use Rattle.std.specs.Prelude.{◌≡◌, ℕ, true, false, nat_eq, nat_lt, List, ◌∷◌, map, length, Contains, IsTrue, ◌↔◌}
 use Rattle.std.specs.List.{list_all}
 use Rattle.normal_task.specs.declared.task.Normal.{Normal}
 use Rattle.normal_task.specs.Lawful.{differ}

@@ -6,7 +6,6 @@ use Rattle.normal_task.specs.declared.task.EffectRow.{EffectRow}
 use Rattle.normal_task.specs.declared.task.Normal.{Normal}
 use Rattle.normal_task.specs.declared.task.Schema.{Schema}
 use Rattle.contradictions.specs.declared.types.Candidate.{Candidate}
-use Rattle.contradictions.specs.declared.types.Part.{Part}
 use Rattle.invariant_check.specs.declared.types.AddPlace.{AddPlace}
 use Rattle.invariant_check.specs.declared.types.Verdict.{Verdict}
 use Rattle.invariant_check.specs.declared.types.Verdict.TheVariants.{Accepted, Dropped, Unbalanced}
