@@ -248,6 +248,81 @@ def walled_grid(squares):
     )
 
 
+def empty_factor(factors):
+    """A product of factors with two parts each and of one without parts, at each place where a condition may stand: as a
+    precondition, under `when`, as the body of an axiom, inside a disjunction and as the goal."""
+    product = b"(and " + b"(or (on) (off)) " * factors + b"(or))"
+    return (
+        b"(define (domain d) (:predicates (on) (off) (lit))\n(:derived (lit) " + product + b")\n"
+        b"(:action a :precondition " + product + b" :effect (on))\n(:action b :effect (and (off) (when " + product + b" (on))))\n"
+        b"(:action c :precondition (or (off) " + product + b") :effect (on)))",
+        b"(define (problem p) (:domain d) (:init (off)) (:goal (or (on) " + product + b")))",
+    )
+
+
+def steps(count):
+    """A path that is written as actions, one from each place to the next, which leave the places true behind them."""
+    return _path(count, lambda i: b"(p%d)" % (i + 1))
+
+
+def moves(count):
+    """The same path, where each action leaves its place: a plan that is written as a domain."""
+    return _path(count, lambda i: b"(and (p%d) (not (p%d)))" % (i + 1, i))
+
+
+def _path(count, effect):
+    predicates = lines(b"(p%d)" % i for i in range(count + 1))
+    bodies = lines(b"(:action a%d :precondition (p%d) :effect " % (i, i) + effect(i) + b")" for i in range(count))
+    return (
+        b"(define (domain d) (:predicates " + predicates + b")\n" + bodies + b")",
+        b"(define (problem p) (:domain d) (:init (p0)) (:goal (p%d)))" % count,
+    )
+
+
+def empty_type(objects):
+    """An action and an effect over five parameters with all objects and one of a type that no object has."""
+    return (
+        b"""(define (domain d) (:types e) (:predicates (p ?x) (q))
+(:action act :parameters (?a ?b ?c ?d ?f - object ?e - e) :precondition (and (p ?a) (not (= ?f ?f))) :effect (q))
+(:action all :effect (forall (?a ?b ?c ?d ?f - object ?e - e) (p ?a)))
+(:action go :parameters (?x) :precondition (p ?x) :effect (q)))""",
+        b"(define (problem p) (:domain d) (:objects " + lines(b"o%d" % i for i in range(objects)) + b") (:init (p o0)) (:goal (q)))",
+    )
+
+
+def barred_delete(adds):
+    """A delete whose own condition never holds, beside adds of its fact with conditions of two literals each."""
+    predicates = lines(b"(a%d) (b%d)" % (i, i) for i in range(adds + 1))
+    rivals = lines(b"(when (and (a%d) (b%d)) (f))" % (i, i) for i in range(1, adds + 1))
+    set_all = lines(b"(a%d) (b%d)" % (i, i) for i in range(adds + 1))
+    clear_all = lines(b"(not (a%d)) (not (b%d))" % (i, i) for i in range(adds + 1))
+    return (
+        b"(define (domain d) (:predicates (f) " + predicates + b")\n(:action set :effect (and " + set_all + b"))\n"
+        b"(:action clear :effect (and " + clear_all + b"))\n"
+        b"(:action act :effect (and (when (and (a0) (not (a0))) (not (f)))\n" + rivals + b")))",
+        b"(define (problem p) (:domain d) (:init) (:goal (f)))",
+    )
+
+
+def narrow_parameters(count):
+    """An action with many parameters, over one object each and each asked for by a literal of its own."""
+    return (
+        b"(define (domain d) (:types one) (:predicates (p ?x - one) (q))\n(:action a :parameters (" + lines(b"?v%d" % i for i in range(count))
+        + b" - one) :precondition (and " + lines(b"(p ?v%d)" % i for i in range(count)) + b") :effect (q)))",
+        b"(define (problem p) (:domain d) (:objects o - one) (:init (p o)) (:goal (q)))",
+    )
+
+
+def many_denials(count):
+    """An action with many effects on one predicate and as many negative conditions on it."""
+    return (
+        b"(define (domain d) (:predicates (p ?x) (q ?x))\n(:action a :parameters (?x) :precondition (and "
+        + lines(b"(not (p c%d))" % i for i in range(count)) + b") :effect (and " + lines(b"(p c%d)" % i for i in range(count)) + b"))"
+        + b"(:action b :parameters (?x) :effect (and (not (p ?x)) (q ?x))))",
+        b"(define (problem p) (:domain d) (:objects " + lines(b"c%d" % i for i in range(count)) + b") (:init) (:goal (q c0)))",
+    )
+
+
 # The families of whole planning tasks: the name, how it is made, its sizes for counting instructions, and its full sizes.
 PLANNING = (
     ("ring, nodes", ring, (1_000, 2_000, 4_000), (2_000, 20_000, 200_000)),
