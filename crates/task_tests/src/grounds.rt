@@ -1,11 +1,14 @@
-//! The reached task of a ground task.
+//! The reached tasks of ground tasks and of normal tasks.
 
 ghost use Rattle.std.specs.Prelude.{◌≡◌, ◌<◌, IfOk};
+ghost use Rattle.normal_task.specs.Lawful.{IsLawful as IsLawfulNormal};
 ghost use Rattle.static_matcher.specs.Lawful.{IsLawful as IsLawfulGround};
 ghost use Rattle.relaxed_reach.specs.Lawful.{IsLawful};
 
+use normal_task::Normal;
 use reachable_facts::reach;
 use relaxed_reach::{Reached, Steps};
+use schema_instances::instances;
 use static_matcher::Ground;
 use std::alloc::{AllocError, Global};
 use std::marker::Brand;
@@ -32,4 +35,15 @@ pub(crate) fn reached_of(alloc: Global, ground: &Ground) -> Result<Reached, Allo
     ensures { IfOk result IsLawful }
 {
     reached_by::<Brand>(alloc, ground, Blank::new(1))
+}
+
+/// The reached task of a normal task.
+pub(crate) fn reached_task(alloc: Global, normal: &Normal) -> Result<Reached, AllocError>
+    requires { IsLawfulNormal normal.now }
+    ensures { IfOk result IsLawful }
+{
+    let ground = instances(alloc, normal)?;
+    let reached = reached_of(alloc, &ground);
+    drop(ground);
+    reached
 }

@@ -5,14 +5,13 @@ ghost use Rattle.std.specs.List.{list_all};
 ghost use Rattle.normal_task.specs.Lawful.{IsLawful};
 ghost use Rattle.invariant_check.specs.WellFormed.{is_well_formed};
 
-use crate::grounds::reached_of;
+use crate::grounds::reached_task;
 use group_cover::Groups;
 use invariant_guess::laws::finds;
 use invariant_guess::{Found, find};
 use mutex_groups::groups;
 use normal_task::Normal;
 use relaxed_reach::Reached;
-use schema_instances::instances;
 use std::alloc::{AllocError, Global};
 
 /// A reached task, and groups of its facts.
@@ -28,16 +27,6 @@ fn found_of(alloc: Global, normal: &Normal) -> Result<Found, AllocError>
 {
     finds();
     find(alloc, normal, 100000)
-}
-
-/// The reached task of a normal task.
-fn reached_task(alloc: Global, normal: &Normal) -> Result<Reached, AllocError>
-    requires { IsLawful normal.now }
-{
-    let ground = instances(alloc, normal)?;
-    let reached = reached_of(alloc, &ground);
-    drop(ground);
-    reached
 }
 
 /// The reached task of a normal task, and the groups of the candidates that are accepted.

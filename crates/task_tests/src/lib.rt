@@ -25,6 +25,8 @@ mod lines;
 #[cfg(test)]
 mod listed;
 #[cfg(test)]
+mod made;
+#[cfg(test)]
 mod moves;
 #[cfg(test)]
 mod normal;

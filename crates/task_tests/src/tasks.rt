@@ -70,10 +70,11 @@ fn normal_task(alloc: Global, domain: &str, problem: &str) -> Option<Normal>
     normal.ok()
 }
 
-fn is_row_answered<Q: Asked>(alloc: Global, row: &Row<Q>) -> bool {
-    match normal_task(alloc, row.0, row.1) {
+/// Whether what is asked of the normal task of two texts has its answer.
+pub(crate) fn is_answered<Q: Asked>(alloc: Global, domain: &str, problem: &str, asked: &Q) -> bool {
+    match normal_task(alloc, domain, problem) {
         Some(normal) => {
-            let is_answered = row.2.is_answered(alloc, &normal);
+            let is_answered = asked.is_answered(alloc, &normal);
             drop(normal);
             is_answered
         }
@@ -84,6 +85,10 @@ fn is_row_answered<Q: Asked>(alloc: Global, row: &Row<Q>) -> bool {
 /// Asserts that what each row asks has the row's answer.
 pub(crate) fn assert_answers<Q: Asked>(rt: &impl Abort, alloc: Global, rows: &[Row<Q>]) {
     for row in rows {
-        assert!(rt; is_row_answered(alloc, row), "{} {}", row.0, row.1);
+        let (domain, problem, asked) = row;
+        assert!(rt;
+            is_answered(alloc, domain, problem, asked),
+            "{domain} {problem}"
+        );
     }
 }
