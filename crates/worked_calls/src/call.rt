@@ -16,7 +16,7 @@ impl Held {
     pub fn is_met_by(&self, bytes: Option<&[u8]>) -> bool {
         match (self, bytes) {
             (Held::Anything, _) | (Held::NoFile, None) => true,
-            (Held::Text(text), Some(bytes)) => text.as_bytes() == bytes,
+            (Held::Text(text), Some(bytes)) => is_met(text, bytes),
             _ => false,
         }
     }
@@ -27,6 +27,20 @@ impl Held {
             Held::Text(text) => text.len() > bytes.len() && text.as_bytes().starts_with(bytes),
             _ => false,
         }
+    }
+}
+
+/// Whether the bytes are the text, in which a line of three points stands for any lines.
+fn is_met(text: &str, bytes: &[u8]) -> bool {
+    let Some((front, back)) = text.split_once("\n...\n") else {
+        return text.as_bytes() == bytes;
+    };
+    let Some(rest) = bytes.strip_prefix(front.as_bytes()) else {
+        return false;
+    };
+    match rest.strip_suffix(back.as_bytes()) {
+        Some(between) => between.starts_with(b"\n") && between.ends_with(b"\n"),
+        None => false,
     }
 }
 

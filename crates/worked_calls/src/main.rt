@@ -27,7 +27,8 @@
 //! Where nothing stands in the place of TEXT, it is the lines behind the bars. `of NAME` is the named text, then those lines,
 //! and `first NUMBER of NAME` so many of its bytes. `is ..` is a text of one line, without a line feed at its end. There `\n`,
 //! `\t`, `\r` and `\x7f` stand for these bytes, and `{4096 (off)}` for `(off)`, 4,096 times. Where a part so repeated has a
-//! `#`, that stands for the number of the part, from 0 on. `anything` is any text.
+//! `#`, that stands for the number of the part, from 0 on, and `[1 by 2]` for the odd numbers, from 1 on. `anything` is any
+//! text, and in a text that is printed or written a line of three points stands for any lines.
 //!
 //! Where nothing else is said, `output.sas` has room, the book has each pass, and a call takes all that it is given. Afterwards
 //! each file that stood before and isn't written holds what it held, and `output.sas` is there only where it is written or

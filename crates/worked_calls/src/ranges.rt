@@ -1,4 +1,4 @@
-//! Rows that stand for many: where a row has a range of numbers, it is a call for each.
+//! Rows that stand for many: where a row has a range of numbers, it is a call for each. So does a part that is repeated.
 
 use std::alloc::{AllocError, Global};
 use std::fmt::Write;

@@ -1,8 +1,8 @@
 //! Texts that have names, and texts of one line.
 
-use crate::line::Line;
+use crate::line::{Line, first_word};
+use crate::ranges::row_at;
 use std::alloc::{AllocError, Global};
-use std::fmt::Write;
 
 #[derive(Drop)]
 struct Named {
@@ -92,15 +92,16 @@ fn push_piece(alloc: Global, whole: &mut String, piece: &str) -> Result<(), Allo
     whole.push_str(rest)
 }
 
-/// Appends the part behind the number, so many times.
+/// Appends the part behind the number, so many times, each time with its numbers in the place of ranges.
 fn push_repeated(alloc: Global, whole: &mut String, repeated: &str) -> Result<(), AllocError> {
-    let (count, part) = crate::line::first_word(repeated);
-    let count = count.parse::<usize>().unwrap_or(0);
-    let Some((front, back)) = part.split_once('#') else {
-        return whole.push_str(&part.repeat(alloc, count)?);
-    };
-    for number in 0..count {
-        write!(whole, "{front}{number}{back}")?;
+    let (count, part) = first_word(repeated);
+    let count = count.parse::<u64>().unwrap_or(0);
+    let part = part.replace(alloc, "#", "[0 by 1]")?;
+    if !part.contains('[') {
+        return whole.push_str(&part.repeat(alloc, count as usize)?);
+    }
+    for place in 0..count {
+        whole.push_str(&row_at(alloc, &part, place)?)?;
     }
     Ok(())
 }
