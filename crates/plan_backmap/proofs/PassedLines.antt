@@ -1,13 +1,15 @@
 -- What the loop over the lines of a plan file keeps.
-use Rattle.std.proofs.Common.{◌≡◌, ℕ, ◌+◌, ◌*◌, ◌≤◌, List, [], ◌∷◌, ◌++◌, length, Option, Some, None, sym, ap, ◌∙◌, arith, append_assoc, append-nil}
+use Rattle.std.proofs.Common.{◌≡◌, ℕ, ◌+◌, ◌*◌, ◌≤◌, List, [], ◌∷◌, ◌++◌, length, Option, Some, None, refl, sym, ap, ◌∙◌, arith, append_assoc, append-nil}
 use Rattle.std.specs.Prelude.{IfSome}
-use Rattle.std.specs.List.{cons_option}
+use Rattle.std.specs.List.{cons_option, flat_map}
 use Rattle.std.specs.Option.{option_to_list}
+use Rattle.std.proofs.lemmas.List.Concat.{flat_map-append}
 use Rattle.std.proofs.lemmas.List.Sums.{sum_by-append}
 use Rattle.plan_lines.proofs.Cuts.{next_line, shorter}
 use Rattle.plan_backmap.specs.declared.plan.MapEnd.{MapEnd}
 use Rattle.plan_lines.specs.Lines.{plan_lines, trimmed}
 use Rattle.plan_lines.specs.FirstLine.{first_line, after_line}
+use Rattle.plan_lines.specs.PlanText.{step_line}
 use Rattle.plan_backmap.specs.Plans as spec
 use Rattle.plan_lines.specs.declared.plan.Step.{Step}
 use Rattle.sas_task.specs.declared.parts.Operator.{Operator}
@@ -75,3 +77,52 @@ module _ (operators : List Operator) (text : List ℕ) (number : ℕ) (steps : L
     small = omega (arith, p.small, total_is, small_found found low);
     room = omega (arith, p.room, shorter rest some, ap length after_is);
   }
+
+-- ---- with the lines of the steps written
+
+-- so many lines of a text are passed without a fault, and the lines of their steps stand behind what was written before
+pub record Written (operators : List Operator) (text : List ℕ) (number total : ℕ) (rest before written : List ℕ) : Type 0 where
+  pub steps : List Step
+  pub passed : Passed operators text number steps total rest
+  pub lines : written ≡ before ++ flat_map step_line steps
+
+pub none_written : (operators : List Operator) (text before : List ℕ) → Written operators text 0 0 text before before
+none_written operators text before = record {
+  steps = [];
+  passed = record { taken = refl; faultless = refl; cost = refl; small = omega arith; room = omega arith };
+  lines = sym (append-nil before);
+}
+
+module _ (operators : List Operator) (text : List ℕ) (number total : ℕ) (rest before written : List ℕ) (w : Written operators text number total rest before written) (some : 1 ≤ length rest)
+    (line : List ℕ) (line_is : line ≡ trimmed (first_line rest)) where
+  pub written_fault : (end : MapEnd) → spec.IfFault end (λ fault. spec.fault_of operators (number + 1) line ≡ Some fault) → spec.IfFault end (spec.IsFirst (spec.faults operators (plan_lines text)))
+  written_fault = fault_here operators text number w.steps total rest w.passed some line line_is
+
+  pub written_line : (after : List ℕ) → after ≡ after_line rest → spec.fault_of operators (number + 1) line ≡ None →
+      (found : Option Step) → found ≡ spec.step_of operators line → IfSome found (λ step. step.cost ≤ 2147483647) →
+      (new_total : ℕ) → new_total ≡ total + spec.total (option_to_list found) →
+      (new_written : List ℕ) → new_written ≡ written ++ flat_map step_line (option_to_list found) →
+      Written operators text (number + 1) new_total after before new_written
+  written_line after after_is none found found_is low new_total total_is new_written written_is =
+      let found_lines = flat_map step_line (option_to_list found) in
+      record {
+        steps = w.steps ++ option_to_list found;
+        passed = passed_line operators text number w.steps total rest w.passed some line line_is after after_is none found found_is low (w.steps ++ option_to_list found) new_total refl total_is;
+        lines =
+            written_is ∙ ap (λ old. old ++ found_lines) w.lines ∙ append_assoc before (flat_map step_line w.steps) found_lines
+            ∙ ap (λ lines. before ++ lines) (sym (flat_map-append step_line w.steps (option_to_list found)));
+      }
+
+-- all lines of a text are passed
+module _ (operators : List Operator) (text : List ℕ) (number total : ℕ) (before written : List ℕ) (w : Written operators text number total [] before written) where
+  all_steps : w.steps ≡ spec.steps operators (plan_lines text)
+  all_steps = sym (w.passed.taken ∙ append-nil w.steps)
+
+  pub all_written : written ≡ before ++ flat_map step_line (spec.steps operators (plan_lines text))
+  all_written = w.lines ∙ ap (λ steps. before ++ flat_map step_line steps) all_steps
+
+  pub whole_total : total ≡ spec.total (spec.steps operators (plan_lines text))
+  whole_total = w.passed.cost ∙ ap spec.total all_steps
+
+  pub all_faultless : spec.faults operators (plan_lines text) ≡ []
+  all_faultless = w.passed.faultless

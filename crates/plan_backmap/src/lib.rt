@@ -5,7 +5,9 @@ mod costs;
 mod laws;
 mod mapping;
 mod plan;
+mod writing;
 
 pub use laws::{solutions_cost_the_total, worked_lines, worked_plans};
 pub use mapping::map_plan;
 pub use plan::MapEnd;
+pub use writing::mapped_text;

@@ -15,7 +15,12 @@ use sas_task::SasTask;
 use std::alloc::{AllocError, Global};
 
 /// The step of a trimmed line, if it is one.
-fn step_of(alloc: Global, costs: &Costs, number: u64, line: &[u8]) -> Result<Option<Step>, MapEnd>
+pub(crate) fn step_of(
+    alloc: Global,
+    costs: &Costs,
+    number: u64,
+    line: &[u8],
+) -> Result<Option<Step>, MapEnd>
     ensures step { IfOk result (λ step. step ≡ step_of costs.now.operators line.now) }
     ensures small { IfOk result (λ step. IfSome step (λ step. step.cost ≤ 2147483647)) }
     ensures faultless { OnOk result (fault_of costs.now.operators number line.now ≡ None) }
@@ -36,7 +41,7 @@ fn step_of(alloc: Global, costs: &Costs, number: u64, line: &[u8]) -> Result<Opt
 }
 
 /// What the step costs, if there is one.
-fn step_cost(found: &Option<Step>) -> u64
+pub(crate) fn step_cost(found: &Option<Step>) -> u64
     requires { IfSome found.now (λ step. step.cost ≤ 2147483647) }
     ensures cost { result ≡ total (option_to_list found.now) }
     ensures small { result ≤ 2147483647 }

@@ -7,4 +7,4 @@ mod text;
 
 pub use lines::{after_line, first_line, inside, is_comment, is_step, name, trimmed, words};
 pub use plan::{Mapped, Step};
-pub use text::plan_text;
+pub use text::{plan_text, push_cost, push_step};

@@ -21,8 +21,8 @@ pub fn plan_text(alloc: Global, plan: &Mapped, metric: bool) -> Result<Vec<u8>, 
     Ok(text)
 }
 
-/// The line of a step.
-fn push_step(alloc: Global, text: &mut Vec<u8>, step: &Step) -> Result<(), AllocError>
+/// Appends the line of a step.
+pub fn push_step(alloc: Global, text: &mut Vec<u8>, step: &Step) -> Result<(), AllocError>
     ensures { OnOk result (text.new.items ≡ text.old.items ++ spec.step_line step.now) }
 {
     let name = name(alloc, step.words.as_slice())?;
@@ -31,8 +31,8 @@ fn push_step(alloc: Global, text: &mut Vec<u8>, step: &Step) -> Result<(), Alloc
     text.extend_from_slice(b")\n")
 }
 
-/// The last line.
-fn push_cost(text: &mut Vec<u8>, metric: bool, total: u64) -> Result<(), AllocError>
+/// Appends the last line, on what the steps cost together.
+pub fn push_cost(text: &mut Vec<u8>, metric: bool, total: u64) -> Result<(), AllocError>
     ensures { OnOk result (text.new.items ≡ text.old.items ++ spec.cost_line metric total) }
 {
     text.extend_from_slice(b"; cost = ")?;
