@@ -18,6 +18,8 @@ static ABSENT: &str = "tl_device_absent";
 
 static APART: &str = "tl_device_apart";
 
+static STAYING: &str = "tl_device_staying";
+
 /// Bytes that count up from the first one, and begin anew behind 250.
 fn counted(alloc: Global, first: u8, length: usize) -> Result<Vec<u8>, AllocError> {
     let mut bytes = Vec::new(alloc);
@@ -100,12 +102,13 @@ fn refused<T>() -> io::Result<T>
     Err(io::Error::from(io::ErrorKind::Unsupported))
 }
 
-/// A file that is read and written by a second descriptor alone, as one has to be that was opened where a standard stream is
-/// closed: its first descriptor has the number of the stream.
+/// A file that is read, written and emptied by a second descriptor alone, as one has to be that was opened where a standard
+/// stream is closed: its first descriptor has the number of the stream.
 #[derive(Drop)]
 struct Opened<F> {
     file: F,
     is_second: bool,
+    can_double: bool,
 }
 
 impl<F: Read> Read for Opened<F> {
@@ -140,11 +143,19 @@ impl<F> Seek for Opened<F> {
 
 impl<F: OpenFile> OpenFile for Opened<F> {
     fn metadata(&self) -> io::Result<Metadata> {
-        refused()
+        if self.is_second {
+            self.file.metadata()
+        } else {
+            refused()
+        }
     }
 
-    fn set_len(&self, _: u64) -> io::Result<()> {
-        refused()
+    fn set_len(&self, size: u64) -> io::Result<()> {
+        if self.is_second {
+            self.file.set_len(size)
+        } else {
+            refused()
+        }
     }
 
     fn sync_all(&self) -> io::Result<()> {
@@ -156,17 +167,23 @@ impl<F: OpenFile> OpenFile for Opened<F> {
     }
 
     fn try_clone(&self) -> io::Result<Opened<F>> {
+        if !self.can_double {
+            return refused();
+        }
         Ok(Opened {
             file: self.file.try_clone()?,
             is_second: true,
+            can_double: true,
         })
     }
 }
 
-/// The files of a runtime, each opened by a first descriptor. Nothing but opening works.
+/// The files of a runtime, each opened by a first descriptor, of which a second may be had or not. Nothing but opening and
+/// removing works.
 #[derive(Drop)]
 struct FirstOpened<'a, R> {
     runtime: &'a R,
+    can_double: bool,
 }
 
 impl<'a, R: rt::Files> rt::Files for FirstOpened<'a, R> {
@@ -178,6 +195,7 @@ impl<'a, R: rt::Files> rt::Files for FirstOpened<'a, R> {
         Ok(Opened {
             file: self.runtime.open_file(how, path)?,
             is_second: false,
+            can_double: self.can_double,
         })
     }
 
@@ -201,8 +219,8 @@ impl<'a, R: rt::Files> rt::Files for FirstOpened<'a, R> {
         refused()
     }
 
-    fn remove_file(&self, _: &str) -> io::Result<()> {
-        refused()
+    fn remove_file(&self, path: &str) -> io::Result<()> {
+        self.runtime.remove_file(path)
     }
 
     fn create_dir(&self, _: &str) -> io::Result<()> {
@@ -220,7 +238,10 @@ impl<'a, R: rt::Files> rt::Files for FirstOpened<'a, R> {
 
 #[test]
 fn a_real_file_is_written_and_read_by_a_second_descriptor(rt: HostRuntime) {
-    let opened = FirstOpened { runtime: &rt };
+    let opened = FirstOpened {
+        runtime: &rt,
+        can_double: true,
+    };
     let mut files = RealFiles::new(&opened);
     assert!(rt;
         is_put(&opened, APART, b"apart") && holds(&rt, APART, b"apart"),
@@ -231,6 +252,24 @@ fn a_real_file_is_written_and_read_by_a_second_descriptor(rt: HostRuntime) {
         "read"
     );
     assert!(rt; is_removed(&rt, APART));
+}
+
+#[test]
+fn where_no_second_descriptor_is_to_be_had_all_files_stay(rt: HostRuntime) {
+    let opened = FirstOpened {
+        runtime: &rt,
+        can_double: false,
+    };
+    let is_set = fs::write(&rt, STAYING, b"older").is_ok();
+    assert!(rt;
+        is_set && !is_put(&opened, STAYING, b"newer") && holds(&rt, STAYING, b"older"),
+        "a file"
+    );
+    assert!(rt; is_removed(&rt, STAYING));
+    assert!(rt;
+        !is_put(&opened, STAYING, b"newer") && !is_begun(&rt, STAYING),
+        "no file"
+    );
 }
 
 /// A printer that is to print a text. A call takes so many bytes at most, and fails where they aren't the next ones,

@@ -4,7 +4,7 @@ ghost use Rattle.std.specs.Io.KnownBytes.{ReadConsumes, WriteAppends};
 ghost use Rattle.tl_device.specs.Causes.{HasCause, saturating_add};
 
 use crate::{Console, Failed, Files};
-use std::fs::OpenFile;
+use std::fs::{OpenFile, OpenOptions};
 use std::io::{Printer, Read, Write};
 use std::{fs, io, rt};
 
@@ -103,7 +103,7 @@ impl<'a, R: rt::Files> Files for RealFiles<'a, R> {
     }
 
     fn create_file(&mut self, name: &str) -> Result<(), Failed> {
-        self.writing = apart(fs::create(self.runtime, name));
+        self.writing = created(self.runtime, name);
         if self.writing.is_none() {
             self.write_faults = self.write_faults.saturating_add(1);
             return Err(Failed);
@@ -138,6 +138,37 @@ impl<'a, R: rt::Files> Files for RealFiles<'a, R> {
 // opened where such a stream is closed gets the stream's number, and what is printed would go into the file.
 fn apart<F: OpenFile + Drop>(opened: io::Result<F>) -> Option<F> {
     opened.ok()?.try_clone().ok()
+}
+
+// The file of a name, made where there is none, without its bytes. The second descriptor is had before the file is emptied.
+fn created<R: rt::Files>(runtime: &R, name: &str) -> Option<R::File> {
+    let file = opened_to_write(runtime, name)?;
+    if file.metadata().ok()?.is_file() {
+        file.set_len(0).ok()?;
+    }
+    Some(file)
+}
+
+// The file of a name, made where there is none, and else as it is. Where no second descriptor is to be had, all files are as
+// before: what was made is removed.
+fn opened_to_write<R: rt::Files>(runtime: &R, name: &str) -> Option<R::File> {
+    let Ok(made) = OpenOptions::new()
+        .write(true)
+        .create_new(true)
+        .open(runtime, name)
+    else {
+        return apart(
+            OpenOptions::new()
+                .write(true)
+                .create(true)
+                .open(runtime, name),
+        );
+    };
+    let second = apart(Ok(made));
+    if second.is_none() {
+        let _ = fs::remove_file(runtime, name);
+    }
+    second
 }
 
 // Writes a front of the piece. It is a fault to fail, and to take nothing where there is something.
