@@ -87,10 +87,12 @@ is_function domain name = is_declared domain.functions name || is_same name tota
 abbrev pub unknown_functions : Domain → List Mention → List At
 unknown_functions domain mentions = positions_where (λ name. not (is_function domain name.name)) (map (λ usage. usage.name) (flat_map function_uses mentions))
 
--- so many arguments as declared; `total-cost` has none where it isn't declared
+-- `total-cost` has no arguments, and is declared with none or not at all; another function has as many arguments as declared
 abbrev pub is_well_used : Domain → Use → Bool
 is_well_used domain usage =
-    has_arity domain.functions usage || (is_same usage.name.name total_cost && not (is_declared domain.functions total_cost) && (usage.arity == 0))
+    if is_same usage.name.name total_cost
+    then (usage.arity == 0) && (has_arity domain.functions usage || not (is_declared domain.functions total_cost))
+    else has_arity domain.functions usage
 
 abbrev pub use_positions : List Use → List At
 use_positions uses = map (λ usage. usage.name.at) uses

@@ -187,12 +187,16 @@ fn wrong_function(signature: &Signature<'_>, mention: &Mention<'_>) -> Option<At
     }
 }
 
-/// Whether a function has as many arguments as some declaration. `total-cost` has none where it isn't declared.
+/// Whether a function has as many arguments as some declaration. `total-cost` has none, and needs no declaration.
 fn is_well_used(signature: &Signature<'_>, usage: &Usage<'_>) -> bool
     ensures { result ≡ is_well_used signature.now (shown usage.now) }
 {
-    signature.function_takes(usage.name.name.as_slice(), usage.arity)
-        || usage.is_total_cost() && !signature.has_function(total_cost()) && usage.arity == 0
+    let is_declared_so = signature.function_takes(usage.name.name.as_slice(), usage.arity);
+    if usage.is_total_cost() {
+        usage.arity == 0 && (is_declared_so || !signature.has_function(total_cost()))
+    } else {
+        is_declared_so
+    }
 }
 
 /// The first declaration of `total-cost` with arguments.

@@ -1,8 +1,8 @@
 -- In a pair without check faults an action has at most one increase. It is outermost, and a term that it names is a declared function, other than the total cost, of objects and bound variables.
-use Rattle.std.proofs.Common.{◌≡◌, ◌+◌, Bool, true, false, not, ◌&&◌, List, [], ◌∷◌, ◌++◌, map, length, nat_eq, inl, inr, ◌⊎◌, refl, sym, ap, ◌∙◌, subst}
-use Rattle.std.specs.Prelude.{nat_le, if◌then◌else◌}
+use Rattle.std.proofs.Common.{◌≡◌, ◌+◌, Bool, true, false, not, ◌&&◌, List, [], ◌∷◌, ◌++◌, map, length, nat_eq, inl, inr, refl, sym, ap, ◌∙◌, subst}
+use Rattle.std.specs.Prelude.{◌||◌, nat_le, if◌then◌else◌}
 use Rattle.std.specs.List.{list_all, flat_map}
-use Rattle.std.proofs.lemmas.Bool.{and_parts, and_from, or_cases, not-true, false≢true}
+use Rattle.std.proofs.lemmas.Bool.{and_parts, and_from, not-true, false≢true}
 use Rattle.std.proofs.lemmas.List.{length-append}
 use Rattle.pddl_lexer.specs.declared.position.At.{At}
 use Rattle.pddl_parser.specs.declared.types.Action.{Action}
@@ -115,18 +115,9 @@ module _ (domain : Domain) (problem : Problem) where
 
       -- what is well used and isn't the total cost is declared
       declared : (function : Atom) → is_well_used domain (use_of function) ≡ true → is_same function.predicate.name total_cost ≡ false → has_arity domain.functions (use_of function) ≡ true
-      declared function used other = by_case (or_cases (has_arity domain.functions (use_of function)) undeclared used)
-        where
-          first_two : Bool
-          first_two = is_same function.predicate.name total_cost && not (is_declared domain.functions total_cost)
-
-          undeclared : Bool
-          undeclared = is_same function.predicate.name total_cost && not (is_declared domain.functions total_cost) && nat_eq (length function.terms) 0
-
-          by_case : (has_arity domain.functions (use_of function) ≡ true) ⊎ (undeclared ≡ true) → has_arity domain.functions (use_of function) ≡ true
-          by_case (inl here) = here
-          by_case (inr total) =
-              absurd (false≢true (sym other ∙ (and_parts (is_same function.predicate.name total_cost) (not (is_declared domain.functions total_cost)) (and_parts first_two (nat_eq (length function.terms) 0) total).0).0))
+      declared function used other =
+          subst (λ (total : Bool). (if total then nat_eq (length function.terms) 0 && (has_arity domain.functions (use_of function) || not (is_declared domain.functions total_cost)) else has_arity domain.functions (use_of function)) ≡ true)
+          other used
 
       by : (cost : Cost) (depth : Depth) → AreFormed (increases_step (Effect-F.Increase term cost at) depth) → (scope : Scope) → scopes.effect_step (Effect-F.Increase term cost at) scope ≡ [] →
           list_all is_sound (effect_step (Effect-F.Increase term cost at)) ≡ true → CostSound scope cost
