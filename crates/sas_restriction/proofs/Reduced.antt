@@ -1,5 +1,6 @@
 -- The task without what can't influence its goal is the restriction to its relevant variables, and may stand for it.
-use Rattle.std.proofs.Common.{◌≡◌, ◌≢◌, ℕ, ◌<◌, true, false, ◌&&◌, eqb, ltb, List, [], ◌∷◌, map, filter, length, get_or, append-nil, ◌⊎◌, refl, sym, ap, ◌∙◌, subst, inl, inr}
+use Rattle.std.proofs.Common.{◌≡◌, ◌≢◌, ℕ, ◌<◌, true, false, ◌&&◌, eqb, ltb, List, [], ◌∷◌, map, filter, sum, length, get_or, append-nil, ◌⊎◌, refl, sym, ap, ◌∙◌, subst, inl, inr, arith}
+use Rattle.std.specs.Prelude.{IsTrue}
 use Rattle.std.specs.List.{Contains}
 use Rattle.std.proofs.lemmas.List.Elements.{All-contains}
 use Rattle.runs.specs.Systems.{IsFollowedWhere}
@@ -11,14 +12,15 @@ use Rattle.sas_task.specs.declared.parts.Operator.{Operator}
 use Rattle.sas_task.specs.declared.parts.Rule.{Rule}
 use Rattle.sas_task.specs.Task.{Task, of_parts}
 use Rattle.sas_task.specs.Valid.{IsValid, IsValidGroup}
-use Rattle.sas_task.specs.Solution.{system}
+use Rattle.sas_task.specs.Values.{all_hold, values}
+use Rattle.sas_task.specs.Solution.{HasSolution, cost_in, system}
 use Rattle.sas_task.specs.Keeps.{Keeps}
 use Rattle.sas_task.specs.Orders.{group_cmp, effect_cmp, operator_cmp, rule_cmp}
 use Rattle.sas_task.proofs.KeepsLaws.{keeps_itself}
 use Rattle.sas_task.proofs.Orders.{operator_total}
 use Rattle.sas_task.proofs.ValidParts.{operator_law, effect_law}
 use Rattle.lists.specs.Members.{is_among}
-use Rattle.lists.proofs.Members.{map_member, filter_member}
+use Rattle.lists.proofs.Members.{no_member, map_member, filter_member}
 use Rattle.sas_orders.specs.InOrder.{sorted, in_order}
 use Rattle.sas_orders.proofs.Sorted.{sorted_member}
 use Rattle.sas_restriction.specs.declared.chosen.Once.{Once}
@@ -133,6 +135,46 @@ reduced_keeps T T' valid is = of_either (Keeps T) T T' is (keeps_itself T) (part
 
 pub reduced_solves : (T T' : Task) → IsValid T → (part : HasRelevantAlone T T') → KeepsPart (changes_some part.vars) T T'
 reduced_solves T T' valid part = subst (KeepsPart (changes_some part.vars) T) (sym part.same) (part_solves T valid part.vars part.are)
+
+-- no variable is relevant to an empty goal
+none_relevant : (T : Task) → T.goal ≡ [] → AreRelevant T []
+none_relevant T none =
+    record {
+      sorted = λ k within. absurd (omega (arith, within));
+      closed = record {
+        goal = λ p in'. absurd (no_member p (subst (λ (ps : List Pair). Contains ps p) none in'));
+        rules = λ r p in-r has in'. absurd cc;
+        operators = λ o e p in-o in-e has in'. absurd cc;
+        effects = λ o e p in-o in-e has in'. absurd cc;
+        disagreements = λ o e a b in-o in-e has in-a in-b same other. absurd cc;
+      };
+      least = λ has all var among. absurd cc;
+    }
+
+-- no operator changes one of no variables
+none_passes : (os : List Operator) → filter (changes_some []) os ≡ []
+none_passes [] = refl
+none_passes (o ∷ os) = none_passes os
+
+-- where nothing is wanted, nothing need be done
+nothing_done : (T : Task) → T.goal ≡ [] → HasSolution T [] 0
+nothing_done T none =
+    record { steps = []; end = T.state; leads = refl; meets = subst (λ (ps : List Pair). IsTrue (all_hold (values T T.state) ps)) (sym none) refl; same_names = refl; same_cost = refl }
+
+-- the same of what the pass makes of it: with an empty goal these are no operators
+pub part_of_reduced : (T T' : Task) (vars : List ℕ) → IsValid T → IsReduced T T' → AreRelevant T vars → KeepsPart (changes_some vars) T T'
+part_of_reduced T T' vars valid is are =
+    elim (empty_or_not T.goal) [
+      | inl none ↦ λ steps end leads meets.
+          let no_vars : vars ≡ [] = one_list T vars [] are (none_relevant T none) in
+          let no_steps : filter (changes_some vars) steps ≡ [] = ap (λ (vs : List ℕ). filter (changes_some vs) steps) no_vars ∙ none_passes steps in
+          subst (λ (os : List Operator). HasSolution T' (map (λ o. o.name) os) (sum (map (cost_in T) os))) (sym no_steps)
+          (subst (λ (t : Task). HasSolution t [] 0) (sym (is.empty_goal none)) (nothing_done T none))
+      | inr some ↦
+          let part = is.some_goal some in
+          let same : reduced vars T ≡ T' = ap (λ (vs : List ℕ). reduced vs T) (one_list T vars part.vars are part.are) ∙ sym part.same in
+          subst (KeepsPart (changes_some vars) T) same (part_solves T valid vars are)
+    ]
 
 -- operators have the names and costs of the task's
 pub reduced_costs : (T T' : Task) → IsReduced T T' → KeepsCosts T T'

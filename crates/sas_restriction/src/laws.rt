@@ -1,6 +1,6 @@
 //! Laws of restrictions, and of one of them. The functions do nothing: their clauses are the laws.
 
-ghost use Rattle.std.specs.Prelude.{◌≡◌, [], ◌∷◌};
+ghost use Rattle.std.specs.Prelude.{◌≡◌, ℕ, List, [], ◌∷◌};
 ghost use Rattle.sas_task.specs.Task.{Task};
 ghost use Rattle.sas_task.specs.Valid.{IsValid};
 ghost use Rattle.sas_task.specs.Keeps.{Keeps, KeepsChanging};
@@ -11,6 +11,7 @@ ghost use Rattle.sas_restriction.specs.MayStand.{MayStand, TellsAll};
 ghost use Rattle.sas_restriction.specs.KeepsCosts.{KeepsCosts};
 ghost use Rattle.sas_restriction.specs.Reordered.{changing_operators, variable_order, renumbered, IsReordered};
 ghost use Rattle.sas_restriction.specs.KeepsPart.{KeepsPart};
+ghost use Rattle.sas_restriction.specs.Relevant.{AreRelevant};
 ghost use Rattle.sas_restriction.specs.Reduced.{changes_some, reduced, HasRelevantAlone, IsReduced};
 ghost use Rattle.sas_restriction.specs.Examples.{room_reordered, belfry, belfry_reduced};
 
@@ -42,12 +43,14 @@ pub fn reordered_example()
 
 /// A valid task without what can't influence its goal is valid and may stand for the task. More exactly, of a solution of
 /// the task the operators that have an effect on a relevant variable are, in their order and with their names and costs,
-/// a solution of the task with its relevant variables alone. The new task is one task, and its operators have the names
-/// and costs of the task's.
+/// a solution of the task with its relevant variables alone, and so of the new task, also where the goal is empty: no
+/// variable is relevant then, and nothing need be done. The new task is one task, and its operators have the names and
+/// costs of the task's.
 pub fn reduction_keeps()
     ensures valid { (task new : Task) → IsValid task → IsReduced task new → IsValid new }
     ensures stands { (task new : Task) → IsValid task → IsReduced task new → Keeps task new }
     ensures relevant_steps { (task new : Task) → IsValid task → (part : HasRelevantAlone task new) → KeepsPart (changes_some part.vars) task new }
+    ensures reduced_steps { (task new : Task) (vars : List ℕ) → IsValid task → IsReduced task new → AreRelevant task vars → KeepsPart (changes_some vars) task new }
     ensures costs { (task new : Task) → IsReduced task new → KeepsCosts task new }
     ensures one { (task new other : Task) → IsReduced task new → IsReduced task other → new ≡ other }
 {}
