@@ -1,7 +1,7 @@
 -- At which lines a fault can stand, and that it doesn't rest on the lines after it.
 use Rattle.std.proofs.Common.{◌≡◌, ℕ, ◌+◌, ◌<◌, ◌≤◌, Bool, false, cond, eqb, inl, inr, List, [], ◌∷◌, ◌++◌, length, Some, None, Ok, Err, refl, sym, ap, ◌∙◌, subst, append-nil, arith}
 use Rattle.std.specs.List.{onto_first}
-use Rattle.std.proofs.lemmas.Bool.{cases_Bool}
+use Rattle.std.proofs.lemmas.Bool.{cases_Bool, cases_lt}
 use Rattle.std.proofs.lemmas.Option.{none-some, same_Some}
 use Rattle.std.proofs.lemmas.List.Splits.{slice_split-cons_yes, slice_split-cons_no, length-slice_split}
 use Rattle.std.proofs.lemmas.List.Sums.{sum_by-cons}
@@ -130,3 +130,13 @@ same_fault front one other fault is low =
 pub no_task : (front more : List ℕ) (fault : SasFault) → line_fault front ≡ Some fault → fault.line ≤ whole_lines front → line_fault (front ++ more) ≡ None → ⊥
 no_task front more fault is low none =
     none-some fault (sym none ∙ same_fault front [] more fault (ap line_fault (append-nil front) ∙ is) low)
+
+-- what stands before the first line that breaks its rule has a fault only at its end
+pub fault_at_end : (front more : List ℕ) (fault own : SasFault) → line_fault (front ++ more) ≡ Some fault → whole_lines front < fault.line → line_fault front ≡ Some own → own.line ≡ whole_lines front + 1
+fault_at_end front more fault own is later told =
+    elim (cases_lt (whole_lines front) own.line) [
+      | inl high ↦ omega (arith, high, (fault_within front own told).1)
+      | inr low ↦
+          let same : own ≡ fault = same_Some own fault (sym (same_fault front [] more own (ap line_fault (append-nil front) ∙ told) low) ∙ is) in
+          absurd (omega (arith, low, later, ap (λ (f : SasFault). f.line) same))
+    ]

@@ -29,7 +29,11 @@ pub fn first_faults()
     ensures alike { (front one other : List ℕ) (fault : SasFault) →
         line_fault (front ++ one) ≡ Some fault → fault.line ≤ whole_lines front → line_fault (front ++ other) ≡ Some fault }
 
-    // So a text that begins with these lines is that of no valid task.
+    // What stands before it has a fault of its own only where it ends: at the line that is missing or unfinished there.
+    ensures before { (front more : List ℕ) (fault own : SasFault) → line_fault (front ++ more) ≡ Some fault → whole_lines front < fault.line →
+        line_fault front ≡ Some own → own.line ≡ whole_lines front + 1 }
+
+    // A text that begins with the lines up to it is that of no valid task.
     ensures hopeless { (front more : List ℕ) (fault : SasFault) → line_fault front ≡ Some fault → fault.line ≤ whole_lines front →
         length (front ++ more) < 2 ^ 32 → HasTask (front ++ more) → ⊥ }
 {}
