@@ -2,7 +2,6 @@
 use Rattle.std.proofs.Common.{◌≡◌, List, refl, sym, ap, ap₂, ◌∙◌, subst}
 use Rattle.invariant_guess.specs.declared.types.Found.{Found}
 use Rattle.sas_task.specs.Task.{Task}
-use Rattle.tl_device.specs.Contents.{Contents}
 use Rattle.command_line.specs.declared.accepted.Settings.{Settings}
 use Rattle.pass_book.specs.declared.kind.PassKind.{PassKind}
 use Rattle.pass_book.specs.Passes.{IsChain}
@@ -10,8 +9,8 @@ use Rattle.run_task.specs.RunTask.{Start, FromPair, FromTask, IsMadeFrom, output
 use Rattle.run_task.specs.OneTask.{OneTaskOfPair}
 use Rattle.translator.specs.Asked.{Asked}
 use Rattle.translator.specs.Ending.{Gives, Absent, Refused, ◌>>=◌}
-use Rattle.translator.specs.Plan.{of_plan}
-use Rattle.translator.specs.Run.{no_file, faulty, made}
+use Rattle.translator.specs.Plan.{lines_on}
+use Rattle.translator.specs.Run.{Inputs, no_file, faulty, made}
 use Rattle.translator.specs.OneRun.{OneEnding}
 
 module _ (one_task_of_pair : OneTaskOfPair) (one_chain : (kinds : List PassKind) (old new other : Task) → IsChain kinds old new → IsChain kinds old other → new ≡ other) where
@@ -21,24 +20,25 @@ module _ (one_task_of_pair : OneTaskOfPair) (one_chain : (kinds : List PassKind)
   one_of_start (FromTask written) settings passes found found' one other p q = (p.0 ∙ sym q.0, one_chain passes written one other p.1 q.1)
 
   -- the plan file is mapped back to one task
-  one_written : (files : Contents) (asked : Asked) (start start' : Start) (found found' : Found) (one other : Task) → start ≡ start' → IsMadeFrom start asked.settings asked.passes found one → IsMadeFrom start' asked.settings asked.passes found' other →
-      (of_plan files asked.plan one >>= λ lines. Gives (output_of found one lines)) ≡ (of_plan files asked.plan other >>= λ lines. Gives (output_of found' other lines))
-  one_written files asked start start' found found' one other same p q =
-      let both = one_of_start start' asked.settings asked.passes found found' one other (subst (λ (s : Start). IsMadeFrom s asked.settings asked.passes found one) same p) q in
-      ap₂ (λ (f : Found) (t : Task). of_plan files asked.plan t >>= λ lines. Gives (output_of f t lines)) both.0 both.1
+  one_written : (asked : Asked) (inputs inputs' : Inputs) (found found' : Found) (one other : Task) → inputs ≡ inputs' → IsMadeFrom inputs.start asked.settings asked.passes found one → IsMadeFrom inputs'.start asked.settings asked.passes found' other →
+      (lines_on one inputs.plan >>= λ lines. Gives (output_of found one lines)) ≡ (lines_on other inputs'.plan >>= λ lines. Gives (output_of found' other lines))
+  one_written asked inputs inputs' found found' one other same p q =
+      let both = one_of_start inputs'.start asked.settings asked.passes found found' one other (subst (λ (i : Inputs). IsMadeFrom i.start asked.settings asked.passes found one) same p) q in
+      ap (λ (i : Inputs). lines_on one i.plan >>= λ lines. Gives (output_of found one lines)) same
+      ∙ ap₂ (λ (f : Found) (t : Task). lines_on t inputs'.plan >>= λ lines. Gives (output_of f t lines)) both.0 both.1
 
   pub one_ending : OneEnding
   one_ending files asked one other (no_file name is) (no_file name' is') = let same : name ≡ name' = cc (is, is') in ap Absent same
   one_ending files asked one other (no_file name is) (faulty name' message' is') = absurd (cc (is, is'))
-  one_ending files asked one other (no_file name is) (made start' found' task' is' of') = absurd (cc (is, is'))
+  one_ending files asked one other (no_file name is) (made inputs' found' task' is' of') = absurd (cc (is, is'))
   one_ending files asked one other (faulty name message is) (no_file name' is') = absurd (cc (is, is'))
   one_ending files asked one other (faulty name message is) (faulty name' message' is') =
       let names : name ≡ name' = cc (is, is') in
       let messages : message ≡ message' = cc (is, is') in
       ap (λ n. Refused n message) names ∙ ap (Refused name') messages
-  one_ending files asked one other (faulty name message is) (made start' found' task' is' of') = absurd (cc (is, is'))
-  one_ending files asked one other (made start found task is of) (no_file name' is') = absurd (cc (is, is'))
-  one_ending files asked one other (made start found task is of) (faulty name' message' is') = absurd (cc (is, is'))
-  one_ending files asked one other (made start found task is of) (made start' found' task' is' of') =
-      let same : start ≡ start' = cc (is, is') in
-      one_written files asked start start' found found' task task' same of of'
+  one_ending files asked one other (faulty name message is) (made inputs' found' task' is' of') = absurd (cc (is, is'))
+  one_ending files asked one other (made inputs found task is of) (no_file name' is') = absurd (cc (is, is'))
+  one_ending files asked one other (made inputs found task is of) (faulty name' message' is') = absurd (cc (is, is'))
+  one_ending files asked one other (made inputs found task is of) (made inputs' found' task' is' of') =
+      let same : inputs ≡ inputs' = cc (is, is') in
+      one_written asked inputs inputs' found found' task task' same of of'

@@ -30,11 +30,20 @@ use Rattle.run_task.specs.Theorem.{Owes, TasksTranslate, PassedTasksStand}
 use Rattle.translator.specs.Asked.{Asked}
 use Rattle.translator.specs.Call.{IsWritten}
 use Rattle.translator.specs.Ending.{Ending, Gives, ◌>>=◌}
-use Rattle.translator.specs.Plan.{of_plan}
-use Rattle.translator.specs.Run.{Text, read, made_domain, made_problem, unless_broken, of_texts, of_task_text, of_source, ComesTo, no_file, faulty, made}
+use Rattle.translator.specs.Plan.{text_of_plan, lines_on}
+use Rattle.translator.specs.Run.{Text, read, made_domain, made_problem, unless_broken, of_texts, of_task_text, of_source, Inputs, of_files, ComesTo, no_file, faulty, made}
 use Rattle.translator.specs.Theorem.{IsTranslation, HoldsTranslation, OutputsTranslate}
 use Rattle.translator.proofs.Stages.{stage_gives, gives_checked}
+use Rattle.translator.proofs.Sources.{Begun, AfterSource, files_in_turn}
 use Rattle.translator.proofs.WrittenTasks.{read_valid}
+
+-- where all files give something to go on with, the source gives its start
+starts_from : (files : Contents) (asked : Asked) (inputs : Inputs) → of_files files asked ≡ Gives inputs → of_source files asked.source ≡ Gives inputs.start
+starts_from files asked inputs is =
+    let source = stage_gives (of_source files asked.source) (AfterSource files asked) inputs (sym (files_in_turn files asked) ∙ is) in
+    let plan = stage_gives (text_of_plan files asked.plan) (λ plan. Gives (Begun source.0 plan)) inputs source.2 in
+    let same : Begun source.0 plan.0 ≡ inputs = cc (plan.2) in
+    source.1 ∙ ap (λ (i : Inputs). Gives i.start) same
 
 -- the task that is read in a text
 broken_gives : (name : List ℕ) (reading : Result Task SasFault) (start : Start) → unless_broken name reading ≡ Gives start → (written : Task) × (reading ≡ Ok written) × (start ≡ FromTask written)
@@ -80,15 +89,16 @@ module _ (spelled : (tree : Members) (domain : Domain) → domain_reading tree �
   translated : (files : Contents) (asked : Asked) (output : Output) (e : Ending Output) → ComesTo files asked e → e ≡ Gives output → IsTranslation files asked output.text
   translated files asked output e (no_file name is) gives = absurd (cc (gives))
   translated files asked output e (faulty name message is) gives = absurd (cc (gives))
-  translated files asked output e (made start found new is is_made) gives =
-      let lines = stage_gives (of_plan files asked.plan new) (λ lines. Gives (output_of found new lines)) output gives in
+  translated files asked output e (made inputs found new is is_made) gives =
+      let lines = stage_gives (lines_on new inputs.plan) (λ lines. Gives (output_of found new lines)) output gives in
       let same : output ≡ output_of found new lines.0 = cc (lines.2) in
+      let begun = starts_from files asked inputs is in
       record {
-        start = start;
-        gives = is;
+        start = inputs.start;
+        gives = begun;
         task = new;
         text = ap (λ (o : Output). o.text) same;
-        owes = owed asked.settings asked.passes found new files asked.source start is is_made;
+        owes = owed asked.settings asked.passes found new files asked.source inputs.start begun is_made;
       }
 
   pub outputs : OutputsTranslate

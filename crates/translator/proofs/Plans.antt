@@ -14,9 +14,9 @@ use Rattle.sas_task.specs.Task.{Task}
 use Rattle.messages.specs.declared.outcome.Message.TheVariants as messages
 use Rattle.translator.specs.Ending.{Gives, Refused, ◌>>=◌}
 use Rattle.translator.specs.Texts.{Text, read}
-use Rattle.translator.specs.Plan.{unless_faulty, mapped_lines, of_plan}
+use Rattle.translator.specs.Plan.{unless_faulty, mapped_lines}
 use Rattle.translator.specs.Store.{Store}
-use Rattle.translator.specs.Stages.{IsRead}
+use Rattle.translator.specs.Stages.{IsRead, of_plan}
 use Rattle.translator.proofs.Stages.{IsToldOf}
 use Rattle.translator.proofs.Sources.{always}
 

@@ -21,13 +21,13 @@ use Rattle.sas_task.specs.Task.{Task}
 use Rattle.sas_task.specs.Output.{text_of}
 use Rattle.run_task.specs.declared.pair.Made.{Made}
 use Rattle.translator.specs.Ending.{Ending, Gives, Absent, Refused, ◌>>=◌}
-use Rattle.translator.specs.Plan.{of_plan, plan_names}
+use Rattle.translator.specs.Plan.{mapped_lines, lines_on, text_of_plan, plan_names}
 use Rattle.pass_book.specs.Passes.{IsChain}
 use Rattle.run_task.specs.RunTask.{Output, Start, FromPair, FromTask, IsTaskOf, summary_of, output_of}
-use Rattle.translator.specs.Run.{Text, text, read, of_texts, of_source, inputs, titles, all_inputs, all_titles, names_read, made_domain, made_problem, ComesTo, no_file, faulty, made}
+use Rattle.translator.specs.Run.{Text, text, read, of_texts, of_source, inputs, titles, all_inputs, all_titles, names_read, made_domain, made_problem, Inputs, of_files, ComesTo, no_file, faulty, made}
 use Rattle.translator.specs.Store.{Store, IsUntouched, AsksForNoOther}
 use Rattle.translator.specs.Call.{Ends, misused, starved, unread, refused}
-use Rattle.translator.specs.Stages.{IsRefusal, StopsWhere, StopsReading, IsRead, IsMadeOf}
+use Rattle.translator.specs.Stages.{IsRefusal, StopsWhere, StopsReading, IsRead, IsMadeOf, of_plan}
 use Rattle.translator.proofs.Stages.{Leads, first_leads, goes_on, texts_told, refused_of}
 
 -- ---- what holds where something is told
@@ -217,13 +217,40 @@ within_left xs ys name = Contains-append_left xs ys name
 within_right : (xs ys : List (List ℕ)) → IsWithin ys (xs ++ ys)
 within_right xs ys name = Contains-append_right xs ys name
 
+-- the plan file is read, and then its lines are mapped back
+plan_in_turn : (held : Contents) (plan : Option (List ℕ)) (task : Task) → of_plan held plan task ≡ (text_of_plan held plan >>= lines_on task)
+unfolding of_plan text_of_plan
+plan_in_turn held None task = refl
+plan_in_turn held (Some name) task = by_text (read held name)
+  where
+    by_text : (e : Ending Text) → (e >>= mapped_lines task) ≡ ((e >>= λ plan. Gives (Some plan)) >>= lines_on task)
+    by_text (Gives plan) = refl
+    by_text (Absent other) = refl
+    by_text (Refused other message) = refl
+
+-- the plan file is read once the source has given a start
+abbrev pub Begun : Start → Option Text → Inputs
+Begun start plan = record { start = start; plan = plan }
+
+abbrev pub AfterSource : Contents → Asked → Start → Ending Inputs
+AfterSource held asked start = text_of_plan held asked.plan >>= λ plan. Gives (Begun start plan)
+
+pub files_in_turn : (held : Contents) (asked : Asked) → of_files held asked ≡ (of_source held asked.source >>= AfterSource held asked)
+unfolding of_files
+files_in_turn held asked = refl
+
 module _ (asked : Asked) where
+  source_leads : (held : Contents) → Leads (λ (e : Ending Start). of_source held asked.source ≡ e) (λ (e : Ending Output). ComesTo held asked e)
+  source_leads held =
+      let lead = first_leads (of_files held asked) (of_source held asked.source) (AfterSource held asked) (files_in_turn held asked) in
+      record { absent = λ name comes. no_file name (lead.absent name comes); refused = λ name message comes. faulty name message (lead.refused name message comes) }
+
   -- what stops the source stops the run
   pub run_stops : (before now : Store) (end : End) → StopsReading before now (inputs asked.source) (titles asked.source) (λ held e. of_source held asked.source ≡ e) end → StopsReading before now (all_inputs asked) (all_titles asked) (λ held. ComesTo held asked) end
   run_stops before now =
       stops_later before before now (inputs asked.source) (titles asked.source) (all_inputs asked) (all_titles asked) (λ held e. of_source held asked.source ≡ e) (λ held. ComesTo held asked) (same_store before) refl
       (within_left (inputs asked.source) (plan_names asked.plan)) (within_left (titles asked.source) (plan_names asked.plan))
-      (always _ before.files (λ held. record { absent = no_file; refused = faulty }))
+      (always _ before.files source_leads)
 
   -- what the passes make of the task that is made of the source
   pub passed_so : (before mid : Store) (found found' : Found) (first task : Task) → found' ≡ found → IsChain asked.passes first task
@@ -244,7 +271,17 @@ module _ (asked : Asked) where
   comes_by_plan : (held : Contents) (found : Found) (task : Task) (e : Ending Start) → of_source held asked.source ≡ e → IsMadeOf e asked.settings asked.passes found task
       → (p : Ending (List ℕ)) → of_plan held asked.plan task ≡ p → ComesTo held asked (p >>= λ lines. Gives (output_of found task lines))
   comes_by_plan held found task (Gives start) is is_made p mapped =
-      subst (λ (q : Ending (List ℕ)). ComesTo held asked (q >>= λ lines. Gives (output_of found task lines))) mapped (made start found task is is_made)
+      subst (λ (q : Ending (List ℕ)). ComesTo held asked (q >>= λ lines. Gives (output_of found task lines))) (sym (plan_in_turn held asked.plan task) ∙ mapped) (by_text (text_of_plan held asked.plan) refl)
+    where
+      begun : (e : Ending (Option Text)) → text_of_plan held asked.plan ≡ e → of_files held asked ≡ (e >>= λ plan. Gives (Begun start plan))
+      begun e same =
+          goes_on (of_files held asked) (of_source held asked.source) (AfterSource held asked) (files_in_turn held asked) start is
+          ∙ ap (λ (t : Ending (Option Text)). t >>= λ plan. Gives (Begun start plan)) same
+
+      by_text : (e : Ending (Option Text)) → text_of_plan held asked.plan ≡ e → ComesTo held asked ((e >>= lines_on task) >>= λ lines. Gives (output_of found task lines))
+      by_text (Gives plan) same = made (Begun start plan) found task (begun (Gives plan) same) is_made
+      by_text (Absent name) same = no_file name (begun (Absent name) same)
+      by_text (Refused name message) same = faulty name message (begun (Refused name message) same)
   comes_by_plan held found task (Absent name) is is_made p mapped = absurd is_made
   comes_by_plan held found task (Refused name message) is is_made p mapped = absurd is_made
 

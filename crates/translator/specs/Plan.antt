@@ -1,4 +1,4 @@
--- What a plan file comes to for the task of a run.
+-- What a plan file comes to: its text, whatever the task is, and then its lines by the task of a run.
 use Rattle.std.specs.Prelude.{ℕ, List, [], ◌∷◌}
 use Rattle.std.specs.declared.option.Option.{Option}
 use Rattle.std.specs.declared.option.Option.TheVariants.{Some, None}
@@ -22,10 +22,15 @@ abbrev pub mapped_lines : Task → Text → Ending (List ℕ)
 mapped_lines task plan =
     unless_faulty plan.name (faults task.operators (plan_lines plan.bytes)) (plan_text task.metric (mapped task.operators (plan_lines plan.bytes)))
 
--- the same of the plan file of this name, and no lines where none is named
-unfoldable pub of_plan : Contents → Option (List ℕ) → Task → Ending (List ℕ)
-of_plan files None task = Gives []
-of_plan files (Some name) task = read files name >>= mapped_lines task
+-- the same of a plan file's text, and no lines where no plan file is named
+abbrev pub lines_on : Task → Option Text → Ending (List ℕ)
+lines_on task None = Gives []
+lines_on task (Some plan) = mapped_lines task plan
+
+-- the text of the plan file of this name, and none where none is named
+unfoldable pub text_of_plan : Contents → Option (List ℕ) → Ending (Option Text)
+text_of_plan files None = Gives None
+text_of_plan files (Some name) = read files name >>= λ plan. Gives (Some plan)
 
 -- the name of the plan file, if one is named
 abbrev pub plan_names : Option (List ℕ) → List (List ℕ)

@@ -1,7 +1,7 @@
 -- What the functions of the stages answer, by how a stage ends.
-use Rattle.std.specs.Prelude.{◌≡◌, ℕ, List, Result, Ok, Err, IfSome, ⊤}
+use Rattle.std.specs.Prelude.{◌≡◌, ℕ, List, [], Result, Ok, Err, IfSome, ⊤}
 use Rattle.std.specs.declared.option.Option.{Option}
-use Rattle.std.specs.declared.option.Option.TheVariants.{None}
+use Rattle.std.specs.declared.option.Option.TheVariants.{Some, None}
 use Rattle.tl_device.specs.Contents.{Contents}
 use Rattle.messages.specs.declared.outcome.End.{End}
 use Rattle.messages.specs.declared.outcome.End.TheVariants as ends
@@ -12,9 +12,10 @@ use Rattle.pass_book.specs.declared.kind.PassKind.{PassKind}
 use Rattle.sas_task.specs.Task.{Task}
 use Rattle.translator.specs.declared.translation.Input.{Input}
 use Rattle.translator.specs.declared.work.Written.{Written}
-use Rattle.translator.specs.Ending.{Ending, Gives, Absent, Refused}
+use Rattle.translator.specs.Ending.{Ending, Gives, Absent, Refused, ◌>>=◌}
 use Rattle.run_task.specs.RunTask.{Output, Start, IsMadeFrom}
-use Rattle.translator.specs.Texts.{Text, text}
+use Rattle.translator.specs.Texts.{Text, text, read}
+use Rattle.translator.specs.Plan.{mapped_lines}
 use Rattle.translator.specs.Store.{Store}
 use Rattle.translator.specs.Call.{IsUnread, IsRefused}
 
@@ -48,6 +49,11 @@ abbrev pub IsMadeOf : Ending Start → Settings → List PassKind → Found → 
 IsMadeOf (Gives start) settings passes found task = IsMadeFrom start settings passes found task
 IsMadeOf (Absent name) settings passes found task = ⊥
 IsMadeOf (Refused name message) settings passes found task = ⊥
+
+-- what the plan file of this name comes to, by its lines too, and no lines where none is named
+unfoldable pub of_plan : Contents → Option (List ℕ) → Task → Ending (List ℕ)
+of_plan files None task = Gives []
+of_plan files (Some name) task = read files name >>= mapped_lines task
 
 -- ---- stages that read from a store
 

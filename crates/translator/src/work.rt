@@ -15,9 +15,9 @@ ghost use Rattle.translator.specs.Ending.{Gives};
 ghost use Rattle.translator.specs.Run.{text, read, of_source, inputs, titles, all_inputs, all_titles, names_read, ComesTo};
 ghost use Rattle.translator.specs.Store.{store, IsUntouched, AsksForNoOther};
 ghost use Rattle.translator.specs.Call.{Ends};
-ghost use Rattle.translator.specs.Plan.{of_plan, plan_names};
+ghost use Rattle.translator.specs.Plan.{plan_names};
 ghost use Rattle.translator.specs.Requests.{asked_by};
-ghost use Rattle.translator.specs.Stages.{IsRead, IsMadeOf, StopsReading, output_by};
+ghost use Rattle.translator.specs.Stages.{IsRead, IsMadeOf, StopsReading, of_plan, output_by};
 
 use crate::plan::mapped_lines;
 use crate::request::{Request, requested};

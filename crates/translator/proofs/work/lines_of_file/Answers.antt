@@ -1,6 +1,7 @@
 use Rattle.std.proofs.Common.{[], ◌∷◌, rules, Some}
 use Rattle.lists.proofs.Members.{member_first}
-use Rattle.translator.specs.Plan.{mapped_lines, of_plan}
+use Rattle.translator.specs.Plan.{mapped_lines}
+use Rattle.translator.specs.Stages.{of_plan}
 use Rattle.translator.specs.Store.{store}
 use Rattle.translator.specs.Texts.{text}
 use Rattle.translator.proofs.OneFile.{stops_at_file, text_stops_so, text_given_so}

@@ -7,10 +7,10 @@ use Rattle.pass_book.specs.Passes.{IsChain}
 use Rattle.sas_task.specs.Output.{text_of}
 use Rattle.run_task.specs.RunTask.{summary_of}
 use Rattle.translator.specs.Ending.{Gives}
-use Rattle.translator.specs.Plan.{of_plan, plan_names}
+use Rattle.translator.specs.Plan.{plan_names}
 use Rattle.translator.specs.Requests.{asked_by}
 use Rattle.translator.specs.Run.{all_inputs, all_titles, ComesTo}
-use Rattle.translator.specs.Stages.{IsRead, StopsReading, output_by}
+use Rattle.translator.specs.Stages.{IsRead, StopsReading, of_plan, output_by}
 use Rattle.translator.specs.Store.{store}
 use Rattle.translator.proofs.Sources.{run_stops, plan_stops, run_writes, passed_so, stops_too, asks_for_source, asks_for_plan}
 use Rattle.translator.proofs.work.prepared.Goals as goal
