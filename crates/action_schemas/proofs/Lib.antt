@@ -1,4 +1,6 @@
 -- Lemmas of this crate.
 mod CutSteps
+mod WantedParts
+mod SomeParts
 mod EffectRows
 mod SchemaRows

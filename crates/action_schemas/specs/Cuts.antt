@@ -1,5 +1,5 @@
 -- What conditions are cut into.
-use Rattle.std.specs.Prelude.{ℕ, Bool, true, List, map, if◌then◌else◌}
+use Rattle.std.specs.Prelude.{ℕ, Bool, true, List, [], map, if◌then◌else◌}
 use Rattle.pddl_parser.specs.declared.types.Domain.{Domain}
 use Rattle.pddl_parser.specs.declared.types.Problem.{Problem}
 use Rattle.pddl_parser.specs.declared.types.Typed.{Typed}
@@ -10,6 +10,10 @@ use Rattle.normal_task.specs.Parts.{Made, Scope, Known, in_turn, all_of, parts, 
 -- what comes of the members of a list: every pairing where every member must hold, or else one after another
 abbrev pub combined : Bool → ℕ → List (ℕ → Made Part) → ℕ → Made Part
 combined every around makes next = if every then all_of around makes next else in_turn makes next
+
+-- what is made of something: its parts only where they are wanted, and its new predicates in any case
+abbrev pub wanted_of : Bool → Made Part → Made Part
+wanted_of wanted made = record { items = if wanted then made.items else []; fresh = made.fresh }
 
 -- some objects of the variables make the inside true, or its negation, or none do
 abbrev pub quantified : Domain → Problem → List Typed → Known → (some positive : Bool) → Scope → (around next : ℕ) → Made Part

@@ -1,17 +1,22 @@
 // How a condition is cut into parts.
-ghost use Rattle.std.specs.Prelude.{◌≡◌, ◌++◌, ◌+◌, [], suc, not, map, length, true, false, IfOk, if◌then◌else◌};
+ghost use Rattle.std.specs.Prelude.{◌≡◌, ◌++◌, ◌+◌, ◌&&◌, ◌||◌, [], ℕ, suc, not, map, length, nat_lt, true, false, IfOk, if◌then◌else◌};
+ghost use Rattle.pddl_parser.specs.declared.types.Domain.{Domain};
+ghost use Rattle.pddl_parser.specs.declared.types.Problem.{Problem};
+ghost use Rattle.fault_positions.specs.Sizes.{size_of};
 ghost use Rattle.normal_task.specs.declared.task.Literal.TheVariants.{Holds, Equal};
 ghost use Rattle.normal_task.specs.declared.task.Place.TheVariants as place;
 ghost use Rattle.normal_task.specs.Numbers.{predicate_number, ranges_of};
 ghost use Rattle.normal_task.specs.Parts as spec;
 ghost use Rattle.normal_rows.specs.MadeThings.{IsMadeOf};
-ghost use Rattle.action_schemas.specs.Cuts.{combined, quantified};
+ghost use Rattle.action_schemas.specs.Cuts.{combined, quantified, wanted_of};
 
+use crate::emptiness::has_parts;
 use lists::{List, checked_sum};
 use normal_rows::{
-    Made, Scope, Variable, behind_ranges, free_slots, joined_lists, one_part, paired, part_alone,
-    place_of, places_of, renumbered, scope_inside, variables_of, with_fresh,
+    Made, Scope, Variable, behind_ranges, free_slots, joined_lists, nothing_made, one_part, paired,
+    part_alone, place_of, places_of, renumbered, scope_inside, variables_of, with_fresh,
 };
+use normal_task::laws::as_many_parts;
 use normal_task::{Literal, Part};
 use numbering::Numbering;
 use pddl_parser::{Atom, Condition, Term, Typed};
@@ -59,7 +64,6 @@ impl Asked {
 // ---- conditions
 
 /// How a condition is cut, or its negation where it isn't `positive`.
-#[cycle(cut)]
 pub fn cut<'n, 'a>(
     alloc: Global,
     here: &Here<'_, 'n, 'a>,
@@ -69,85 +73,168 @@ pub fn cut<'n, 'a>(
 ) -> Result<Made<Part>, AllocError>
     ensures { IfOk result (IsMadeOf (spec.parts here.now.numbering.now.domain here.now.numbering.now.problem condition.now positive here.now.scope.now here.now.around next)) }
 {
+    let wanted = are_made(condition, positive, true, false);
+    cut_wanted(alloc, here, condition, positive, wanted, next)
+}
+
+/// Whether parts of the condition are to be made: where they are wanted, and it has some. Where it is known that it has, it isn't
+/// looked at.
+fn are_made(condition: &Condition, positive: bool, wanted: bool, has_some: bool) -> bool
+    ensures exact { result ≡ (wanted && (has_some || nat_lt 0 (size_of condition.now positive).parts)) }
+    ensures same { (domain : Domain) (problem : Problem) (scope : spec.Scope) (around next : ℕ) →
+        (wanted_of result (spec.parts domain problem condition.now positive scope around next)).items ≡ (wanted_of wanted (spec.parts domain problem condition.now positive scope around next)).items }
+{
+    as_many_parts();
+    wanted && (has_some || has_parts(condition, positive))
+}
+
+fn both(one: bool, other: bool) -> bool
+    ensures { result ≡ (one && other) }
+{
+    one && other
+}
+
+/// How a condition is cut, or its negation where it isn't `positive`. Where its parts aren't wanted, its new predicates are made
+/// alone: a member without parts leaves none to the pairings that it stands in, however many the others have. So a caller looks
+/// whether there are any before it wants them.
+#[cycle(cut_wanted)]
+pub(crate) fn cut_wanted<'n, 'a>(
+    alloc: Global,
+    here: &Here<'_, 'n, 'a>,
+    condition: &'a Condition,
+    positive: bool,
+    wanted: bool,
+    next: u64,
+) -> Result<Made<Part>, AllocError>
+    ensures { IfOk result (IsMadeOf (wanted_of wanted (spec.parts here.now.numbering.now.domain here.now.numbering.now.problem condition.now positive here.now.scope.now here.now.around next))) }
+{
     match condition {
-        Condition::True(_) => neutral(alloc, positive),
-        Condition::Atom(atom) => atom_part(alloc, here, atom, positive),
-        Condition::Equal(left, right, _) => equal_part(alloc, here, left, right, positive),
-        Condition::Not(inside, _) => cut(alloc, here, inside.get(), !positive, next),
+        Condition::True(_) => truth_part(alloc, positive, wanted),
+        Condition::Atom(atom) => atom_part(alloc, here, atom, positive, wanted),
+        Condition::Equal(left, right, _) => {
+            equal_part(alloc, here, left, right, positive, wanted)
+        }
+        Condition::Not(inside, _) => {
+            cut_wanted(alloc, here, inside.get(), !positive, wanted, next)
+        }
         Condition::And(members, _) => {
-            cut_members(alloc, here, members.as_slice(), positive, positive, next)
+            cut_members(
+                alloc,
+                here,
+                members.as_slice(),
+                positive,
+                positive,
+                wanted,
+                next,
+            )
         }
         Condition::Or(members, _) => {
-            cut_members(alloc, here, members.as_slice(), positive, !positive, next)
+            cut_members(
+                alloc,
+                here,
+                members.as_slice(),
+                positive,
+                !positive,
+                wanted,
+                next,
+            )
         }
         Condition::Imply(premise, conclusion, _) => {
-            let first = cut(alloc, here, premise.get(), !positive, next)?;
+            let premise = premise.get();
+            let conclusion = conclusion.get();
+            let are_first = are_made(premise, !positive, wanted, !positive);
+            let first = cut_wanted(alloc, here, premise, !positive, are_first, next)?;
             let start = checked_sum(next, first.fresh.as_slice().len() as u64)?;
-            let second = cut(alloc, here, conclusion.get(), positive, start)?;
-            joined_made(alloc, !positive, here.around, first, second)
+            let are_second = are_made(conclusion, positive, wanted, !positive);
+            let second = cut_wanted(alloc, here, conclusion, positive, are_second, start)?;
+            let are_paired = both(wanted, !positive);
+            joined_made(alloc, are_paired, here.around, first, second)
         }
         Condition::Forall(variables, inside, _) => {
             let asked = Asked::by_forall(positive);
-            cut_quantified(alloc, here, variables.as_slice(), inside.get(), asked, next)
+            cut_quantified(
+                alloc,
+                here,
+                variables.as_slice(),
+                inside.get(),
+                asked,
+                wanted,
+                next,
+            )
         }
         Condition::Exists(variables, inside, _) => {
             let asked = Asked::by_exists(positive);
-            cut_quantified(alloc, here, variables.as_slice(), inside.get(), asked, next)
+            cut_quantified(
+                alloc,
+                here,
+                variables.as_slice(),
+                inside.get(),
+                asked,
+                wanted,
+                next,
+            )
         }
     }
 }
 
-/// Every pairing of the members' parts where `every` says so, or else their parts one after another.
-#[cycle(cut)]
+/// Every pairing of the members' parts where `every` says so, or else their parts one after another. Where pairings have some,
+/// each member has.
+#[cycle(cut_wanted)]
 fn cut_members<'n, 'a>(
     alloc: Global,
     here: &Here<'_, 'n, 'a>,
     members: &'a [Condition],
     positive: bool,
     every: bool,
+    wanted: bool,
     next: u64,
 ) -> Result<Made<Part>, AllocError>
-    ensures { IfOk result (IsMadeOf (combined every here.now.around (map (λ member. member.cut positive here.now.scope.now here.now.around) (map (spec.known here.now.numbering.now.domain here.now.numbering.now.problem) members.now)) next)) }
+    ensures { IfOk result (IsMadeOf (wanted_of wanted (combined every here.now.around (map (λ member. member.cut positive here.now.scope.now here.now.around) (map (spec.known here.now.numbering.now.domain here.now.numbering.now.problem) members.now)) next))) }
 {
-    let mut made = neutral(alloc, every)?;
+    let are_paired = both(wanted, every);
+    let mut made = neutral(alloc, are_paired)?;
     for member in members {
         let start = checked_sum(next, made.fresh.as_slice().len() as u64)?;
-        let more = cut(alloc, here, member, positive, start)?;
-        made = joined_made(alloc, every, here.around, made, more)?;
+        let are_more = are_made(member, positive, wanted, every);
+        let more = cut_wanted(alloc, here, member, positive, are_more, start)?;
+        made = joined_made(alloc, are_paired, here.around, made, more)?;
     }
     Ok(made)
 }
 
 /// Some objects of the variables make the inside true, or its negation, or none do: as is asked.
-#[cycle(cut)]
+#[cycle(cut_wanted)]
 fn cut_quantified<'n, 'a>(
     alloc: Global,
     here: &Here<'_, 'n, 'a>,
     variables: &'a [Typed],
     inside: &'a Condition,
     asked: Asked,
+    wanted: bool,
     next: u64,
 ) -> Result<Made<Part>, AllocError>
-    ensures { IfOk result (IsMadeOf (quantified here.now.numbering.now.domain here.now.numbering.now.problem variables.now (spec.known here.now.numbering.now.domain here.now.numbering.now.problem inside.now) asked.some asked.positive here.now.scope.now here.now.around next)) }
+    ensures { IfOk result (IsMadeOf (wanted_of wanted (quantified here.now.numbering.now.domain here.now.numbering.now.problem variables.now (spec.known here.now.numbering.now.domain here.now.numbering.now.problem inside.now) asked.some asked.positive here.now.scope.now here.now.around next))) }
 {
     if asked.some {
-        cut_some(alloc, here, variables, inside, asked.positive, next)
+        cut_some(alloc, here, variables, inside, asked.positive, wanted, next)
     } else {
-        cut_none(alloc, here, variables, inside, asked.positive, next)
+        let made = cut_none(alloc, here, variables, inside, asked.positive, next)?;
+        Ok(if_wanted(alloc, wanted, made))
     }
 }
 
 /// Some objects of the variables make the inside true, or its negation where it isn't `positive`.
-#[cycle(cut)]
+#[cycle(cut_wanted)]
 fn cut_some<'n, 'a>(
     alloc: Global,
     here: &Here<'_, 'n, 'a>,
     variables: &'a [Typed],
     inside: &'a Condition,
     positive: bool,
+    wanted: bool,
     next: u64,
 ) -> Result<Made<Part>, AllocError>
-    ensures { IfOk result (IsMadeOf (spec.exists_inside here.now.numbering.now.domain here.now.numbering.now.problem variables.now (spec.known here.now.numbering.now.domain here.now.numbering.now.problem inside.now) positive here.now.scope.now here.now.around next)) }
+    ensures { IfOk result (IsMadeOf (wanted_of wanted (spec.exists_inside here.now.numbering.now.domain here.now.numbering.now.problem variables.now (spec.known here.now.numbering.now.domain here.now.numbering.now.problem inside.now) positive here.now.scope.now here.now.around next))) }
 {
     let around = checked_sum(here.around, variables.len() as u64)?;
     let scope = scope_inside(alloc, here.numbering, variables, here.around, here.scope)?;
@@ -156,12 +243,12 @@ fn cut_some<'n, 'a>(
         scope: &scope,
         around,
     };
-    let made = cut(alloc, &inner, inside, positive, next)?;
+    let made = cut_wanted(alloc, &inner, inside, positive, wanted, next)?;
     behind(alloc, here.numbering, variables, made)
 }
 
 /// No objects of the variables make the inside true, or its negation where it isn't `positive`.
-#[cycle(cut)]
+#[cycle(cut_wanted)]
 fn cut_none<'n, 'a>(
     alloc: Global,
     here: &Here<'_, 'n, 'a>,
@@ -185,7 +272,7 @@ fn cut_none<'n, 'a>(
 }
 
 /// The same, where a new predicate has these arguments.
-#[cycle(cut)]
+#[cycle(cut_wanted)]
 fn cut_denied<'n, 'a>(
     alloc: Global,
     numbering: &'n Numbering<'a>,
@@ -204,7 +291,8 @@ fn cut_denied<'n, 'a>(
         scope: &scope,
         around: arguments.len() as u64,
     };
-    let body = cut_some(alloc, &there, variables, inside, positive, after)?;
+    let wanted = are_made(inside, positive, true, false);
+    let body = cut_some(alloc, &there, variables, inside, positive, wanted, after)?;
     denied(alloc, numbering, arguments, next, body)
 }
 
@@ -249,6 +337,18 @@ fn denied_atom(
     one_part(alloc, Literal::Holds(false, predicate, places))
 }
 
+/// The parts only where they are wanted, and the new predicates in any case.
+fn if_wanted(alloc: Global, wanted: bool, made: Made<Part>) -> Made<Part>
+    ensures { (result.items ≡ (if wanted then made.items else [])) × (result.fresh ≡ made.fresh) }
+{
+    if wanted {
+        return made;
+    }
+    let Made { items: _, fresh } = made;
+    let items = List::from_vec(Vec::new(alloc));
+    Made { items, fresh }
+}
+
 /// The parts behind some variables more.
 fn behind(
     alloc: Global,
@@ -274,14 +374,25 @@ fn only(alloc: Global, literal: Literal) -> Result<Made<Part>, AllocError>
     })
 }
 
+/// What is made of the condition that is always true.
+fn truth_part(alloc: Global, positive: bool, wanted: bool) -> Result<Made<Part>, AllocError>
+    ensures { IfOk result (IsMadeOf (wanted_of wanted (combined positive 0 [] 0))) }
+{
+    neutral(alloc, wanted && positive)
+}
+
 fn atom_part(
     alloc: Global,
     here: &Here<'_, '_, '_>,
     atom: &Atom,
     positive: bool,
+    wanted: bool,
 ) -> Result<Made<Part>, AllocError>
-    ensures { IfOk result (IsMadeOf (spec.only (Holds positive (predicate_number here.now.numbering.now.domain atom.now.predicate.name) (spec.places_of here.now.numbering.now.domain here.now.numbering.now.problem here.now.scope.now atom.now.terms)))) }
+    ensures { IfOk result (IsMadeOf (wanted_of wanted (spec.only (Holds positive (predicate_number here.now.numbering.now.domain atom.now.predicate.name) (spec.places_of here.now.numbering.now.domain here.now.numbering.now.problem here.now.scope.now atom.now.terms))))) }
 {
+    if !wanted {
+        return Ok(nothing_made(alloc));
+    }
     let predicate = here.numbering.predicate(atom.predicate.name.as_slice());
     let places = places_of(alloc, here.numbering, here.scope, atom.terms.as_slice())?;
     only(alloc, Literal::Holds(positive, predicate, places))
@@ -293,9 +404,13 @@ fn equal_part(
     left: &Term,
     right: &Term,
     positive: bool,
+    wanted: bool,
 ) -> Result<Made<Part>, AllocError>
-    ensures { IfOk result (IsMadeOf (spec.only (Equal positive (spec.place_of here.now.numbering.now.domain here.now.numbering.now.problem here.now.scope.now left.now) (spec.place_of here.now.numbering.now.domain here.now.numbering.now.problem here.now.scope.now right.now)))) }
+    ensures { IfOk result (IsMadeOf (wanted_of wanted (spec.only (Equal positive (spec.place_of here.now.numbering.now.domain here.now.numbering.now.problem here.now.scope.now left.now) (spec.place_of here.now.numbering.now.domain here.now.numbering.now.problem here.now.scope.now right.now))))) }
 {
+    if !wanted {
+        return Ok(nothing_made(alloc));
+    }
     let left = place_of(here.numbering, here.scope, left);
     let right = place_of(here.numbering, here.scope, right);
     only(alloc, Literal::Equal(positive, left, right))

@@ -1,18 +1,22 @@
 // The effects of an action.
-ghost use Rattle.std.specs.Prelude.{◌≡◌, ◌++◌, ◌∷◌, [], map, true, IfOk};
+ghost use Rattle.std.specs.Prelude.{◌≡◌, ◌++◌, ◌∷◌, [], map, nat_lt, true, IfOk};
+ghost use Rattle.std.specs.List.{list_all};
+ghost use Rattle.fault_positions.specs.Sizes.{size_of};
 ghost use Rattle.normal_rows.specs.MadeThings.{IsMadeOf};
 ghost use Rattle.normal_rows.specs.Changes.{changed_row};
-ghost use Rattle.action_schemas.specs.Cuts.{cut_of, cuts_of};
+ghost use Rattle.action_schemas.specs.Cuts.{cut_of, cuts_of, wanted_of};
 ghost use Rattle.normal_task.specs.Normalised as spec;
 ghost use Rattle.normal_task.specs.Numbers.{ranges_of};
 ghost use Rattle.normal_task.specs.Parts as parts;
 
-use crate::conditions::{Here, cut, joined_made, neutral};
+use crate::conditions::{Here, cut_wanted, joined_made, neutral};
+use crate::emptiness::has_parts;
 use lists::{List, checked_sum};
 use normal_rows::{
     Change, Made, Scope, effect_rows, joined_ranges, made_behind, nothing_made, places_of,
     scope_inside,
 };
+use normal_task::laws::as_many_parts;
 use normal_task::{EffectRow, ObjectRange, Part};
 use numbering::Numbering;
 use pddl_parser::{Atom, Condition, Effect, Typed};
@@ -36,25 +40,33 @@ pub(crate) struct Around<'s, 'n, 'a> {
 
 // ---- one atom
 
-/// How one condition that is required is cut.
+/// Whether each of the conditions has parts.
+fn all_have_parts(required: &[Required<'_, '_, '_>]) -> bool
+    ensures { result ≡ list_all (λ one. nat_lt 0 (size_of one.condition.now true).parts) required.now }
+{
+    required.iter().all(|one| has_parts(one.condition, true))
+}
+
+/// How one condition that is required is cut. Where its parts aren't wanted, its new predicates are made alone.
 fn cut_one<'n, 'a>(
     alloc: Global,
     numbering: &'n Numbering<'a>,
     one: &Required<'_, 'n, 'a>,
     around: u64,
+    wanted: bool,
     next: u64,
 ) -> Result<Made<Part>, AllocError>
-    ensures { IfOk result (IsMadeOf (cut_of numbering.now.domain numbering.now.problem one.now around next)) }
+    ensures { IfOk result (IsMadeOf (wanted_of wanted (cut_of numbering.now.domain numbering.now.problem one.now around next))) }
 {
     let here = Here {
         numbering,
         scope: one.scope,
         around,
     };
-    cut(alloc, &here, one.condition, true, next)
+    cut_wanted(alloc, &here, one.condition, true, wanted, next)
 }
 
-/// Every pairing of the parts of what is required.
+/// Every pairing of the parts of what is required: none where one condition has none, whatever the others have.
 fn cut_required<'n, 'a>(
     alloc: Global,
     numbering: &'n Numbering<'a>,
@@ -64,11 +76,13 @@ fn cut_required<'n, 'a>(
 ) -> Result<Made<Part>, AllocError>
     ensures { IfOk result (IsMadeOf (parts.all_of around (map (λ cut. cut around) (cuts_of numbering.now.domain numbering.now.problem required.now)) next)) }
 {
-    let mut made = neutral(alloc, true)?;
+    as_many_parts();
+    let wanted = all_have_parts(required);
+    let mut made = neutral(alloc, wanted)?;
     for one in required {
         let start = checked_sum(next, made.fresh.as_slice().len() as u64)?;
-        let more = cut_one(alloc, numbering, one, around, start)?;
-        made = joined_made(alloc, true, around, made, more)?;
+        let more = cut_one(alloc, numbering, one, around, wanted, start)?;
+        made = joined_made(alloc, wanted, around, made, more)?;
     }
     Ok(made)
 }

@@ -4,6 +4,7 @@
 
 mod conditions;
 mod effects;
+mod emptiness;
 mod schemas;
 
 pub use conditions::{Here, cut};
