@@ -13,3 +13,4 @@ mod AddEffects
 mod Combined
 mod OneWay
 mod Contradicted
+mod StandingChoices

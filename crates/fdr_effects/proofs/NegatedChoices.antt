@@ -10,7 +10,7 @@ use Rattle.fdr_effects.specs.Effects.{no_literals, is_true, is_false, both, nega
 use Rattle.fdr_effects.specs.Rivals.{is_no_literal}
 
 -- the literals of three lists, in either grouping
-both_assoc : (a b c : Cond ℕ) → both a (both b c) ≡ both (both a b) c
+pub both_assoc : (a b c : Cond ℕ) → both a (both b c) ≡ both (both a b) c
 both_assoc a b c =
     let pos = sym (append_assoc a.positive b.positive c.positive) in
     let neg = sym (append_assoc a.negative b.negative c.negative) in

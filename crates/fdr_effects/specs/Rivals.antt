@@ -1,11 +1,10 @@
 -- Words of the code: the add effects of an action, gathered by variable.
-use Rattle.std.specs.Prelude.{◌≡◌, ℕ, Bool, ◌==◌, ◌&&◌, List, [], Some, map, length, if◌then◌else◌}
-use Rattle.std.specs.List.{Contains, filter}
-use Rattle.sas_task.specs.declared.parts.Pair.{Pair}
+use Rattle.std.specs.Prelude.{◌≡◌, ℕ, Bool, ◌==◌, ◌&&◌, List, [], map, length, if◌then◌else◌}
+use Rattle.std.specs.List.{filter}
 use Rattle.static_matcher.specs.declared.types.Cond.{Cond}
 use Rattle.relaxed_reach.specs.declared.types.ReachedEffect.{ReachedEffect}
 use Rattle.fdr_effects.specs.declared.rivals.Rival.{Rival}
-use Rattle.fdr_effects.specs.Places.{Cover, places, first_place}
+use Rattle.fdr_effects.specs.Places.{Cover, places}
 use Rattle.fdr_effects.specs.Effects.{rivals}
 
 -- a rival's variable and condition
@@ -16,9 +15,12 @@ seen rival = (rival.var, rival.condition.now)
 abbrev pub rivals_of : Cover → ReachedEffect → List (ℕ × Cond ℕ)
 rivals_of cover e = if e.adds then map (λ p. (p.var, e.condition)) (places cover e.fact) else []
 
--- the conditions of the rivals on a variable
+-- the conditions of rivals, and of those on a variable
+abbrev pub conditions : List Rival → List (Cond ℕ)
+conditions all = map (λ r. r.condition.now) all
+
 abbrev pub conditions_on : ℕ → List Rival → List (Cond ℕ)
-conditions_on var all = map (λ r. r.condition.now) (filter (λ r. r.var == var) all)
+conditions_on var all = conditions (filter (λ r. r.var == var) all)
 
 -- on each variable they are those of the add effects on its facts
 abbrev pub AreRivals : Cover → List ReachedEffect → List Rival → Type 0
@@ -27,11 +29,3 @@ AreRivals cover effects all = (var : ℕ) → conditions_on var all ≡ rivals c
 -- whether there are no literals
 abbrev pub is_no_literal : Cond ℕ → Bool
 is_no_literal literals = (length literals.positive == 0) && (length literals.negative == 0)
-
--- some fact with a place is the condition's positive literal, and one of the choice's negative literals
-pub record IsRuledOut (cover : Cover) (condition choice : Cond ℕ) : Type 0 where
-  pub fact : ℕ
-  pub asked : Contains condition.positive fact
-  pub barred : Contains choice.negative fact
-  pub place : Pair
-  pub first : first_place cover fact ≡ Some place

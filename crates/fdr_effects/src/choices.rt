@@ -1,12 +1,14 @@
 // Choices of one literal from each of some conditions, negated.
 
-ghost use Rattle.std.specs.Prelude.{◌≡◌, ◌++◌, true, false, map, IfOk, OnOk};
-ghost use Rattle.std.specs.List.{flat_map};
-ghost use Rattle.std.specs.List.Sorted.{IsNonDecreasingBy};
-ghost use Rattle.fdr_effects.specs.Rivals.{conditions_on};
+ghost use Rattle.std.specs.Prelude.{◌≡◌, ℕ, ◌++◌, ◌∷◌, [], not, map, IfOk, OnOk};
+ghost use Rattle.std.specs.List.{filter, flat_map};
+ghost use Rattle.static_matcher.specs.declared.types.Cond.{Cond as Literals};
+ghost use Rattle.fdr_effects.specs.Rivals.{conditions};
+ghost use Rattle.fdr_effects.specs.Standing.{AreForced, alone, forced_by, is_alone, rules_out, standing, turned};
 ghost use Rattle.fdr_effects.specs.Effects as words;
 
-use crate::on::on;
+use crate::index::Index;
+use crate::literals::{Literal, Marked, can_stand};
 use crate::rivals::Rival;
 use lists::List;
 use static_matcher::Cond;
@@ -35,128 +37,171 @@ pub(crate) fn both(
     })
 }
 
-/// One literal.
-pub(crate) fn literal(alloc: Global, fact: u64, truth: bool) -> Result<Cond<u64>, AllocError>
-    ensures positive { truth ≡ true → IfOk result (λ one. one ≡ words.is_true fact) }
-    ensures negative { truth ≡ false → IfOk result (λ one. one ≡ words.is_false fact) }
+/// The negations of the literals that the cause doesn't rule out.
+fn negations(
+    alloc: Global,
+    cause: &Marked,
+    literals: &Cond<u64>,
+) -> Result<Vec<Literal>, AllocError>
+    ensures { IfOk result (λ all. all.items ≡ filter (λ one. not (rules_out cause.now one)) (turned literals.now)) }
 {
-    let mut facts = Vec::new(alloc);
-    facts.push(fact)?;
-    let some = List::from_vec(facts);
-    let none = List::from_vec(Vec::new(alloc));
-    if truth {
-        Ok(Cond {
-            positive: some,
-            negative: none,
-        })
-    } else {
-        Ok(Cond {
-            positive: none,
-            negative: some,
-        })
-    }
+    let positive = literals.positive.as_slice().iter().map(|fact| Literal {
+        fact: *fact,
+        truth: false,
+    });
+    let negative = literals.negative.as_slice().iter().map(|fact| Literal {
+        fact: *fact,
+        truth: true,
+    });
+    positive
+        .chain(negative)
+        .filter(|one| !cause.rules_out(*one))
+        .collect(alloc)
 }
 
-fn push_negated(alloc: Global, all: &mut Vec<Cond<u64>>, facts: &[u64]) -> Result<(), AllocError>
-    ensures { OnOk result (all.new.items ≡ all.old.items ++ map words.is_false facts.now) }
+/// The choice with the literal.
+fn choice_with(choice: Cond<u64>, one: Literal) -> Result<Cond<u64>, AllocError>
+    ensures { IfOk result (λ all. all ≡ words.both choice (alone one)) }
 {
-    for fact in facts {
-        all.push(literal(alloc, *fact, false)?)?;
+    let mut all = choice;
+    if one.truth {
+        all.positive.push(one.fact)?;
+        return Ok(all);
     }
-    Ok(())
-}
-
-fn push_true(alloc: Global, all: &mut Vec<Cond<u64>>, facts: &[u64]) -> Result<(), AllocError>
-    ensures { OnOk result (all.new.items ≡ all.old.items ++ map words.is_true facts.now) }
-{
-    for fact in facts {
-        all.push(literal(alloc, *fact, true)?)?;
-    }
-    Ok(())
-}
-
-/// The negation of each literal.
-fn negations(alloc: Global, literals: &Cond<u64>) -> Result<Vec<Cond<u64>>, AllocError>
-    ensures { IfOk result (λ all. all.items ≡ words.negations literals.now) }
-{
-    let mut all = Vec::new(alloc);
-    push_negated(alloc, &mut all, literals.positive.as_slice())?;
-    push_true(alloc, &mut all, literals.negative.as_slice())?;
+    all.negative.push(one.fact)?;
     Ok(all)
+}
+
+/// A copy of the choice with the literal.
+fn copy_with(alloc: Global, choice: &Cond<u64>, one: Literal) -> Result<Cond<u64>, AllocError>
+    ensures { IfOk result (λ all. all ≡ words.both choice.now (alone one)) }
+{
+    let copy = Cond {
+        positive: List::from_vec(Vec::from_slice(alloc, choice.positive.as_slice())?),
+        negative: List::from_vec(Vec::from_slice(alloc, choice.negative.as_slice())?),
+    };
+    choice_with(copy, one)
+}
+
+/// Whether there is one literal.
+fn is_alone(literals: &Cond<u64>) -> bool
+    ensures { result ≡ is_alone literals.now }
+{
+    let positive = literals.positive.as_slice().len();
+    let negative = literals.negative.as_slice().len();
+    (positive == 1 && negative == 0) || (positive == 0 && negative == 1)
+}
+
+/// The literals with the negation of one that is alone.
+fn with_forced(all: Cond<u64>, literals: &Cond<u64>) -> Result<Cond<u64>, AllocError>
+    ensures { IfOk result (λ more. more ≡ words.both all (forced_by literals.now)) }
+{
+    let mut all = all;
+    if is_alone(literals) {
+        all.positive
+            .extend_from_slice(literals.negative.as_slice())?;
+        all.negative
+            .extend_from_slice(literals.positive.as_slice())?;
+    }
+    Ok(all)
+}
+
+/// The cause with what each choice has: the negation of each rival's condition that is one literal. So a choice that
+/// contradicts a later rival is seen where it is begun.
+pub(crate) fn forced(cause: Cond<u64>, rivals: &[Rival]) -> Result<Cond<u64>, AllocError>
+    ensures { IfOk result (AreForced cause (conditions rivals.now)) }
+{
+    let mut all = cause;
+    for rival in rivals {
+        all = with_forced(all, rival.condition)?;
+    }
+    Ok(all)
+}
+
+/// Adds the choice, unless it contradicts itself.
+fn push_standing(
+    alloc: Global,
+    index: &Index,
+    all: &mut Vec<Cond<u64>>,
+    choice: Cond<u64>,
+) -> Result<(), AllocError>
+    ensures { (cause : Literals ℕ) → OnOk result (standing index.now cause all.new.items ≡ standing index.now cause all.old.items ++ standing index.now cause (choice ∷ [])) }
+{
+    let can = can_stand(alloc, index, &choice)?;
+    if !can {
+        return Ok(());
+    }
+    all.push(choice)?;
+    Ok(())
 }
 
 fn push_copies(
     alloc: Global,
+    index: &Index,
     all: &mut Vec<Cond<u64>>,
     choice: &Cond<u64>,
-    ones: &[Cond<u64>],
+    ones: &[Literal],
 ) -> Result<(), AllocError>
-    ensures { OnOk result (all.new.items ≡ all.old.items ++ map (λ one. words.both choice.now one) ones.now) }
+    ensures { (cause : Literals ℕ) → OnOk result (standing index.now cause all.new.items ≡ standing index.now cause all.old.items ++ standing index.now cause (map (λ one. words.both choice.now (alone one)) ones.now)) }
 {
     for one in ones {
-        all.push(both(alloc, choice, one)?)?;
+        push_standing(alloc, index, all, copy_with(alloc, choice, *one)?)?;
     }
     Ok(())
 }
 
-/// The choice with more literals.
-fn choice_with(choice: Cond<u64>, more: &Cond<u64>) -> Result<Cond<u64>, AllocError>
-    ensures { IfOk result (λ all. all ≡ words.both choice more.now) }
-{
-    let mut all = choice;
-    all.positive.extend_from_slice(more.positive.as_slice())?;
-    all.negative.extend_from_slice(more.negative.as_slice())?;
-    Ok(all)
-}
-
-/// The choice with each of these. The last takes the choice itself, so that one alone copies nothing.
+/// The choice with each of these. One alone copies nothing, and is looked at where there is a choice again.
 fn push_both(
     alloc: Global,
+    index: &Index,
     all: &mut Vec<Cond<u64>>,
     choice: Cond<u64>,
-    ones: &[Cond<u64>],
+    ones: &[Literal],
 ) -> Result<(), AllocError>
-    ensures { OnOk result (all.new.items ≡ all.old.items ++ map (λ one. words.both choice one) ones.now) }
+    ensures { (cause : Literals ℕ) → OnOk result (standing index.now cause all.new.items ≡ standing index.now cause all.old.items ++ standing index.now cause (map (λ one. words.both choice (alone one)) ones.now)) }
 {
-    if let Some((last, others)) = ones.split_last() {
-        push_copies(alloc, all, &choice, others)?;
-        all.push(choice_with(choice, last)?)?;
+    match ones {
+        [one] => {
+            all.push(choice_with(choice, *one)?)?;
+            Ok(())
+        }
+        _ => push_copies(alloc, index, all, &choice, ones),
     }
-    Ok(())
 }
 
 /// Each choice with the negation of each literal.
 fn choices_with_each(
     alloc: Global,
+    cause: &Marked,
     choices: Vec<Cond<u64>>,
     literals: &Cond<u64>,
 ) -> Result<Vec<Cond<u64>>, AllocError>
-    ensures { IfOk result (λ all. all.items ≡ flat_map (λ choice. map (λ one. words.both choice one) (words.negations literals.now)) choices.items) }
+    ensures { IfOk result (λ all. standing cause.now.cover cause.now.literals all.items ≡ standing cause.now.cover cause.now.literals (flat_map (λ choice. map (λ one. words.both choice one) (words.negations literals.now)) choices.items)) }
 {
-    let ones = negations(alloc, literals)?;
+    let ones = negations(alloc, cause, literals)?;
     let mut all = Vec::with_capacity(alloc, choices.len())?;
     for choice in choices {
-        push_both(alloc, &mut all, choice, ones.as_slice())?;
+        push_both(alloc, cause.index(), &mut all, choice, ones.as_slice())?;
     }
     Ok(all)
 }
 
-/// The choices of one literal from each condition of the rivals on the variable, negated.
+/// The choices of one literal from each condition of the rivals, negated, with all that can stand beside the cause. A choice
+/// that contradicts itself is dropped before the next rival is looked at.
 pub(crate) fn negated_choices(
     alloc: Global,
+    cause: &Marked,
     rivals: &[Rival],
-    var: u64,
 ) -> Result<Vec<Cond<u64>>, AllocError>
-    requires { IsNonDecreasingBy (λ r. r.var) rivals.now }
-    ensures { IfOk result (λ all. all.items ≡ words.negated_choices (conditions_on var rivals.now)) }
+    ensures { IfOk result (λ all. standing cause.now.cover cause.now.literals all.items ≡ standing cause.now.cover cause.now.literals (words.negated_choices (conditions rivals.now))) }
 {
     let mut all = Vec::new(alloc);
     all.push(Cond {
         positive: List::from_vec(Vec::new(alloc)),
         negative: List::from_vec(Vec::new(alloc)),
     })?;
-    for rival in on(rivals, var) {
-        all = choices_with_each(alloc, all, rival.condition)?;
+    for rival in rivals {
+        all = choices_with_each(alloc, cause, all, rival.condition)?;
     }
     Ok(all)
 }

@@ -1,16 +1,18 @@
 // The effects of an action.
 
-ghost use Rattle.std.specs.Prelude.{◌≡◌, ◌++◌, true, List as Items, map, IfOk, OnOk, if◌then◌else◌};
+ghost use Rattle.std.specs.Prelude.{◌≡◌, ◌++◌, ◌||◌, List as Items, map, IfOk, OnOk, if◌then◌else◌};
 ghost use Rattle.std.specs.List.{list_any};
 ghost use Rattle.std.specs.List.Sorted.{IsNonDecreasingBy};
 ghost use Rattle.relaxed_reach.specs.declared.types.ReachedEffect.{ReachedEffect as Row};
 ghost use Rattle.sas_task.specs.Pairs.{pair};
 ghost use Rattle.fdr_effects.specs.Places.{last_value};
 ghost use Rattle.fdr_effects.specs.Effects as words;
-ghost use Rattle.fdr_effects.specs.Rivals.{AreRivals, IsRuledOut, conditions_on, is_no_literal};
+ghost use Rattle.fdr_effects.specs.Rivals.{AreRivals, conditions, conditions_on, is_no_literal};
+ghost use Rattle.fdr_effects.specs.Standing.{chosen, is_contradicted, shows};
 
-use crate::choices::{both, literal, negated_choices};
+use crate::choices::{both, forced, negated_choices};
 use crate::index::Index;
+use crate::literals::Marked;
 use crate::on::on;
 use crate::rivals::{Rival, rivals};
 use crate::splits::split;
@@ -69,39 +71,87 @@ fn push_where(
     push_each(out, members, var, val)
 }
 
-/// Whether the condition has one positive literal, whose fact has a place and must be false in the choice. Then no state meets
-/// both, as where an add effect on the variable has the same condition.
-fn is_ruled_out(index: &Index, condition: &Cond<u64>, choice: &Cond<u64>) -> bool
-    ensures { result ≡ true → IsRuledOut index.now condition.now choice.now }
+/// The condition of a delete effect with its fact.
+fn cause(alloc: Global, effect: &ReachedEffect) -> Result<Cond<u64>, AllocError>
+    ensures { IfOk result (λ cause. cause ≡ words.both effect.now.condition (words.is_true effect.now.fact)) }
 {
-    let [fact] = condition.positive.as_slice() else {
-        return false;
-    };
-    if !choice.negative.as_slice().contains(fact) {
-        return false;
-    }
-    index.first_place(*fact).is_some()
+    let condition = &effect.condition;
+    let mut positive = Vec::from_slice(alloc, condition.positive.as_slice())?;
+    positive.push(effect.fact)?;
+    Ok(Cond {
+        positive: List::from_vec(positive),
+        negative: List::from_vec(Vec::from_slice(alloc, condition.negative.as_slice())?),
+    })
 }
 
-/// The variable is set to its last value where the delete effect fires with this choice.
-fn push_delete(
+/// The variable is set to its last value where the cause and the choice hold.
+fn push_choice(
     alloc: Global,
     out: &mut Vec<Effect>,
     index: &Index,
-    effect: &ReachedEffect,
+    cause: &Cond<u64>,
     var: u64,
     choice: &Cond<u64>,
 ) -> Result<(), AllocError>
-    ensures { OnOk result (out.new.items ≡ out.old.items ++
-        words.sets_where index.now (pair var (last_value index.now var)) (words.both effect.now.condition (words.both (words.is_true effect.now.fact) choice.now))) }
+    ensures { OnOk result (out.new.items ≡ out.old.items ++ words.sets_where index.now (pair var (last_value index.now var)) (words.both cause.now choice.now)) }
 {
-    if is_ruled_out(index, &effect.condition, choice) {
+    let all = both(alloc, cause, choice)?;
+    push_where(alloc, out, index, var, index.last_value(var), &all)
+}
+
+/// Whether an add effect among the rivals fires wherever the cause holds.
+fn one_is_shown(cause: &Marked, rivals: &[Rival]) -> bool
+    ensures { result ≡ list_any (λ r. shows cause.now r.condition.now) rivals.now }
+{
+    rivals.iter().any(|rival| cause.shows(rival.condition))
+}
+
+/// Whether there is no choice that the cause can stand beside, as is seen before any is made.
+fn never_fires(cause: &Marked, rivals: &[Rival]) -> bool
+    ensures { result ≡ (is_contradicted cause.now || list_any (λ r. shows cause.now r.condition.now) rivals.now) }
+{
+    cause.is_contradicted() || one_is_shown(cause, rivals)
+}
+
+/// The variable is set to its last value where the cause holds and no add effect among the rivals fires.
+fn push_choices(
+    alloc: Global,
+    out: &mut Vec<Effect>,
+    index: &Index,
+    cause: &Cond<u64>,
+    var: u64,
+    rivals: &[Rival],
+) -> Result<(), AllocError>
+    ensures { OnOk result (out.new.items ≡ out.old.items ++ chosen index.now cause.now var (conditions rivals.now)) }
+{
+    let marked = Marked::of(alloc, index, cause)?;
+    if never_fires(&marked, rivals) {
         return Ok(());
     }
-    let held = literal(alloc, effect.fact, true)?;
-    let rest = both(alloc, &held, choice)?;
-    let cause = both(alloc, &effect.condition, &rest)?;
-    push_where(alloc, out, index, var, index.last_value(var), &cause)
+    let all = negated_choices(alloc, &marked, rivals)?;
+    for choice in all.as_slice() {
+        push_choice(alloc, out, index, cause, var, choice)?;
+    }
+    Ok(())
+}
+
+/// The same for a cause without what each choice has. Nothing is looked for where there is no rival.
+fn push_caused(
+    alloc: Global,
+    out: &mut Vec<Effect>,
+    index: &Index,
+    cause: Cond<u64>,
+    var: u64,
+    rivals: &[Rival],
+) -> Result<(), AllocError>
+    ensures { OnOk result (out.new.items ≡ out.old.items ++ chosen index.now cause var (conditions rivals.now)) }
+{
+    if rivals.is_empty() {
+        push_where(alloc, out, index, var, index.last_value(var), &cause)?;
+        return Ok(());
+    }
+    let all = forced(cause, rivals)?;
+    push_choices(alloc, out, index, &all, var, rivals)
 }
 
 /// Whether one of the rivals has no literal.
@@ -135,11 +185,8 @@ fn push_deletes(
     if is_always_set(rivals, var) {
         return Ok(());
     }
-    let all = negated_choices(alloc, rivals, var)?;
-    for choice in all.as_slice() {
-        push_delete(alloc, out, index, effect, var, choice)?;
-    }
-    Ok(())
+    let cause = cause(alloc, effect)?;
+    push_caused(alloc, out, index, cause, var, on(rivals, var))
 }
 
 /// The effects at one place of the fact.

@@ -7,6 +7,7 @@ mod effects;
 pub mod flags;
 pub mod groups;
 mod index;
+mod literals;
 pub mod on;
 mod pools;
 mod rivals;

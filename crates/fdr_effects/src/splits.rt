@@ -21,7 +21,7 @@ use static_matcher::Cond;
 use std::alloc::{AllocError, Global};
 
 /// Marks by variable.
-fn by_variable(marks: Vec<Pair>) -> Vec<Pair>
+pub(crate) fn by_variable(marks: Vec<Pair>) -> Vec<Pair>
     ensures same { IsPermutation marks.items result.items }
     ensures in_order { IsNonDecreasingBy (λ p. p.var) result.items }
 {

@@ -1,6 +1,8 @@
-use Rattle.std.proofs.Common.{◌≡◌, ◌++◌, map, take}
+use Rattle.std.proofs.Common.{◌≡◌, ℕ, ◌++◌, map, take}
+use Rattle.static_matcher.specs.declared.types.Cond.{Cond}
 use Rattle.fdr_effects.specs.Effects.{both}
+use Rattle.fdr_effects.specs.Standing.{alone, standing}
 use Rattle.fdr_effects.proofs.choices.push_copies.Given as goal
 
 abbrev pub invariant-loop-one : goal.invariant-loop-one
-invariant-loop-one l = l.all.items ≡ l.initial.all.items ++ map (λ one. both l.choice one) (take l.one-index l.ones)
+invariant-loop-one l = (cause : Cond ℕ) → standing l.index cause l.all.items ≡ standing l.index cause l.initial.all.items ++ standing l.index cause (map (λ one. both l.choice (alone one)) (take l.one-index l.ones))

@@ -1,12 +1,14 @@
 -- The choices are those from the rivals on the variable.
-use Rattle.std.proofs.Common.{◌++◌, List, ℕ, append-nil, take_all, sym, ap, ◌∙◌}
+use Rattle.std.proofs.Common.{◌≡◌, ◌++◌, List, ℕ, append-nil, sym, ap, ◌∙◌, subst}
 use Rattle.std.specs.List.{flat_map}
+use Rattle.std.specs.Result.{OnOk}
 use Rattle.static_matcher.specs.declared.types.Cond.{Cond}
 use Rattle.sas_task.specs.Pairs.{pair}
 use Rattle.fdr_effects.specs.Places.{last_value}
-use Rattle.fdr_effects.specs.Effects.{both, is_true, sets_where, negated_choices}
-use Rattle.fdr_effects.specs.Rivals.{conditions_on}
-use Rattle.fdr_effects.proofs.NegatedChoices.{no_choices}
+use Rattle.fdr_effects.specs.Effects.{both, is_true, sets_where, negated_choices, rivals}
+use Rattle.fdr_effects.specs.Rivals.{conditions, conditions_on}
+use Rattle.fdr_effects.specs.Standing.{chosen}
+use Rattle.fdr_effects.proofs.NegatedChoices.{both_assoc, no_choices}
 use Rattle.fdr_effects.proofs.effects.push_deletes.Goals as goal
 
 pub returns-then-is_always_set : goal.returns-then-is_always_set
@@ -20,8 +22,12 @@ returns-then-is_always_set c effects are =
 
 pub returns : goal.returns
 returns c effects are =
+    let cover = c.args.index.now in
     let e = c.args.effect.now in
     let var = c.args.var in
-    let f = λ (choice : Cond ℕ). sets_where c.args.index.now (pair var (last_value c.args.index.now var)) (both e.condition (both (is_true e.fact) choice)) in
-    c.loop-choice.invariant
-    ∙ ap (λ (cs : List (Cond ℕ)). c.args.out.now.items ++ flat_map f cs) (take_all c.loop-choice.choice-index c.as_slice-choice-items.result.now c.loop-choice-test.false ∙ c.as_slice-choice-items.ensures.value ∙ c.in_ok-all.ensures ∙ ap negated_choices (are var))
+    let p = pair var (last_value cover var) in
+    let others = rivals cover effects var in
+    let same = ap (λ cs. chosen cover c.in_ok-cause.cause var cs) (ap conditions c.on.ensures ∙ are var)
+    ∙ ap (λ (cause : Cond ℕ). chosen cover cause var others) c.in_ok-cause.ensures
+    ∙ ap (λ (f : Cond ℕ → Cond ℕ). flat_map (λ choice. sets_where cover p (f choice)) (negated_choices others)) (λ i choice. sym (both_assoc e.condition (is_true e.fact) choice) i) in
+    subst (λ l. OnOk c.push_caused.result (c.push_caused.new.out.items ≡ c.args.out.now.items ++ l)) same c.push_caused.ensures
