@@ -2,9 +2,8 @@
 ghost use Rattle.std.specs.Prelude.{◌≡◌, IfOk, All as Each, map};
 ghost use Rattle.std.specs.List.{flat_map};
 ghost use Rattle.std.specs.Option.{option_to_list};
-ghost use Rattle.normal_task.specs.Lawful.{IsLawful as IsLawfulNormal};
 ghost use Rattle.static_matcher.specs.GroundTask.{action_row};
-ghost use Rattle.static_matcher.specs.Instances.{actions_of, instance_task, static_settling};
+ghost use Rattle.static_matcher.specs.Instances.{actions_of, static_settling};
 ghost use Rattle.static_matcher.specs.Settled.{kept_actions};
 ghost use Rattle.schema_instances.specs.Candidates.{candidate, rows_of, IsCandidate};
 ghost use Rattle.schema_instances.specs.Partial.{HasRisingRanges, RisingSchemas};
@@ -55,7 +54,7 @@ impl<'a> Candidate<'a> {
 }
 
 /// The schema with each of these choices of objects.
-fn with_choices<'a>(
+pub fn with_choices<'a>(
     alloc: Global,
     schema: &'a Schema,
     choices: Vec<List<u64>>,
@@ -107,18 +106,4 @@ pub(crate) fn all_candidates<'a>(
         candidates.append(&mut more)?;
     }
     Ok(candidates)
-}
-
-/// The schemas with each choice of objects that makes no equality and no static literal of their conditions false, schema
-/// after schema. Their instances are those of the normal task.
-pub fn candidates<'a>(
-    alloc: Global,
-    tables: &Tables<'a>,
-    room: &mut Room,
-) -> Result<Vec<Candidate<'a>>, AllocError>
-    requires lawful { IsLawfulNormal tables.now }
-    ensures rows { IfOk result (λ candidates. flat_map (rows_of tables.now) candidates.items ≡ kept_actions (static_settling tables.now) (instance_task tables.now).actions) }
-    ensures each { IfOk result (λ candidates. Each (IsCandidate tables.now) candidates.items) }
-{
-    all_candidates(alloc, tables, room)
 }

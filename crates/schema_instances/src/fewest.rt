@@ -12,7 +12,7 @@ use settled_literals::Tables;
 
 /// The places of a literal, and the numbers of initial atoms among which each match has one.
 #[derive(Clone, Copy)]
-pub(crate) struct Matches<'a> {
+pub struct AtomMatches<'a> {
     pub places: &'a [Place],
     pub atoms: &'a [u64],
 }
@@ -66,11 +66,11 @@ fn shortest<'a>(
 }
 
 /// The matches of the literal, if it is positive and static and has a variable without an object.
-fn matches_of<'a>(
+pub fn matches_of<'a>(
     tables: &'a Tables<'_>,
     partial: &[Option<u64>],
     literal: &'a Literal,
-) -> Option<Matches<'a>>
+) -> Option<AtomMatches<'a>>
     ensures { IfSome result (λ matches. (binding : Items ℕ) → Completes partial.now binding → may_match tables.now (literal.now ∷ []) binding ≡ true →
         IsNamed tables.now matches.places.now matches.atoms.now binding) }
 {
@@ -85,14 +85,17 @@ fn matches_of<'a>(
     {
         return None;
     }
-    Some(Matches {
+    Some(AtomMatches {
         places,
         atoms: shortest(tables, partial, *predicate, places),
     })
 }
 
 /// The one with fewer atoms, where there are two.
-fn fewer<'a>(matches: Option<Matches<'a>>, best: Option<Matches<'a>>) -> Option<Matches<'a>>
+fn fewer<'a>(
+    matches: Option<AtomMatches<'a>>,
+    best: Option<AtomMatches<'a>>,
+) -> Option<AtomMatches<'a>>
     ensures { (result ≡ matches.entry) ⊎ (result ≡ best.entry) }
 {
     match (&matches, &best) {
@@ -103,7 +106,7 @@ fn fewer<'a>(matches: Option<Matches<'a>>, best: Option<Matches<'a>>) -> Option<
 }
 
 /// The static literal with the fewest matches, of those that have a variable without an object.
-pub(crate) fn fewest<'a>(scope: &Scope<'a>, partial: &[Option<u64>]) -> Option<Matches<'a>>
+pub(crate) fn fewest<'a>(scope: &Scope<'a>, partial: &[Option<u64>]) -> Option<AtomMatches<'a>>
     ensures { IfSome result (λ matches. (binding : Items ℕ) → Completes partial.now binding → may_match scope.now.tables.now scope.now.literals.now binding ≡ true →
         IsNamed scope.now.tables.now matches.places.now matches.atoms.now binding) }
 {
