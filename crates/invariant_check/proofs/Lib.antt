@@ -17,3 +17,9 @@ mod Choices
 mod TriedSteps
 mod Matching
 mod Orders
+mod InOrder
+mod Keyed
+mod TouchedSchemas
+mod BesideParts
+mod AtOnce
+mod NearParts

@@ -13,11 +13,27 @@ use Rattle.normal_task.specs.declared.task.Schema.{Schema}
 use Rattle.normal_task.specs.Meaning.{choices}
 use Rattle.contradictions.specs.declared.types.Candidate.{Candidate}
 use Rattle.contradictions.specs.Candidates.{at_positions}
-use Rattle.contradictions.specs.Contradictory.{is_same_place, in_one_class, all_pairs, are_same_terms, terms_of, is_contradictory}
+use Rattle.contradictions.specs.Contradictory.{is_same_place, are_two_objects, in_one_class, all_pairs, are_same_terms, terms_of, is_contradictory}
 use Rattle.contradictions.specs.GivenTerms.{with_terms, literal_with}
 use Rattle.invariant_check.specs.Accepted.{apart_from, ranges_with, denied, is_listed, terms, fits}
 
 -- ---- light
+
+-- the place is a parameter or an object, and stays where variables of effects are renamed
+abbrev pub is_kept : ℕ → Place → Bool
+is_kept parameters (Variable number) = nat_lt number parameters
+is_kept parameters (Object object) = true
+
+abbrev pub are_kept : ℕ → List Place → List Place → Bool
+are_kept parameters xs ys = pointwise (λ x y. is_same_place x y && is_kept parameters y) xs ys
+
+-- both add the same atom, of parameters and objects
+abbrev pub add_one_atom : Schema → EffectRow → EffectRow → Bool
+add_one_atom schema e f = nat_eq e.predicate f.predicate && are_kept (length schema.parameters) e.places f.places
+
+-- two different objects are given for one parameter of the candidate
+abbrev pub name_two : List Place → List Place → Bool
+name_two xs ys = list_any (λ pair. are_two_objects pair.0 pair.1) (zip xs ys)
 
 -- the first atom is one with the second, or the two are never added together, where these terms of the two are equated
 abbrev pub are_one_or_apart : Candidate → List (List ℕ) → List Literal → List (Place × Place) → List Place → ℕ → List Place → ℕ → List Place → Bool

@@ -5,3 +5,5 @@ pub mod Repairs
 pub mod Soundness
 pub mod Attempts
 pub mod Examples
+pub mod Touched
+pub mod Beside

@@ -1,16 +1,20 @@
 // The check of a candidate, and its repairs.
-ghost use Rattle.std.specs.Prelude.{◌≡◌, ◌++◌, ◌∷◌, [], not, nat_eq, length, filter, Some, IfOk, OnOk};
+ghost use Rattle.std.specs.Prelude.{◌≡◌, ◌++◌, ◌∷◌, [], not, nat_eq, length, map, filter, Some, IfOk, OnOk};
 ghost use Rattle.std.specs.List.{list_any, position_from};
 ghost use Rattle.candidate_parts.specs.Extensions.{with_part};
+ghost use Rattle.invariant_check.specs.Beside as beside;
 ghost use Rattle.invariant_check.specs.Repairs as spec;
+ghost use Rattle.invariant_check.specs.Touched as touched;
 
+use crate::adds::{AddTable, touching};
 use crate::balanced::{has_balance, is_balanced_at};
-use crate::extensions::{extensions, parts_beside, with_part};
+use crate::extensions::{deleted, has_predicate, others, parts_of, with_part};
 use crate::light::is_light;
+use crate::near::near;
 use crate::types::{AddPlace, Verdict};
 use contradictions::{Candidate, Part};
 use lists::List;
-use normal_task::{EffectRow, Normal, Schema};
+use normal_task::{EffectRow, Literal, Normal, Schema};
 use std::alloc::{AllocError, Global};
 
 // ---- the first add that isn't balanced
@@ -55,18 +59,34 @@ fn first_row(
     Ok(None)
 }
 
-/// The first such effect of the schemas.
+/// The first such effect of the schema with this number, if there is one.
+fn first_row_at(
+    alloc: Global,
+    normal: &Normal,
+    candidate: &Candidate,
+    number: u64,
+) -> Result<Option<u64>, AllocError>
+    ensures { IfOk result (λ first. first ≡ touched.first_row_at normal.now candidate.now number) }
+{
+    match normal.schemas.as_slice().get(number as usize) {
+        Some(schema) => first_row(alloc, normal, candidate, schema),
+        None => Ok(None),
+    }
+}
+
+/// The first such effect of the schemas with these numbers.
 fn first_unbalanced(
     alloc: Global,
     normal: &Normal,
     candidate: &Candidate,
+    numbers: &[u64],
 ) -> Result<Option<AddPlace>, AllocError>
-    ensures { IfOk result (λ first. first ≡ spec.first_unbalanced normal.now candidate.now 0 normal.now.schemas) }
+    ensures { IfOk result (λ first. first ≡ touched.first_among normal.now candidate.now numbers.now) }
 {
-    for (number, schema) in normal.schemas.as_slice().iter().enumerate() {
-        if let Some(effect) = first_row(alloc, normal, candidate, schema)? {
+    for number in numbers {
+        if let Some(effect) = first_row_at(alloc, normal, candidate, *number)? {
             return Ok(Some(AddPlace {
-                schema: number as u64,
+                schema: *number,
                 effect,
             }));
         }
@@ -74,7 +94,7 @@ fn first_unbalanced(
     Ok(None)
 }
 
-// ---- repairs
+// ---- adds that are balanced
 
 /// Some delete effect of the candidate's predicates balances the row's add.
 fn balances_row(
@@ -114,18 +134,125 @@ fn balances_add(
     }
 }
 
-/// Keeps the candidate, if some delete effect balances the add at the place under it.
+// ---- the predicates that a repair may be of
+
+/// The literal says that an atom of the predicate is true.
+fn needs(predicate: u64, literal: &Literal) -> bool
+    ensures { result ≡ beside.needs predicate literal.now }
+{
+    match literal {
+        Literal::Holds(positive, other, _) => *positive && predicate == *other,
+        Literal::Equal(_, _, _) => false,
+    }
+}
+
+fn is_needed(literals: &[Literal], predicate: u64) -> bool
+    ensures { result ≡ list_any (beside.needs predicate) literals.now }
+{
+    literals.iter().any(|literal| needs(predicate, literal))
+}
+
+/// The effect deletes atoms of a predicate of the candidate, of which one must be true where the row adds.
+fn is_own_delete(
+    candidate: &Candidate,
+    schema: &Schema,
+    row: &EffectRow,
+    delete: &EffectRow,
+) -> bool
+    ensures { result ≡ beside.is_own_delete candidate.now schema.now row.now delete.now }
+{
+    !delete.adds
+        && has_predicate(candidate, delete.predicate)
+        && (is_needed(schema.condition.as_slice(), delete.predicate)
+            || is_needed(row.condition.as_slice(), delete.predicate))
+}
+
+fn has_own_delete(candidate: &Candidate, schema: &Schema, row: &EffectRow) -> bool
+    ensures { result ≡ list_any (beside.is_own_delete candidate.now schema.now row.now) schema.now.effects }
+{
+    schema
+        .effects
+        .as_slice()
+        .iter()
+        .any(|delete| is_own_delete(candidate, schema, row, delete))
+}
+
+/// Some delete effect on a predicate of the candidate itself may balance the add at the place, or there is no such add.
+fn may_be_balanced(normal: &Normal, candidate: &Candidate, place: &AddPlace) -> bool
+    ensures { result ≡ beside.may_be_balanced normal.now candidate.now place.now }
+{
+    match normal.schemas.as_slice().get(place.schema as usize) {
+        Some(schema) => match schema.effects.as_slice().get(place.effect as usize) {
+            Some(row) => has_own_delete(candidate, schema, row),
+            None => true,
+        },
+        None => true,
+    }
+}
+
+/// The predicates among which the repairs are looked for. Mostly these are those of which the add's schema deletes atoms:
+/// only where some delete effect on a predicate of the candidate itself may come to balance the add by a part more, any other is.
+fn predicates_beside(
+    alloc: Global,
+    normal: &Normal,
+    candidate: &Candidate,
+    place: &AddPlace,
+) -> Result<Vec<u64>, AllocError>
+    ensures { IfOk result (λ predicates. beside.repairs_among normal.now candidate.now place.now predicates.items ≡ spec.repairs_at normal.now candidate.now place.now) }
+{
+    if may_be_balanced(normal, candidate, place) {
+        return others(alloc, normal, candidate);
+    }
+    match normal.schemas.as_slice().get(place.schema as usize) {
+        Some(schema) => deleted(alloc, normal, candidate, schema),
+        None => others(alloc, normal, candidate),
+    }
+}
+
+/// The parts of these predicates.
+fn parts_beside(
+    alloc: Global,
+    normal: &Normal,
+    candidate: &Candidate,
+    place: &AddPlace,
+) -> Result<Vec<Part>, AllocError>
+    ensures { IfOk result (λ parts. filter (spec.balances_add normal.now place.now) (map (with_part normal.now candidate.now) parts.items) ≡ spec.repairs_at normal.now candidate.now place.now) }
+{
+    let predicates = predicates_beside(alloc, normal, candidate, place)?;
+    parts_of(alloc, normal, candidate, predicates.as_slice())
+}
+
+// ---- the repairs
+
+/// Some delete effect balances the add at the place, under the candidate with this part more.
+fn balances_with(
+    alloc: Global,
+    normal: &Normal,
+    candidate: &Candidate,
+    place: &AddPlace,
+    part: &Part,
+) -> Result<bool, AllocError>
+    ensures { IfOk result (λ answer. answer ≡ spec.balances_add normal.now place.now (with_part normal.now candidate.now part.now)) }
+{
+    let extension = with_part(alloc, normal, candidate, part)?;
+    balances_add(alloc, normal, &extension, place)
+}
+
+/// Adds the candidate with this part more, if some delete effect balances the add at the place under it. This is seen at
+/// what of the candidate matters there.
 fn push_repair(
     alloc: Global,
     repairs: &mut Vec<Candidate>,
     normal: &Normal,
+    candidate: &Candidate,
+    near: &Candidate,
     place: &AddPlace,
-    extension: Candidate,
+    part: &Part,
 ) -> Result<(), AllocError>
-    ensures { OnOk result (repairs.new.items ≡ repairs.old.items ++ filter (spec.balances_add normal.now place.now) (extension ∷ [])) }
+    ensures { OnOk result (repairs.new.items ≡ repairs.old.items ++ map (with_part normal.now candidate.now) (filter (λ part. spec.balances_add normal.now place.now (with_part normal.now near.now part)) (part.now ∷ []))) }
 {
-    if balances_add(alloc, normal, &extension, place)? {
-        repairs.push(extension)?;
+    if balances_with(alloc, normal, near, place, part)? {
+        repairs.push(with_part(alloc, normal, candidate, part)?)?;
     }
     Ok(())
 }
@@ -138,9 +265,11 @@ fn repairs_at(
 ) -> Result<Vec<Candidate>, AllocError>
     ensures { IfOk result (λ repairs. repairs.items ≡ spec.repairs_at normal.now candidate.now place.now) }
 {
+    let near = near(alloc, normal, candidate, place)?;
+    let parts = parts_beside(alloc, normal, candidate, place)?;
     let mut repairs = Vec::new(alloc);
-    for extension in extensions(alloc, normal, candidate)?.into_vec() {
-        push_repair(alloc, &mut repairs, normal, place, extension)?;
+    for part in parts.as_slice() {
+        push_repair(alloc, &mut repairs, normal, candidate, &near, place, part)?;
     }
     Ok(repairs)
 }
@@ -161,20 +290,6 @@ pub fn repairs(
 
 // ---- the verdict
 
-/// Some delete effect balances the add at the place, under the candidate with this part more.
-fn balances_with(
-    alloc: Global,
-    normal: &Normal,
-    candidate: &Candidate,
-    place: &AddPlace,
-    part: &Part,
-) -> Result<bool, AllocError>
-    ensures { IfOk result (λ answer. answer ≡ spec.balances_add normal.now place.now (with_part normal.now candidate.now part.now)) }
-{
-    let extension = with_part(alloc, normal, candidate, part)?;
-    balances_add(alloc, normal, &extension, place)
-}
-
 /// Some delete effect balances the add at the place, under the candidate with some one of the parts more.
 fn some_repairs(
     alloc: Global,
@@ -193,7 +308,7 @@ fn some_repairs(
     Ok(false)
 }
 
-/// Some candidate repairs this one: the first that does is the last that is made.
+/// Some candidate repairs this one.
 fn has_repair(
     alloc: Global,
     normal: &Normal,
@@ -202,8 +317,9 @@ fn has_repair(
 ) -> Result<bool, AllocError>
     ensures { IfOk result (λ answer. answer ≡ not (nat_eq (length (spec.repairs_at normal.now candidate.now place.now)) 0)) }
 {
-    let parts = parts_beside(alloc, normal, candidate)?;
-    some_repairs(alloc, normal, candidate, place, parts.as_slice())
+    let near = near(alloc, normal, candidate, place)?;
+    let parts = parts_beside(alloc, normal, candidate, place)?;
+    some_repairs(alloc, normal, &near, place, parts.as_slice())
 }
 
 /// The verdict where the candidate is light, and this is its first add that isn't balanced.
@@ -222,7 +338,25 @@ fn unbalanced(
     }
 }
 
-/// What the check says of the candidate.
+/// What the check says of the candidate, by the schemas that add atoms of its predicates.
+pub fn check_with(
+    alloc: Global,
+    table: &AddTable<'_>,
+    candidate: &Candidate,
+) -> Result<Verdict, AllocError>
+    ensures { IfOk result (λ verdict. verdict ≡ spec.verdict table.now.normal.now candidate.now) }
+{
+    let numbers = touching(alloc, table, candidate)?;
+    if !is_light(alloc, table.normal, candidate, numbers.as_slice())? {
+        return Ok(Verdict::Dropped);
+    }
+    match first_unbalanced(alloc, table.normal, candidate, numbers.as_slice())? {
+        Some(place) => unbalanced(alloc, table.normal, candidate, place),
+        None => Ok(Verdict::Accepted),
+    }
+}
+
+/// What the check says of the candidate. Where many are checked, `check_with` makes the table of the task once.
 pub fn check_candidate(
     alloc: Global,
     normal: &Normal,
@@ -230,11 +364,5 @@ pub fn check_candidate(
 ) -> Result<Verdict, AllocError>
     ensures { IfOk result (λ verdict. verdict ≡ spec.verdict normal.now candidate.now) }
 {
-    if !is_light(alloc, normal, candidate)? {
-        return Ok(Verdict::Dropped);
-    }
-    match first_unbalanced(alloc, normal, candidate)? {
-        Some(place) => unbalanced(alloc, normal, candidate, place),
-        None => Ok(Verdict::Accepted),
-    }
+    check_with(alloc, &AddTable::new(alloc, normal)?, candidate)
 }

@@ -1,16 +1,17 @@
 // Candidates with one part, and those with one part more than a candidate.
-ghost use Rattle.std.specs.Prelude.{◌≡◌, ◌++◌, ◌∷◌, ◌≤◌, ◌-◌, [], not, nat_eq, length, map, get_or, take, IfOk, OnOk};
+ghost use Rattle.std.specs.Prelude.{◌≡◌, ◌++◌, ◌∷◌, ◌≤◌, ◌-◌, ◌&&◌, [], not, nat_eq, length, map, get_or, take, IfOk, OnOk};
 ghost use Rattle.std.specs.List.{IsDistinct, filter, list_any, flat_map, range_with_len, position, position_or_len};
 ghost use Rattle.std.specs.Vec.{vec_len};
 ghost use Rattle.itertools.specs.Odometer.{ways};
 ghost use Rattle.itertools.specs.Pool.{permutation_can, permutation_left};
 ghost use Rattle.candidate_parts.specs.Extensions as spec;
+ghost use Rattle.invariant_check.specs.Beside as beside;
 
 use candidate_parts::{arity_of, first_above, left_by, push_candidates};
 use contradictions::{Candidate, Part, copies};
 use itertools::{Itertools, Permutations};
 use lists::List;
-use normal_task::Normal;
+use normal_task::{EffectRow, Normal, Schema};
 use std::alloc::{AllocError, Global};
 
 /// Whether effects change the predicate: it is basic and not static.
@@ -127,8 +128,12 @@ pub(crate) fn has_predicate(candidate: &Candidate, predicate: u64) -> bool
 }
 
 /// The predicates that effects change and of which the candidate has no part.
-fn others(alloc: Global, normal: &Normal, candidate: &Candidate) -> Result<Vec<u64>, AllocError>
-    ensures { IfOk result (λ predicates. predicates.items ≡ filter (λ predicate. not (spec.has_predicate candidate.now predicate)) (spec.changing normal.now)) }
+pub(crate) fn others(
+    alloc: Global,
+    normal: &Normal,
+    candidate: &Candidate,
+) -> Result<Vec<u64>, AllocError>
+    ensures { IfOk result (λ predicates. predicates.items ≡ beside.others normal.now candidate.now) }
 {
     let predicates = changing(alloc, normal)?;
     predicates
@@ -139,17 +144,56 @@ fn others(alloc: Global, normal: &Normal, candidate: &Candidate) -> Result<Vec<u
         .collect(alloc)
 }
 
-/// The parts that the candidate may be extended by.
-pub(crate) fn parts_beside(
+/// The effect deletes atoms of a predicate that effects change and of which the candidate has no part.
+fn is_new_delete(normal: &Normal, candidate: &Candidate, row: &EffectRow) -> bool
+    ensures { result ≡ (not row.now.adds && spec.is_changing normal.now row.now.predicate && not (spec.has_predicate candidate.now row.now.predicate)) }
+{
+    !row.adds && is_changing(normal, row.predicate) && !has_predicate(candidate, row.predicate)
+}
+
+fn new_deletes(
     alloc: Global,
     normal: &Normal,
     candidate: &Candidate,
-) -> Result<Vec<Part>, AllocError>
-    ensures { IfOk result (λ parts. parts.items ≡ flat_map (spec.parts_of normal.now candidate.now.parameters) (filter (λ predicate. not (spec.has_predicate candidate.now predicate)) (spec.changing normal.now))) }
+    schema: &Schema,
+) -> Result<Vec<u64>, AllocError>
+    ensures { IfOk result (λ predicates. predicates.items ≡ map (λ row. row.predicate) (filter (λ row. not row.adds && spec.is_changing normal.now row.predicate && not (spec.has_predicate candidate.now row.predicate)) schema.now.effects)) }
 {
-    let predicates = others(alloc, normal, candidate)?;
+    schema
+        .effects
+        .as_slice()
+        .iter()
+        .filter(|row| is_new_delete(normal, candidate, row))
+        .map(|row| row.predicate)
+        .collect(alloc)
+}
+
+/// Of the predicates that effects change and of which the candidate has no part, those of which the schema deletes atoms.
+pub(crate) fn deleted(
+    alloc: Global,
+    normal: &Normal,
+    candidate: &Candidate,
+    schema: &Schema,
+) -> Result<Vec<u64>, AllocError>
+    ensures { IfOk result (λ predicates. predicates.items ≡ filter (beside.deletes schema.now) (beside.others normal.now candidate.now)) }
+{
+    let mut predicates = new_deletes(alloc, normal, candidate, schema)?;
+    predicates.sort_unstable();
+    predicates.dedup();
+    Ok(predicates)
+}
+
+/// The parts of these predicates that the candidate may be extended by.
+pub(crate) fn parts_of(
+    alloc: Global,
+    normal: &Normal,
+    candidate: &Candidate,
+    predicates: &[u64],
+) -> Result<Vec<Part>, AllocError>
+    ensures { IfOk result (λ parts. parts.items ≡ flat_map (spec.parts_of normal.now candidate.now.parameters) predicates.now) }
+{
     let mut parts = Vec::new(alloc);
-    for predicate in predicates.as_slice() {
+    for predicate in predicates {
         push_parts(alloc, &mut parts, normal, candidate.parameters, *predicate)?;
     }
     Ok(parts)
@@ -268,21 +312,4 @@ pub(crate) fn with_part(
         parameters: candidate.parameters,
         parts: List::from_vec(formed),
     })
-}
-
-/// All candidates with one part more than this one, for another predicate: by the predicate of that part, what it
-/// counts, and its placement.
-pub(crate) fn extensions(
-    alloc: Global,
-    normal: &Normal,
-    candidate: &Candidate,
-) -> Result<List<Candidate>, AllocError>
-    ensures { IfOk result (λ candidates. candidates ≡ spec.extensions normal.now candidate.now) }
-{
-    let parts = parts_beside(alloc, normal, candidate)?;
-    let mut candidates = Vec::new(alloc);
-    for part in parts.as_slice() {
-        candidates.push(with_part(alloc, normal, candidate, part)?)?;
-    }
-    Ok(List::from_vec(candidates))
 }

@@ -1,14 +1,17 @@
 //! Invariants of normal tasks: candidates that are light and balanced (Helmert 2009, section 5).
 #![tactic(auto)]
 
+mod adds;
 mod balanced;
 mod check;
 mod extensions;
 pub mod laws;
 mod light;
+mod near;
 mod tried;
 mod types;
 
-pub use check::{check_candidate, repairs};
+pub use adds::AddTable;
+pub use check::{check_candidate, check_with, repairs};
 pub use extensions::one_predicate;
 pub use types::{AddPlace, Verdict};

@@ -1,18 +1,22 @@
 // When a candidate is light: no two add effects of a schema add two atoms of one instance together.
-ghost use Rattle.std.specs.Prelude.{◌≡◌, ◌++◌, ◌∷◌, [], map, length, IfOk, OnOk};
+ghost use Rattle.std.specs.Prelude.{◌≡◌, ◌++◌, ◌∷◌, [], ◌&&◌, map, length, IfOk, OnOk};
 ghost use Rattle.std.specs.List.{list_all};
+ghost use Rattle.normal_task.specs.declared.task.Place.TheVariants.{Object};
+ghost use Rattle.contradictions.specs.Candidates.{at_positions};
+ghost use Rattle.contradictions.specs.Contradictory as terms;
 ghost use Rattle.contradictions.specs.Merges.{as_pair, all_ranges};
 ghost use Rattle.contradictions.specs.Renamings.{denied_atom};
 ghost use Rattle.contradictions.specs.declared.renaming.Renaming.TheVariants.{Apart};
 ghost use Rattle.invariant_check.specs.Accepted as spec;
 ghost use Rattle.invariant_check.specs.Attempts as words;
+ghost use Rattle.invariant_check.specs.Touched as touched;
 
 use candidate_parts::{AddedAtom, are_one};
 use contradictions::{
-    Candidate, Case, Part, Ranges, Renamed, Renaming, classes, contradicts, push_denied,
-    push_renamed, renamed_row, terms_at, zipped,
+    Candidate, Case, Part, Ranges, Renamed, Renaming, classes, contradicts, is_same_place,
+    push_denied, push_renamed, renamed_row, term_at, terms_at, zipped,
 };
-use normal_task::{EffectRow, Literal, Normal, Schema};
+use normal_task::{EffectRow, Literal, Normal, Place, Schema};
 use std::alloc::{AllocError, Global};
 
 /// Adds the literals as they are.
@@ -108,8 +112,101 @@ struct PartAdd<'a> {
     row: &'a EffectRow,
 }
 
+// ---- pairs of add effects that are light at once
+
+/// The two places are one, which is a parameter or an object.
+fn is_same_kept(parameters: u64, x: &Place, y: &Place) -> bool
+    ensures { result ≡ (terms.is_same_place x.now y.now && words.is_kept parameters y.now) }
+{
+    is_same_place(x, y) && is_kept(parameters, y)
+}
+
+fn is_kept(parameters: u64, place: &Place) -> bool
+    ensures { result ≡ words.is_kept parameters place.now }
+{
+    match place {
+        Place::Variable(number) => *number < parameters,
+        Place::Object(_) => true,
+    }
+}
+
+fn are_kept(parameters: u64, xs: &[Place], ys: &[Place]) -> bool
+    ensures { result ≡ words.are_kept parameters xs.now ys.now }
+{
+    if xs.is_empty() {
+        ys.is_empty()
+    } else if ys.is_empty() {
+        false
+    } else {
+        is_same_kept(parameters, &xs[0], &ys[0]) && are_kept(parameters, &xs[1..], &ys[1..])
+    }
+}
+
+/// Both effects add the same atom, of parameters and objects.
+fn add_one_atom(schema: &Schema, one: &EffectRow, other: &EffectRow) -> bool
+    ensures { result ≡ words.add_one_atom schema.now one.now other.now }
+{
+    one.predicate == other.predicate
+        && are_kept(
+            schema.parameters.as_slice().len() as u64,
+            one.places.as_slice(),
+            other.places.as_slice(),
+        )
+}
+
+fn are_two_objects(x: &Place, y: &Place) -> bool
+    ensures { result ≡ terms.are_two_objects x.now y.now }
+{
+    match x {
+        Place::Variable(_) => false,
+        Place::Object(object) => match y {
+            Place::Variable(_) => false,
+            Place::Object(other) => *object != *other,
+        },
+    }
+}
+
+/// At some position the two instances have different objects.
+fn name_two(positions: &[u64], places: &[Place], others: &[u64], other_places: &[Place]) -> bool
+    ensures { result ≡ words.name_two (at_positions (Object 0) positions.now places.now) (at_positions (Object 0) others.now other_places.now) }
+{
+    if positions.is_empty() {
+        false
+    } else if others.is_empty() {
+        false
+    } else {
+        are_two_objects(
+            &term_at(positions[0], places),
+            &term_at(others[0], other_places),
+        ) || name_two(&positions[1..], places, &others[1..], other_places)
+    }
+}
+
+// ---- light
+
 /// The two add effects are light beside each other, if the second part is of its effect's predicate.
 fn are_light(
+    alloc: Global,
+    candidate: &Candidate,
+    schema: &Schema,
+    one: &PartAdd<'_>,
+    other: &PartAdd<'_>,
+) -> Result<bool, AllocError>
+    ensures { IfOk result (λ answer. answer ≡ spec.part_passes (spec.is_light_beside candidate.now schema.now one.now.part.now one.now.row.now) other.now.row.now other.now.part.now) }
+{
+    if name_two(
+        one.part.places.as_slice(),
+        one.row.places.as_slice(),
+        other.part.places.as_slice(),
+        other.row.places.as_slice(),
+    ) {
+        return Ok(true);
+    }
+    are_light_by_classes(alloc, candidate, schema, one, other)
+}
+
+/// The same, where the classes of terms are looked at.
+fn are_light_by_classes(
     alloc: Global,
     candidate: &Candidate,
     schema: &Schema,
@@ -149,6 +246,21 @@ fn are_light(
 
 /// The add effect is light beside the other one, with each part of its predicate.
 fn is_light_beside_row(
+    alloc: Global,
+    candidate: &Candidate,
+    schema: &Schema,
+    one: &PartAdd<'_>,
+    row: &EffectRow,
+) -> Result<bool, AllocError>
+    ensures { IfOk result (λ answer. answer ≡ list_all (spec.part_passes (spec.is_light_beside candidate.now schema.now one.now.part.now one.now.row.now) row.now) candidate.now.parts) }
+{
+    if add_one_atom(schema, one.row, row) {
+        return Ok(true);
+    }
+    is_light_beside_parts(alloc, candidate, schema, one, row)
+}
+
+fn is_light_beside_parts(
     alloc: Global,
     candidate: &Candidate,
     schema: &Schema,
@@ -212,15 +324,32 @@ fn is_light_in(alloc: Global, candidate: &Candidate, schema: &Schema) -> Result<
     Ok(true)
 }
 
+/// The candidate is light in the schema with this number, if there is one.
+fn is_light_at(
+    alloc: Global,
+    normal: &Normal,
+    candidate: &Candidate,
+    number: u64,
+) -> Result<bool, AllocError>
+    ensures { IfOk result (λ answer. answer ≡ touched.is_light_at normal.now candidate.now number) }
+{
+    match normal.schemas.as_slice().get(number as usize) {
+        Some(schema) => is_light_in(alloc, candidate, schema),
+        None => Ok(true),
+    }
+}
+
+/// The candidate is light in each of the schemas with these numbers.
 pub(crate) fn is_light(
     alloc: Global,
     normal: &Normal,
     candidate: &Candidate,
+    numbers: &[u64],
 ) -> Result<bool, AllocError>
-    ensures { IfOk result (λ answer. answer ≡ spec.is_light normal.now candidate.now) }
+    ensures { IfOk result (λ answer. answer ≡ list_all (touched.is_light_at normal.now candidate.now) numbers.now) }
 {
-    for schema in normal.schemas.as_slice() {
-        if !is_light_in(alloc, candidate, schema)? {
+    for number in numbers {
+        if !is_light_at(alloc, normal, candidate, *number)? {
             return Ok(false);
         }
     }

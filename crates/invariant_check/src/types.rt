@@ -1,4 +1,11 @@
-// What the check says of a candidate, and the place of an add effect.
+// What the check says of a candidate, and the places of add effects.
+
+/// An add effect, by its predicate and its schema.
+#[derive(Clone, Copy)]
+pub(crate) struct AddOf {
+    pub(crate) predicate: u64,
+    pub(crate) schema: u64,
+}
 
 /// An add effect, by its schema and its effect row.
 #[derive(Drop)]

@@ -1,7 +1,6 @@
 use Rattle.std.proofs.Common.{◌≡◌, drop}
-use Rattle.invariant_check.specs.Repairs as spec
+use Rattle.invariant_check.specs.Touched.{first_among}
 use Rattle.invariant_check.proofs.check.first_unbalanced.Given as goal
 
 abbrev pub invariant-loop-number : goal.invariant-loop-number
-invariant-loop-number l =
-    spec.first_unbalanced l.normal l.candidate 0 l.normal.schemas ≡ spec.first_unbalanced l.normal l.candidate l.number (drop l.number l.normal.schemas)
+invariant-loop-number l = first_among l.normal l.candidate l.numbers ≡ first_among l.normal l.candidate (drop l.number-index l.numbers)
