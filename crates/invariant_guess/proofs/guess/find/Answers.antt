@@ -1,6 +1,7 @@
-use Rattle.std.proofs.Common.{◌∙◌, ◌<◌, [], ap, subst, arith}
+use Rattle.std.proofs.Common.{◌∙◌, ◌<◌, [], ◌∷◌, ◌++◌, filter, ap, subst, arith}
 use Rattle.indexmap.specs.IndexSet.{insert_all}
-use Rattle.invariant_guess.specs.Trial.{is_same}
+use Rattle.invariant_check.specs.Accepted.{is_accepted}
+use Rattle.invariant_guess.specs.Trial.{is_same, repairs}
 use Rattle.invariant_guess.proofs.Trying.{at_first, tries_next, found}
 use Rattle.invariant_guess.proofs.guess.find.Goals as goal
 use Rattle.invariant_guess.proofs.guess.find.Goals.{then-loop-tried-test+else-tried-len, else-loop-tried-test}
@@ -13,9 +14,11 @@ loop-tried-init c =
 
 pub loop-tried-preserved : goal.loop-tried-preserved
 loop-tried-preserved c =
+    let task = c.in_ok-table.ensures in
     tries_next c.args.normal.now c.args.max c.loop-tried.queue.keys c.loop-tried.tried c.loop-tried.accepted.items c.loop-tried.invariant c.loop-tried-test.true
     (subst (λ n. c.loop-tried.tried < n) c.len.ensures.len c.if-tried-len.true) c.index.result.now c.index.ensures c.add_new-in-loop-tried.new.queue.keys c.try_one.new.accepted.items
-    (c.in_ok-add_new-2.ensures ∙ ap (insert_all is_same c.loop-tried.queue.keys) c.in_ok-repairs.ensures.repairs) c.in_ok-repairs.ensures.kept
+    (c.in_ok-add_new-2.ensures ∙ ap (insert_all is_same c.loop-tried.queue.keys) (c.in_ok-repairs.ensures.repairs ∙ ap (λ task. repairs task c.index.result.now) task))
+    (c.in_ok-repairs.ensures.kept ∙ ap (λ task. c.loop-tried.accepted.items ++ filter (is_accepted task) (c.index.result.now ∷ [])) task)
 
 pub returns : goal.returns
 returns c =
