@@ -350,7 +350,8 @@ pub fn check_with(
     if !is_light(alloc, table.normal, candidate, numbers.as_slice())? {
         return Ok(Verdict::Dropped);
     }
-    match first_unbalanced(alloc, table.normal, candidate, numbers.as_slice())? {
+    let first = first_unbalanced(alloc, table.normal, candidate, numbers.as_slice())?;
+    match first {
         Some(place) => unbalanced(alloc, table.normal, candidate, place),
         None => Ok(Verdict::Accepted),
     }

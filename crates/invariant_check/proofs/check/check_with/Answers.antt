@@ -28,7 +28,7 @@ returns-in-Some c =
     let task = c.args.table.now.normal.now in
     let candidate = c.args.candidate.now in
     let light = c.in_ok-is_light.ensures ∙ ap (list_all (is_light_at task candidate)) (c.as_slice.ensures.value ∙ c.in_ok-numbers.ensures) ∙ light_of_touching task candidate in
-    let first = c.in_ok-place.ensures ∙ ap (first_among task candidate) (c.as_slice-2.ensures.value ∙ c.in_ok-numbers.ensures) ∙ first_of_touching task candidate in
+    let first = c.in_ok-first.ensures ∙ ap (first_among task candidate) (c.as_slice-2.ensures.value ∙ c.in_ok-numbers.ensures) ∙ first_of_touching task candidate in
     IfOk-weaker c.unbalanced.result _ (λ said. said ≡ verdict task candidate)
     (λ said is. is ∙ ap (verdict_by task candidate) (sym c.in-Some.is ∙ first) ∙ sym (ap (by_light task candidate) (sym light ∙ c.if-not-branch.false))) c.unbalanced.ensures
 
@@ -38,5 +38,5 @@ returns c =
     let task = c.args.table.now.normal.now in
     let candidate = c.args.candidate.now in
     let light = c.in_ok-is_light.ensures ∙ ap (list_all (is_light_at task candidate)) (c.as_slice.ensures.value ∙ c.in_ok-numbers.ensures) ∙ light_of_touching task candidate in
-    let first = c.in_ok-place.ensures ∙ ap (first_among task candidate) (c.as_slice-2.ensures.value ∙ c.in_ok-numbers.ensures) ∙ first_of_touching task candidate in
+    let first = c.in_ok-first.ensures ∙ ap (first_among task candidate) (c.as_slice-2.ensures.value ∙ c.in_ok-numbers.ensures) ∙ first_of_touching task candidate in
     ap (verdict_by task candidate) (sym c.in-None.is ∙ first) ∙ sym (ap (by_light task candidate) (sym light ∙ c.if-not-branch.false))
