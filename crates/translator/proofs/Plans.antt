@@ -1,13 +1,12 @@
 -- What the plan file comes to, by its text.
-use Rattle.std.proofs.Common.{◌≡◌, ℕ, List, [], ◌∷◌, refl, sym, ap, ap₂, ◌∙◌}
-use Rattle.std.specs.Prelude.{Bool, Contains}
+use Rattle.std.proofs.Common.{◌≡◌, ℕ, List, [], ◌∷◌, refl, sym, ap, ◌∙◌}
+use Rattle.std.specs.Prelude.{Contains}
 use Rattle.std.specs.declared.option.Option.{Option}
 use Rattle.std.specs.declared.option.Option.TheVariants.{Some, None}
 use Rattle.tl_device.specs.Contents.{Contents}
 use Rattle.plan_lines.specs.Lines.{plan_lines}
 use Rattle.plan_backmap.specs.Plans.{PlanFault, BadLine, UnknownStep, faults, mapped, IsFirst, IfFault}
 use Rattle.plan_lines.specs.PlanText.{plan_text}
-use Rattle.plan_lines.specs.declared.plan.Mapped.{Mapped}
 use Rattle.plan_backmap.specs.declared.plan.MapEnd.{MapEnd}
 use Rattle.plan_backmap.specs.declared.plan.MapEnd.TheVariants as map_ends
 use Rattle.sas_task.specs.Task.{Task}
@@ -30,11 +29,9 @@ pub unknown_step : (name : List ℕ) (faults : List PlanFault) (lines : List ℕ
 unknown_step name faults lines end line is first =
     ap (λ (fs : List PlanFault). unless_faulty name fs lines) (first (UnknownStep line) is).1
 
-pub lines_given : (task : Task) (plan : Text) (it : Mapped) (metric : Bool) (bytes : List ℕ) → faults task.operators (plan_lines plan.bytes) ≡ [] → it ≡ mapped task.operators (plan_lines plan.bytes) → metric ≡ task.metric → bytes ≡ plan_text metric it
-    → mapped_lines task plan ≡ Gives bytes
-lines_given task plan it metric bytes none is same text_is =
-    ap (λ (fs : List PlanFault). unless_faulty plan.name fs (plan_text task.metric (mapped task.operators (plan_lines plan.bytes)))) none
-    ∙ ap Gives (sym (text_is ∙ ap₂ plan_text same is))
+pub lines_given : (task : Task) (plan : Text) (lines : List ℕ) → faults task.operators (plan_lines plan.bytes) ≡ [] → lines ≡ plan_text task.metric (mapped task.operators (plan_lines plan.bytes)) → mapped_lines task plan ≡ Gives lines
+lines_given task plan lines none is =
+    ap (λ (fs : List PlanFault). unless_faulty plan.name fs (plan_text task.metric (mapped task.operators (plan_lines plan.bytes)))) none ∙ ap Gives (sym is)
 
 -- a fault is told of the text's name
 told_unless : (names : List (List ℕ)) (name : List ℕ) (faults : List PlanFault) (lines : List ℕ) → Contains names name → IsToldOf names (unless_faulty name faults lines)
