@@ -209,13 +209,52 @@ def ring(nodes):
 
 def chains(objects):
     """A chain of objects, and an action over five of them that asks for the links between these and takes one away: no link is
-    static, so that each choice of five objects is tried."""
+    static, so that a matcher of static literals would try each choice of five objects."""
     return (
         b"""(define (domain chains) (:predicates (linked ?x ?y) (joined ?x ?y))
 (:action join :parameters (?a ?b ?c ?d ?e) :precondition (and (linked ?a ?b) (linked ?b ?c) (linked ?c ?d) (linked ?d ?e))
  :effect (and (joined ?a ?e) (not (linked ?a ?b)))))""",
         b"(define (problem p) (:domain chains) (:objects " + b" ".join(b"o%d" % i for i in range(objects)) + b") (:init "
         + b" ".join(b"(linked o%d o%d)" % (i, i + 1) for i in range(objects - 1)) + b") (:goal (joined o0 o4)))",
+    )
+
+
+def snake(side):
+    """A snake on a square grid: its tail follows where it doesn't eat. Of the choices of a head, a square beside it and two parts
+    of the tail only those can be reached in which the squares are neighbours, which the tail's literal doesn't say at the start."""
+    name = lambda x, y: b"s%d-%d" % (x, y)
+    squares = [(x, y) for x in range(side) for y in range(side)]
+    links = lines(
+        b"(next %s %s)" % (name(x, y), name(x + dx, y + dy))
+        for x, y in squares for dx, dy in ((1, 0), (-1, 0), (0, 1), (0, -1)) if 0 <= x + dx < side and 0 <= y + dy < side
+    )
+    return (
+        b"""(define (domain snake) (:predicates (next ?a ?b) (head ?a) (tail ?a) (follows ?a ?b) (taken ?a) (apple ?a))
+(:action slide :parameters (?head ?to ?tail ?rest)
+ :precondition (and (head ?head) (next ?head ?to) (tail ?tail) (follows ?rest ?tail) (not (taken ?to)) (not (apple ?to)))
+ :effect (and (taken ?to) (head ?to) (follows ?to ?head) (not (head ?head)) (not (taken ?tail)) (not (tail ?tail)) (not (follows ?rest ?tail)) (tail ?rest)))
+(:action eat :parameters (?head ?to) :precondition (and (head ?head) (next ?head ?to) (not (taken ?to)) (apple ?to))
+ :effect (and (taken ?to) (head ?to) (follows ?to ?head) (not (head ?head)) (not (apple ?to)))))""",
+        b"(define (problem p) (:domain snake) (:objects " + b" ".join(name(x, y) for x, y in squares) + b") (:init "
+        + links + b" (head s0-1) (tail s0-0) (follows s0-1 s0-0) (taken s0-0) (taken s0-1) (apple s%d-%d)) (:goal (head s0-0)))" % (side - 1, side - 1),
+    )
+
+
+def cards(count):
+    """A stack of cards that is turned three at a time, and of which those that can be played are laid onto columns. What lies
+    behind what changes, so that no static literal narrows the four cards of a turn."""
+    stack = [b"c%d" % i for i in range(count)]
+    columns = [b"k%d" % i for i in range(4)]
+    return (
+        b"""(define (domain cards) (:predicates (behind ?a ?b) (playable ?a) (clear ?a) (fits ?a ?b) (on ?a ?b))
+(:action turn :parameters (?a ?b ?c ?d) :precondition (and (playable ?a) (behind ?b ?a) (behind ?c ?b) (behind ?d ?c))
+ :effect (and (playable ?d) (not (playable ?a))))
+(:action lay :parameters (?a ?to ?b ?c) :precondition (and (playable ?a) (clear ?to) (fits ?a ?to) (behind ?b ?a) (behind ?a ?c))
+ :effect (and (on ?a ?to) (clear ?a) (behind ?b ?c) (playable ?c) (not (clear ?to)) (not (playable ?a)) (not (behind ?b ?a)) (not (behind ?a ?c)))))""",
+        b"(define (problem p) (:domain cards) (:objects " + b" ".join(stack + columns) + b") (:init (playable c2) "
+        + b" ".join(b"(clear %s)" % column for column in columns) + b" "
+        + b" ".join(b"(behind %s %s)" % (back, front) for front, back in zip(stack, stack[1:])) + b" "
+        + b" ".join(b"(fits %s %s)" % (card, columns[i % 4]) for i, card in enumerate(stack) if i % 3) + b") (:goal (on c5 k1)))",
     )
 
 
