@@ -13,5 +13,6 @@ mod types;
 
 pub use adds::AddTable;
 pub use check::{check_candidate, check_with, repairs};
+pub use contradictions::{Candidate, Part};
 pub use extensions::one_predicate;
 pub use types::{AddPlace, Verdict};

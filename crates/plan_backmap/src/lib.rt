@@ -10,4 +10,5 @@ mod writing;
 pub use laws::{solutions_cost_the_total, worked_lines, worked_plans};
 pub use mapping::map_plan;
 pub use plan::MapEnd;
+pub use plan_lines::{Mapped, Step};
 pub use writing::mapped_text;
