@@ -271,7 +271,7 @@ fn cut_none<'n, 'a>(
     )
 }
 
-/// The same, where a new predicate has these arguments.
+/// The parts of a denied condition, for which a new predicate with these arguments stands.
 #[cycle(cut_wanted)]
 fn cut_denied<'n, 'a>(
     alloc: Global,

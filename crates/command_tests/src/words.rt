@@ -19,7 +19,7 @@ const PLAIN: Accepted<'static> = Accepted {
     passes: None,
 };
 
-/// The same with whole groups.
+/// What two files with whole groups ask for.
 const WHOLE: Accepted<'static> = Accepted {
     settings: Settings {
         max_candidates: 100_000,
@@ -143,7 +143,7 @@ static REFUSED_NUMBERS: [&str; 32] = refused_numbers! {
 /// A line that is accepted, and what it asks for.
 type Row = (&'static str, Accepted<'static>);
 
-/// The same for numbers that are accepted.
+/// Lines with numbers that are accepted, and what they ask for.
 macro_rules! accepted_numbers {
     (candidates $(($number:literal, $max_candidates:literal))* balls $(($digits:literal, $balls:literal))*) => {
         [

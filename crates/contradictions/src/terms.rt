@@ -23,7 +23,7 @@ pub fn is_same_place(x: &Place, y: &Place) -> bool
     }
 }
 
-/// The same place once more.
+/// A copy of the place.
 pub fn copy(place: &Place) -> Place
     ensures { result ≡ place.now }
 {

@@ -17,7 +17,7 @@ pub struct Candidate {
 }
 
 impl Candidate {
-    /// The same candidate once more.
+    /// A copy of the candidate.
     pub fn copy(&self, alloc: Global) -> Result<Candidate, AllocError>
         ensures { IfOk result (λ copy. copy ≡ self.now) }
     {
@@ -53,7 +53,7 @@ pub struct Part {
 }
 
 impl Part {
-    /// The same part once more.
+    /// A copy of the part.
     pub fn copy(&self, alloc: Global) -> Result<Part, AllocError>
         ensures { IfOk result (λ copy. copy ≡ self.now) }
     {
@@ -78,7 +78,7 @@ impl Hash for Part {
     }
 }
 
-/// The same parts once more.
+/// Copies of the parts.
 pub fn copies(alloc: Global, parts: &[Part]) -> Result<Vec<Part>, AllocError>
     ensures { IfOk result (λ copies. copies.items ≡ parts.now) }
 {

@@ -167,7 +167,7 @@ impl Marks {
         }
     }
 
-    /// The same marks.
+    /// A copy of the marks.
     pub(crate) fn copy(&self, alloc: Global) -> Result<Marks, AllocError>
         ensures { IfOk result (λ marks. marks ≡ self.now) }
     {

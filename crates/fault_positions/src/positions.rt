@@ -35,7 +35,7 @@ pub fn first_of<T, F: Fn(&T) -> Option<At>>(items: &[T], position_of: F) -> Opti
     first
 }
 
-/// The same, where an item's first position is found with memory.
+/// The first position of all items, where an item's own is found with memory.
 pub fn try_first_of<T, F: Fn(&T) -> Result<Option<At>, AllocError>>(
     items: &[T],
     position_of: F,

@@ -135,7 +135,7 @@ fn push_choices(
     Ok(())
 }
 
-/// The same for a cause without what each choice has. Nothing is looked for where there is no rival.
+/// Adds the effects of a cause without what each choice has. Nothing is looked for where there is no rival.
 fn push_caused(
     alloc: Global,
     out: &mut Vec<Effect>,

@@ -27,14 +27,14 @@ InvariantsAreSound =
     (task : Normal) (candidate : Candidate) → IsLawful task → is_basic task candidate ≡ true → is_accepted task candidate ≡ true →
     (instance : List ℕ) → IsAtMostOne (initial task) candidate instance → (state : State) → IsReachable (normal_task task) state → IsAtMostOne state candidate instance
 
--- The same by weights.
+-- An instance of an accepted candidate keeps a weight of at most one, said by weights alone.
 abbrev pub WeightsStayAtMostOne : Type 0
 WeightsStayAtMostOne =
     (task : Normal) (candidate : Candidate) → IsLawful task → is_basic task candidate ≡ true → is_accepted task candidate ≡ true →
     (instance : List ℕ) (weight : ℕ) → HasWeight (initial task) candidate instance weight → weight ≤ 1 →
     (state : State) → IsReachable (normal_task task) state → (later : ℕ) → HasWeight state candidate instance later → later ≤ 1
 
--- The same in every reachable state of the files.
+-- An instance of an accepted candidate keeps a weight of at most one in every reachable state of the files.
 abbrev pub InvariantsAreSoundInFiles : Type 0
 InvariantsAreSoundInFiles =
     (domain : Domain) (problem : Problem) → IsWellSpelled domain → IsWellSpelledProblem problem → check_faults domain problem ≡ [] → (candidate : Candidate) →

@@ -205,7 +205,7 @@ fn are_light(
     are_light_by_classes(alloc, candidate, schema, one, other)
 }
 
-/// The same, where the classes of terms are looked at.
+/// Whether the two adds are light together, by the classes of terms.
 fn are_light_by_classes(
     alloc: Global,
     candidate: &Candidate,

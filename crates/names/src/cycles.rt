@@ -33,7 +33,7 @@ fn closing(alloc: Global, pairs: &[Ends]) -> Result<Vec<bool>, AllocError>
     closing_among(alloc, &names, pairs)
 }
 
-/// The same by searches among these names.
+/// Whether a chain closes each link, by searches among these names.
 fn closing_among(alloc: Global, names: &Names, pairs: &[Ends]) -> Result<Vec<bool>, AllocError>
     ensures { IfOk result (λ answers. answers.items ≡ map (closes (links_of pairs.now)) (links_of pairs.now)) }
 {
@@ -46,7 +46,7 @@ fn closing_among(alloc: Global, names: &Names, pairs: &[Ends]) -> Result<Vec<boo
     }
 }
 
-/// The same by the definition. It is slow, and is there for searches that aren't right, which there should be none of.
+/// Whether a chain closes each link, by the definition. It is slow, and is there for searches that aren't right, which there should be none of.
 fn closing_by_definition(alloc: Global, pairs: &[Ends]) -> Result<Vec<bool>, AllocError>
     ensures { IfOk result (λ answers. answers.items ≡ map (closes (links_of pairs.now)) (links_of pairs.now)) }
 {

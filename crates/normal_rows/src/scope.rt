@@ -45,7 +45,7 @@ impl<'n, 'a> Scope<'n, 'a> {
         }
     }
 
-    /// The same scope.
+    /// A copy of the scope.
     fn copy(&self, alloc: Global) -> Result<Scope<'n, 'a>, AllocError>
         ensures { IfOk result (λ copy. copy ≡ self.now) }
     {

@@ -57,7 +57,7 @@ impl<'n, 'a> Variable<'n, 'a> {
         }
     }
 
-    /// The same variable.
+    /// A copy of the variable.
     pub fn copy(&self) -> Variable<'n, 'a>
         ensures { result ≡ self.now }
     {

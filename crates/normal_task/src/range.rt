@@ -30,7 +30,7 @@ impl ObjectRange {
         })
     }
 
-    /// The same range, with the same list.
+    /// The range once more, over one list that both share.
     pub fn share(&self) -> Result<ObjectRange, AllocError>
         ensures { IfOk result (λ range. range ≡ self.now) }
     {

@@ -50,7 +50,7 @@ fn wanted(alloc: Global, table: &Table, task: &SasTask, var: u64) -> Result<List
     Ok(List::from_vec(values))
 }
 
-/// The same of each variable.
+/// Of each variable, the values that are possible or in the goal.
 fn wanted_of_each(
     alloc: Global,
     table: &Table,
@@ -112,7 +112,7 @@ fn with_marked_alone(
     restrict(alloc, once, &shown, marks.as_slice(), task)
 }
 
-/// The same, with a table of its own.
+/// The plain task with what is possible alone, by a table of its own.
 fn with_possible_alone(alloc: Global, task: &SasTask) -> Result<SasTask, AllocError>
     requires { possible.is_plain task.now ≡ true }
     ensures { IfOk result (HasPossibleAlone task.now) }

@@ -101,7 +101,7 @@ fn add_beside(
     Ok(())
 }
 
-/// The same with each of some facts.
+/// Adds the pairs with each of some facts.
 fn add_all_beside(
     alloc: Global,
     table: &mut Table,

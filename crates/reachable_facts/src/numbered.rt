@@ -30,7 +30,7 @@ pub(crate) fn numbers(
     Ok(List::from_vec(numbers))
 }
 
-/// The same where all the atoms are facts.
+/// The atoms' numbers, if all of them are facts.
 fn all_numbers(
     alloc: Global,
     facts: &Atoms,

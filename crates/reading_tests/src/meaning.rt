@@ -165,7 +165,7 @@ fn are_given(
     Ok(true)
 }
 
-/// The same of the initial state of the problem.
+/// Whether the axioms give just these derived atoms in the initial state of the problem.
 fn are_given_at_first(
     alloc: Global,
     domain: &Domain,

@@ -181,7 +181,7 @@ pub fn into_restriction(
     Ok(beside.with(operators))
 }
 
-/// The same of a task that stays, of which a copy is restricted.
+/// What is left of a copy of the task, which stays.
 pub fn restrict(
     alloc: Global,
     once: Once,

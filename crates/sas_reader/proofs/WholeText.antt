@@ -223,7 +223,7 @@ parts_are : (bytes : List ℕ) (a0 a1 a2 a3 a4 a5 a6 a7 a8 : Unread) (m : Bool) 
 unfolding task
 parts_are bytes a0 a1 a2 a3 a4 a5 a6 a7 a8 m vs gs st g os rs e0 e1 e2 e3 e4 e5 e6 e7 e8 = rw (e0, e1, e2, e3, e4, e5, e6, e7, e8) refl
 
--- The same, as the code reads them: the readers at the beginnings of the sections, and the slices of the variables and of the state, are other words for these.
+-- A whole text by its parts, as the code reads them: the readers at the beginnings of the sections, and the slices of the variables and of the state, are other words for these.
 pub parts_read : (bytes : List ℕ) (n0 n1 n2 n3 n4 n5 n6 n7 n8 a0 a1 a2 a3 a4 a5 a6 a7 a8 : Unread) (v3 v4 v5 v6 v7 vs : List Variable) (s7 st : List ℕ)
     (m : Bool) (gs : List Group) (g : List Pair) (os : List Operator) (rs : List Rule)
     → n0 ≡ unread bytes → n1 ≡ in_section places.Metric a0 → n2 ≡ in_section places.Variables a1 → n3 ≡ in_section places.Groups a2 → n4 ≡ in_section places.State a3

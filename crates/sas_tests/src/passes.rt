@@ -86,7 +86,7 @@ const GROUND: &str = task! {
     rules 0
 };
 
-/// The same in order: no operator changes that nobody has wings.
+/// The task above in order: no operator changes that nobody has wings.
 const ORDERED_GROUND: &str = task! {
     metric 0
     variables 2
@@ -101,7 +101,7 @@ const ORDERED_GROUND: &str = task! {
     rules 0
 };
 
-/// The same without wings, of which no operator that is left asks.
+/// The task above without wings, of which no operator that is left asks.
 const WALK: &str = task! {
     metric 0
     variables 1

@@ -50,7 +50,7 @@ pub(crate) const LAMP: &str = task! {
     rules 0
 };
 
-/// The same with one variable for each fact.
+/// The lamp with one variable for each fact.
 pub(crate) const SWITCH: &str = task! {
     metric 0
     variables 2

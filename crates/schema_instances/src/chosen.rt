@@ -90,7 +90,7 @@ fn candidates_of<'a>(
     Ok(candidates)
 }
 
-/// The same of all schemas that range over rising lists.
+/// The candidates of all schemas, which range over rising lists.
 pub(crate) fn all_candidates<'a>(
     alloc: Global,
     tables: &Tables<'a>,

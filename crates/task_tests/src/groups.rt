@@ -160,7 +160,7 @@ static ROWS: [Row<Groups>; 6] = [
     ),
     // Accepted is what q counts. It is a alone at the start, and b can get it.
     (BACK, TWO, Groups(&[&["q(a)", "q(b)"]], None)),
-    // The same with a and b at the start: the instance weighs two.
+    // With a and b at the start the instance weighs two.
     (BACK, BOTH, Groups(&[], None)),
     // Accepted are the room; for each ball its room or gripper; and for each gripper that it is free, or its ball. Instances
     // for a room or a gripper as the ball, or a room or a ball as the gripper, weigh nothing.

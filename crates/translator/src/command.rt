@@ -109,7 +109,7 @@ pub fn translate<F: Files, C: Console>(
     called(alloc, &words, files, console, book)
 }
 
-/// The same, by how the work ended, what was printed and which name was asked for: every other clause of the call follows from that.
+/// Translates. How the work ended, what was printed and which name was asked for is one clause, and every other clause of the call follows from it.
 fn called<F: Files, C: Console>(
     alloc: Global,
     words: &Vec<String>,

@@ -35,7 +35,7 @@ pub fn translate_by_every_pass<F: Files, C: Console>(
     }
 }
 
-/// The same, if there is memory for the book.
+/// Translates with a book of every pass, if there is memory for the book.
 fn with_every_pass<F: Files, C: Console>(
     alloc: Global,
     words: Vec<String>,

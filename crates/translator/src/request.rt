@@ -38,7 +38,7 @@ pub(crate) fn requested<'a>(
     }
 }
 
-/// The same, for accepted words.
+/// What accepted words ask for, with the passes that they name.
 fn with_passes<'a>(
     alloc: Global,
     accepted: Accepted<'a>,

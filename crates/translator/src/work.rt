@@ -105,7 +105,7 @@ fn to_be_written<'a, F: Files>(
     })
 }
 
-/// The same, with what the passes of these kinds make of the task, one after another.
+/// The invariants, and what the passes of these kinds make of the task, one after another.
 fn passed(alloc: Global, made: Made, kinds: &[PassKind], book: &Book) -> Result<Made, AllocError>
     requires { first_missing (held_kinds book.now) kinds.now ≡ None }
     ensures found { IfOk result (λ new. new.found ≡ made.found) }

@@ -83,7 +83,7 @@ impl Outside {
         }
     }
 
-    /// The same, where the pass of the order always wants memory, and there is no other.
+    /// How the call ends by a book whose only pass, that of the order, always wants memory.
     fn answer_in_want(&mut self, alloc: Global, words: &str) -> Result<Status, AllocError> {
         let kind = PassKind::Order;
         let run = Box::new(alloc, |_: Global, _: &SasTask| Err(AllocError))?;
@@ -94,14 +94,14 @@ impl Outside {
         self.answer_by_last(alloc, words, book)
     }
 
-    /// The same, with a book of every pass.
+    /// How the call ends by a book of every pass.
     fn answer_by_all(&mut self, alloc: Global, words: &str) -> Result<Status, AllocError> {
         let words = words_of(alloc, words)?;
         let files = &mut self.files;
         Ok(translate_by_every_pass(alloc, words, files, &mut self.console))
     }
 
-    /// The same, with this book, which goes.
+    /// How the call ends by this book, which goes.
     fn answer_by_last(
         &mut self,
         alloc: Global,
