@@ -35,7 +35,7 @@ const WRITTEN: Accepted<'static> = Accepted {
 };
 
 /// Lines that are refused.
-static REFUSED: [&str; 70] = [
+static REFUSED: &[&str] = &[
     // No word at all.
     "",
     "translate",
@@ -125,7 +125,7 @@ static REFUSED: [&str; 70] = [
 /// Two lines for each number: one in which it is a word of its own, and one in which it ends the word of its option.
 macro_rules! refused_numbers {
     (candidates $($number:literal)* balls $($balls:literal)*) => {
-        [
+        &[
             $(concat!("translate d p --invariant-generation-max-candidates ", $number),)*
             $(concat!("translate d p --invariant-generation-max-candidates=", $number),)*
             $(concat!("translate --make ", $balls),)*
@@ -135,7 +135,7 @@ macro_rules! refused_numbers {
 }
 
 /// Lines with numbers that are refused.
-static REFUSED_NUMBERS: [&str; 32] = refused_numbers! {
+static REFUSED_NUMBERS: &[&str] = refused_numbers! {
     candidates "2147483648" "4294967296" "18446744073709551616" "-1" "+5" "0x5" "1_000"
     balls "0" "00" "201" "4x" "-1" "+4" "4.0" "4294967297" "18446744073709551617"
 };
@@ -146,7 +146,7 @@ type Row = (&'static str, Accepted<'static>);
 /// Lines with numbers that are accepted, and what they ask for.
 macro_rules! accepted_numbers {
     (candidates $(($number:literal, $max_candidates:literal))* balls $(($digits:literal, $balls:literal))*) => {
-        [
+        &[
             $((concat!("translate d p --invariant-generation-max-candidates ", $number), Accepted { settings: Settings { max_candidates: $max_candidates, full_encoding: false }, ..PLAIN }),)*
             $((concat!("translate d p --invariant-generation-max-candidates=", $number), Accepted { settings: Settings { max_candidates: $max_candidates, full_encoding: false }, ..PLAIN }),)*
             $((concat!("translate --make ", $digits), Accepted { source: Source::Made { balls: $balls }, ..PLAIN }),)*
@@ -155,7 +155,7 @@ macro_rules! accepted_numbers {
     };
 }
 
-static ACCEPTED_NUMBERS: [Row; 16] = accepted_numbers! {
+static ACCEPTED_NUMBERS: &[Row] = accepted_numbers! {
     candidates ("0", 0) ("007", 7) ("2147483647", 2_147_483_647) ("00000000000000000000009", 9)
     balls ("1", 1) ("4", 4) ("0004", 4) ("200", 200)
 };
@@ -163,11 +163,11 @@ static ACCEPTED_NUMBERS: [Row; 16] = accepted_numbers! {
 /// Lines with the names of the domain, the problem and the output that they ask for.
 macro_rules! accepted_files {
     ($(($line:literal, $domain:literal, $problem:literal, $output:literal),)*) => {
-        [$(($line, Accepted { source: Source::Files { domain: $domain, problem: $problem }, output: $output, ..PLAIN }),)*]
+        &[$(($line, Accepted { source: Source::Files { domain: $domain, problem: $problem }, output: $output, ..PLAIN }),)*]
     };
 }
 
-static ACCEPTED: [Row; 20] = accepted_files! {
+static ACCEPTED: &[Row] = accepted_files! {
     ("translate d p", "d", "p", "output.sas"),
     ("'' d p", "d", "p", "output.sas"),
     ("--help d p", "d", "p", "output.sas"),
@@ -194,12 +194,12 @@ static ACCEPTED: [Row; 20] = accepted_files! {
 /// Lines with what they ask for: what a name stands for, but for the parts that are said.
 macro_rules! accepted {
     ($(($line:literal, $asked:ident $(, $part:ident: $value:expr)*),)*) => {
-        [$(($line, Accepted { $($part: $value,)* ..$asked }),)*]
+        &[$(($line, Accepted { $($part: $value,)* ..$asked }),)*]
     };
 }
 
 /// Lines with a plan file or a list of passes, with the name of the file and the list as it is written.
-static ACCEPTED_NAMED: [Row; 12] = accepted! {
+static ACCEPTED_NAMED: &[Row] = accepted! {
     ("translate d p --map-plan f", PLAIN, plan: Some("f")),
     ("translate --map-plan f d p", PLAIN, plan: Some("f")),
     ("translate d --map-plan=f p", PLAIN, plan: Some("f")),
@@ -215,7 +215,7 @@ static ACCEPTED_NAMED: [Row; 12] = accepted! {
 };
 
 /// Lines that ask for whole groups, one with a number of balls and a plan file, and lines with a written task.
-static ACCEPTED_WHOLE_OR_WRITTEN: [Row; 15] = accepted! {
+static ACCEPTED_WHOLE_OR_WRITTEN: &[Row] = accepted! {
     ("translate d p --full-encoding", WHOLE),
     ("translate --full-encoding d p", WHOLE),
     ("translate --full-encoding -- d p", WHOLE),
@@ -235,16 +235,16 @@ static ACCEPTED_WHOLE_OR_WRITTEN: [Row; 15] = accepted! {
 
 #[test]
 fn refuses(rt: HostRuntime) {
-    assert_refused(&rt, rt.alloc(), &REFUSED);
-    assert_refused(&rt, rt.alloc(), &REFUSED_NUMBERS);
+    assert_refused(&rt, rt.alloc(), REFUSED);
+    assert_refused(&rt, rt.alloc(), REFUSED_NUMBERS);
 }
 
 #[test]
 fn accepts(rt: HostRuntime) {
-    assert_accepted(&rt, rt.alloc(), &ACCEPTED);
-    assert_accepted(&rt, rt.alloc(), &ACCEPTED_NUMBERS);
-    assert_accepted(&rt, rt.alloc(), &ACCEPTED_NAMED);
-    assert_accepted(&rt, rt.alloc(), &ACCEPTED_WHOLE_OR_WRITTEN);
+    assert_accepted(&rt, rt.alloc(), ACCEPTED);
+    assert_accepted(&rt, rt.alloc(), ACCEPTED_NUMBERS);
+    assert_accepted(&rt, rt.alloc(), ACCEPTED_NAMED);
+    assert_accepted(&rt, rt.alloc(), ACCEPTED_WHOLE_OR_WRITTEN);
 }
 
 fn assert_refused(rt: &impl Abort, alloc: Global, lines: &[&str]) {

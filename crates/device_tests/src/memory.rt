@@ -14,7 +14,7 @@ fn is_absent(files: &MemFiles, name: &str) -> bool {
 }
 
 // The second that is added under a name replaces the first.
-static ADDED: [(&str, &[u8]); 4] = [
+static ADDED: &[(&str, &[u8])] = &[
     ("first", b"abcde"),
     ("second", b""),
     ("first", b"vwxyz"),
@@ -22,7 +22,7 @@ static ADDED: [(&str, &[u8]); 4] = [
 ];
 
 fn add_three(files: &mut MemFiles) -> Result<(), AllocError> {
-    for (name, bytes) in &ADDED {
+    for (name, bytes) in ADDED {
         files.add(name, bytes)?;
     }
     Ok(())
@@ -34,7 +34,7 @@ fn three_files(alloc: Global) -> Result<MemFiles, AllocError> {
     Ok(files)
 }
 
-static READINGS: [Reading<'static>; 4] = [
+static READINGS: &[Reading<'static>] = &[
     ("first", 5, Ok(b"vwxyz")),
     ("second", 0, Ok(b"")),
     ("first", 4, Err(ReadEnd::TooLong)),
@@ -42,7 +42,7 @@ static READINGS: [Reading<'static>; 4] = [
 ];
 
 fn are_read(alloc: Global, files: &mut MemFiles) -> bool {
-    are_found(alloc, files, &READINGS) && holds(files, "second", b"") && is_absent(files, "third")
+    are_found(alloc, files, READINGS) && holds(files, "second", b"") && is_absent(files, "third")
 }
 
 fn is_created(files: &mut MemFiles, name: &str) -> bool
@@ -105,7 +105,7 @@ fn are_read_and_written(alloc: Global, most: u64) -> bool
 // `read`, and the writing one `create_file` and two `write`.
 type FailingCall = (FileCall, u64, [bool; 2], &'static [u8]);
 
-static FAILING_CALLS: [FailingCall; 14] = [
+static FAILING_CALLS: &[FailingCall] = &[
     (FileCall::OpenFile, 0, [true, true], b"abcde"),
     (FileCall::OpenFile, 1, [false, true], b"abcde"),
     (FileCall::OpenFile, 2, [true, false], b"abcde"),
@@ -179,7 +179,7 @@ fn are_printed(console: &mut MemConsole, printings: &[Printing]) -> bool {
 }
 
 // There is room for five bytes.
-static FILLING: [Printing; 3] = [
+static FILLING: &[Printing] = &[
     (true, b"abc", true, b"abc"),
     (true, b"def", false, b"abcde"),
     (true, b"", true, b"abcde"),
@@ -189,7 +189,7 @@ static FILLING: [Printing; 3] = [
 fn is_filled_console(console: &mut MemConsole) -> bool {
     is_printed(console, &(false, b"x", false, b""))
         && console.room(5).is_ok()
-        && are_printed(console, &FILLING)
+        && are_printed(console, FILLING)
 }
 
 /// Whether a console keeps what is printed, where a call takes so many bytes.
@@ -212,7 +212,7 @@ fn files_and_a_console_in_memory_keep_what_they_have_room_for(rt: HostRuntime) {
 }
 
 // The second and the fourth call fail, and each takes three bytes at most.
-static FAILING_TWICE: [Printing; 4] = [
+static FAILING_TWICE: &[Printing] = &[
     (true, b"abcdef", false, b"abc"),
     (false, b"gh", true, b"abcgh"),
     (false, b"", false, b"abcgh"),
@@ -223,7 +223,7 @@ fn fails_twice(console: &mut MemConsole) -> bool {
     console.room(100).is_ok()
         && console.fail(4).is_ok()
         && console.fail(2).is_ok()
-        && are_printed(console, &FAILING_TWICE)
+        && are_printed(console, FAILING_TWICE)
 }
 
 fn are_listed_prints_failing(alloc: Global) -> bool {

@@ -48,13 +48,13 @@ fn holds(rt: &HostRuntime, name: &str, bytes: &[u8]) -> bool {
 /// Whether both files are read, one of them in part, and then nothing of a name that no file has.
 fn are_read(rt: &HostRuntime, bytes: &[u8]) -> bool {
     let mut files = RealFiles::new(rt);
-    let readings: [Reading<'_>; 4] = [
+    let readings: &[Reading<'_>] = &[
         (WRITTEN, 300_000, Ok(bytes)),
         (BESIDE, 6, Ok(b"beside")),
         (BESIDE, 5, Err(ReadEnd::TooLong)),
         (ABSENT, 10, Err(ReadEnd::Failed)),
     ];
-    are_found(rt.alloc(), &mut files, &readings)
+    are_found(rt.alloc(), &mut files, readings)
 }
 
 fn is_replaced(rt: &HostRuntime, bytes: &[u8]) -> bool {

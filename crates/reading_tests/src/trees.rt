@@ -13,7 +13,7 @@ fn has_fault(alloc: Global, text: &[u8], kind: Kind, line: u64, column: u64) -> 
     }
 }
 
-static FIRST_FAULTS: [(&[u8], Kind, u64, u64); 22] = [
+static FIRST_FAULTS: &[(&[u8], Kind, u64, u64)] = &[
     (b"(a\n\x7f)", Kind::BadByte, 2, 1),
     (b"(\t\r\n\x01)", Kind::BadByte, 2, 1),
     (b"(a\nb\xc3\xa9)", Kind::BadByte, 2, 2),
@@ -45,7 +45,7 @@ static FIRST_FAULTS: [(&[u8], Kind, u64, u64); 22] = [
 
 #[test]
 fn first_faults_with_their_positions(rt: HostRuntime) {
-    for row in &FIRST_FAULTS {
+    for row in FIRST_FAULTS {
         let (text, kind, line, column) = *row;
         assert!(rt; has_fault(rt.alloc(), text, kind, line, column), "{text:?}");
     }
@@ -66,7 +66,7 @@ fn a_hundred_lists_may_be_open(rt: HostRuntime) {
 /// A node: whether it is a list, its line and column, its bytes, its first member, the next member.
 type Node = (bool, u64, u64, &'static str, Option<u64>, Option<u64>);
 
-static NODES: [Node; 8] = [
+static NODES: &[Node] = &[
     (true, 2, 1, "", Some(1), None),
     (false, 2, 2, "define", None, Some(2)),
     (true, 3, 1, "", Some(3), Some(6)),
@@ -90,7 +90,7 @@ fn is_node(tree: &Tree<'_>, node: u64, row: &Node) -> bool {
 
 /// Asserts that the tree has these nodes.
 fn assert_nodes(rt: &impl Abort, tree: &Tree<'_>) {
-    assert!(rt; tree.len() == 8);
+    assert!(rt; tree.len() == NODES.len() as u64);
     for (place, row) in NODES.iter().enumerate() {
         assert!(rt; is_node(tree, place as u64, row), "{place}");
     }
@@ -105,7 +105,7 @@ fn nodes_of_a_tree(rt: HostRuntime) {
     }
 }
 
-static NUMBERS_AND_TEXTS: [(Kind, u8, &str); 41] = [
+static NUMBERS_AND_TEXTS: &[(Kind, u8, &str)] = &[
     (Kind::TooLong, 1, "file too long"),
     (Kind::BadByte, 2, "byte not allowed"),
     (Kind::StrayClose, 3, "closing parenthesis without opening"),
@@ -163,7 +163,7 @@ static NUMBERS_AND_TEXTS: [(Kind, u8, &str); 41] = [
 
 #[test]
 fn numbers_and_texts_of_all_kinds(rt: HostRuntime) {
-    for row in &NUMBERS_AND_TEXTS {
+    for row in NUMBERS_AND_TEXTS {
         let (kind, number, text) = *row;
         assert!(rt; kind.number() == number && kind.text() == text, "{text}");
     }

@@ -6,7 +6,7 @@ use sas_reader::SasPlace;
 use std::alloc::AllocError;
 use std::test::*;
 
-static REFUSED: [Refused; 7] = [
+static REFUSED: &[Refused] = &[
     (19, b"0 2", 19, SasPlace::Groups),
     (22, b"01", 22, SasPlace::State),
     (33, b"0 0 1", 33, SasPlace::Operators),
@@ -29,7 +29,7 @@ var0
 -1
 ";
 
-static PLACE_TEXTS: [(SasPlace, &str); 9] = [
+static PLACE_TEXTS: &[(SasPlace, &str)] = &[
     (SasPlace::Version, "malformed version"),
     (SasPlace::Metric, "malformed metric"),
     (SasPlace::Variables, "malformed variable"),
@@ -51,7 +51,7 @@ fn the_lamp_is_read(rt: HostRuntime) -> Result<(), AllocError> {
 
 #[test]
 fn the_first_line_at_fault_is_told(rt: HostRuntime) -> Result<(), AllocError> {
-    assert_refused(&rt, rt.alloc(), LAMP.as_bytes(), &REFUSED);
+    assert_refused(&rt, rt.alloc(), LAMP.as_bytes(), REFUSED);
     assert!(rt;
         is_refused(rt.alloc(), b"", 1, SasPlace::Version)
             && is_refused(rt.alloc(), FEW_LINES, 11, SasPlace::Variables)
@@ -62,7 +62,7 @@ fn the_first_line_at_fault_is_told(rt: HostRuntime) -> Result<(), AllocError> {
 
 #[test]
 fn each_section_has_its_text(rt: HostRuntime) {
-    for row in &PLACE_TEXTS {
+    for row in PLACE_TEXTS {
         let (place, text) = *row;
         assert!(rt; place.text() == text, "{text}");
     }

@@ -98,7 +98,7 @@ end_rule
 ";
 
 // Lines of fixed words, which are exactly those.
-static FIXED_WORDS: [Refused; 20] = [
+static FIXED_WORDS: &[Refused] = &[
     (1, b"begin_versions", 1, SasPlace::Version),
     (1, b"begin_version\r", 1, SasPlace::Version),
     (1, b"", 1, SasPlace::Version),
@@ -123,7 +123,7 @@ static FIXED_WORDS: [Refused; 20] = [
 
 // The metric, which is 0 or 1, and counts, which are numbers below 2^64, at least 2 for the facts of a group. A count that is
 // another number moves the fault to the line that it makes wrong.
-static COUNTS: [Refused; 37] = [
+static COUNTS: &[Refused] = &[
     (5, b"2", 5, SasPlace::Metric),
     (5, b"01", 5, SasPlace::Metric),
     (5, b"", 5, SasPlace::Metric),
@@ -164,7 +164,7 @@ static COUNTS: [Refused; 37] = [
 ];
 
 // A variable's name has its own number, its layer is -1 or a number, its range is at least 1, and its facts have names.
-static VARIABLES: [Refused; 20] = [
+static VARIABLES: &[Refused] = &[
     (9, b"var1", 9, SasPlace::Variables),
     (9, b"var00", 9, SasPlace::Variables),
     (9, b"var", 9, SasPlace::Variables),
@@ -189,7 +189,7 @@ static VARIABLES: [Refused; 20] = [
 
 // Pairs name a variable and a value of it. Those of a group rise by variable and value, those of conditions by variable. A
 // value of the state is one of its variable.
-static PAIRS: [Refused; 35] = [
+static PAIRS: &[Refused] = &[
     (42, b"0 0", 42, SasPlace::Groups),
     (43, b"0 1", 43, SasPlace::Groups),
     (43, b"0 0", 43, SasPlace::Groups),
@@ -228,7 +228,7 @@ static PAIRS: [Refused; 35] = [
 ];
 
 // An operator's name, its effect lines and its cost.
-static OPERATORS: [Refused; 34] = [
+static OPERATORS: &[Refused] = &[
     (58, b"", 58, SasPlace::Operators),
     (58, b" ", 58, SasPlace::Operators),
     (58, b" go a b", 58, SasPlace::Operators),
@@ -271,7 +271,7 @@ static OPERATORS: [Refused; 34] = [
 ];
 
 // The line that says what a rule changes.
-static RULES: [Refused; 19] = [
+static RULES: &[Refused] = &[
     (78, b"1 1 0", 78, SasPlace::Rules),
     (32, b"-1", 83, SasPlace::Rules),
     (78, b"4 1 0", 78, SasPlace::Rules),
@@ -294,7 +294,7 @@ static RULES: [Refused; 19] = [
 ];
 
 // What stands after the last rule, a further empty line too.
-static ENDS: [Refused; 4] = [
+static ENDS: &[Refused] = &[
     (90, b"x", 90, SasPlace::End),
     (90, b"\n", 90, SasPlace::End),
     (90, b"x\n", 90, SasPlace::End),
@@ -302,7 +302,7 @@ static ENDS: [Refused; 4] = [
 ];
 
 // Lines that may stand in place of those of the house.
-static ACCEPTED: [(usize, &[u8]); 29] = [
+static ACCEPTED: &[(usize, &[u8])] = &[
     // The house itself.
     (1, b"begin_version"),
     (10, b"-1"),
@@ -336,7 +336,7 @@ static ACCEPTED: [(usize, &[u8]); 29] = [
 ];
 
 // How many lines stand before each line of a section: the range of these numbers.
-static SECTIONS: [(u64, u64, SasPlace); 8] = [
+static SECTIONS: &[(u64, u64, SasPlace)] = &[
     (0, 3, SasPlace::Version),
     (3, 6, SasPlace::Metric),
     (6, 37, SasPlace::Variables),
@@ -349,14 +349,14 @@ static SECTIONS: [(u64, u64, SasPlace); 8] = [
 
 #[test]
 fn lines_that_break_their_rules_are_refused(rt: HostRuntime) {
-    let tables: [&[Refused]; 7] = [
-        &FIXED_WORDS,
-        &COUNTS,
-        &VARIABLES,
-        &PAIRS,
-        &OPERATORS,
-        &RULES,
-        &ENDS,
+    let tables = [
+        FIXED_WORDS,
+        COUNTS,
+        VARIABLES,
+        PAIRS,
+        OPERATORS,
+        RULES,
+        ENDS,
     ];
     for rows in tables {
         assert_refused(&rt, rt.alloc(), HOUSE, rows);
@@ -371,7 +371,7 @@ fn is_accepted(alloc: Global, line: usize, other: &[u8]) -> Result<bool, AllocEr
 
 #[test]
 fn other_lines_that_meet_their_rules_are_read(rt: HostRuntime) {
-    for row in &ACCEPTED {
+    for row in ACCEPTED {
         let answer = is_accepted(rt.alloc(), row.0, row.1);
         assert!(rt; matches!(answer, Ok(true)), "{} {:?}", row.0, row.1);
     }
@@ -387,7 +387,7 @@ fn assert_cuts(rt: &impl Abort, alloc: Global, section: (u64, u64, SasPlace)) {
 
 #[test]
 fn a_text_that_ends_early_lacks_its_next_line(rt: HostRuntime) {
-    for section in &SECTIONS {
+    for section in SECTIONS {
         assert_cuts(&rt, rt.alloc(), *section);
     }
 }

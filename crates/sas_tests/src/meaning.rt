@@ -20,7 +20,7 @@ enum Asked {
 }
 
 /// Effects are read in the old state.
-static ASKED: [([u64; 4], Asked); 11] = [
+static ASKED: &[([u64; 4], Asked)] = &[
     ([1, 0, 1, 1], Asked::Values([1, 0, 0, 0])),
     ([1, 1, 1, 1], Asked::Values([1, 1, 1, 1])),
     ([0, 0, 0, 0], Asked::Values([0, 0, 1, 1])),

@@ -115,14 +115,14 @@ const WALK: &str = task! {
     rules 0
 };
 
-static COPIED: [(&str, &str); 3] = [(SWITCH, SWITCH), (ROOM, ROOM), (LAMP, LAMP)];
+static COPIED: &[(&str, &str)] = &[(SWITCH, SWITCH), (ROOM, ROOM), (LAMP, LAMP)];
 
-static ORDERED: [(&str, &str); 1] = [(ROOM, REORDERED)];
+static ORDERED: &[(&str, &str)] = &[(ROOM, REORDERED)];
 
 #[test]
 fn copies_have_the_same_text_and_variables_are_ordered(rt: HostRuntime) {
-    assert_made(&rt, rt.alloc(), Making::Copying, &COPIED);
-    assert_made(&rt, rt.alloc(), Making::OrderingVariables, &ORDERED);
+    assert_made(&rt, rt.alloc(), Making::Copying, COPIED);
+    assert_made(&rt, rt.alloc(), Making::OrderingVariables, ORDERED);
 }
 
 /// Kinds of passes, the text of the task to which a book applies them, and that of what they make, or why they make none.
@@ -132,21 +132,21 @@ type Row = (
     Result<&'static str, ApplyEnd>,
 );
 
-static EMPTY_BOOK: [Row; 1] = [(&[Order], ROOM, Err(ApplyEnd::NotInBook(Order)))];
+static EMPTY_BOOK: &[Row] = &[(&[Order], ROOM, Err(ApplyEnd::NotInBook(Order)))];
 
-static BOOK_OF_ORDER: [Row; 2] = [
+static BOOK_OF_ORDER: &[Row] = &[
     (&[Order], ROOM, Ok(REORDERED)),
     (&[Order, Order], ROOM, Ok(REORDERED)),
 ];
 
 // The pass finds no memory.
-static STARVED_BOOK: [Row; 2] = [
+static STARVED_BOOK: &[Row] = &[
     (&[Order], ROOM, Err(ApplyEnd::NoMemory)),
     (&[], ROOM, Ok(ROOM)),
 ];
 
 // Wings are of no account only once nobody flies. A kind may be repeated.
-static BOOK_OF_EVERY_PASS: [Row; 8] = [
+static BOOK_OF_EVERY_PASS: &[Row] = &[
     (&[Relevance, Order], GATE, Ok(ORDERED_BEHIND)),
     (&[Order, Relevance], GATE, Ok(ORDERED_BEFORE)),
     (
@@ -179,7 +179,7 @@ fn are_applied(alloc: Global, book: &Book, has_order: bool, rows: &[Row]) -> boo
 /// Whether an empty book has no pass.
 fn is_empty(alloc: Global) -> bool {
     let book = Book::new(alloc);
-    are_applied(alloc, &book, false, &EMPTY_BOOK)
+    are_applied(alloc, &book, false, EMPTY_BOOK)
 }
 
 // Boxes are made before the book, since each end of a function that owns a book costs its proof some seconds.
@@ -194,12 +194,12 @@ fn is_taken_once(alloc: Global) -> Result<bool, AllocError> {
     let kind = Order;
     let mut book = Book::new(alloc);
     let is_added = book.add(Pass { kind, run }).is_ok();
-    let is_applied = are_applied(alloc, &book, true, &BOOK_OF_ORDER);
+    let is_applied = are_applied(alloc, &book, true, BOOK_OF_ORDER);
     let is_taken = matches!(
         book.add(Pass { kind, run: other }),
         Err((_, AddEnd::KindTaken))
     );
-    let is_kept = are_applied(alloc, &book, true, &BOOK_OF_ORDER);
+    let is_kept = are_applied(alloc, &book, true, BOOK_OF_ORDER);
     Ok(is_added && is_applied && is_taken && is_kept)
 }
 
@@ -208,7 +208,7 @@ fn is_starved(alloc: Global) -> Result<bool, AllocError> {
     let run = Box::new(alloc, |_: Global, _: &SasTask| Err(AllocError))?;
     let mut book = Book::new(alloc);
     let is_added = book.add(Pass { kind: Order, run }).is_ok();
-    let is_applied = are_applied(alloc, &book, true, &STARVED_BOOK);
+    let is_applied = are_applied(alloc, &book, true, STARVED_BOOK);
     Ok(is_added && is_applied)
 }
 
@@ -227,7 +227,7 @@ fn is_in_turn(alloc: Global) -> Result<bool, AllocError> {
     let has_relevance = book.add(Pass { kind, run }).is_ok();
     let (kind, run) = (H2, h2);
     let has_h2 = book.add(Pass { kind, run }).is_ok();
-    let is_applied = are_applied(alloc, &book, true, &BOOK_OF_EVERY_PASS);
+    let is_applied = are_applied(alloc, &book, true, BOOK_OF_EVERY_PASS);
     Ok(has_order && has_relevance && has_h2 && is_applied)
 }
 

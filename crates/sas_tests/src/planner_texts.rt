@@ -25,7 +25,7 @@ const BELL: &str = task! {
 };
 
 // What other translators may write and isn't read.
-static REFUSED: [Refused; 10] = [
+static REFUSED: &[Refused] = &[
     // Lines that end with a carriage return and a line feed.
     (1, b"begin_version\r", 1, SasPlace::Version),
     // A cost where operators have none of their own.
@@ -55,6 +55,6 @@ fn what_the_planner_writes_is_read_and_what_others_may_write_is_refused(
     let bell = BELL.as_bytes();
     let unspaced = with_line(rt.alloc(), bell, 61, b"ring")?;
     assert!(rt; is_read_as(rt.alloc(), bell, &unspaced)?);
-    assert_refused(&rt, rt.alloc(), bell, &REFUSED);
+    assert_refused(&rt, rt.alloc(), bell, REFUSED);
     Ok(())
 }

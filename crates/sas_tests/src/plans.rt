@@ -8,7 +8,7 @@ use std::alloc::{AllocError, Global};
 use std::test::*;
 
 // Each plan beside the switch, whose one operator is `flip` at cost 1: how often it flips, or its first faulty line.
-static SWITCH_PLANS: [(&[u8], Result<u64, MapEnd>); 41] = [
+static SWITCH_PLANS: &[(&[u8], Result<u64, MapEnd>)] = &[
     (b"(flip)\n", Ok(1)),
     (b"(flip)\n(FLIP )\n; cost = 2 (unit cost)\n", Ok(2)),
     (b"(flip)", Ok(1)),
@@ -59,7 +59,7 @@ static SWITCH_PLANS: [(&[u8], Result<u64, MapEnd>); 41] = [
 static ROOM_PLAN: &[u8] =
     b"( ENTER\troom)\n(press)\n(toggle)\n(enter   room )\n; cost = 16 (general cost)\n";
 
-static ROOM_STEPS: [(&[&[u8]], u64); 4] = [
+static ROOM_STEPS: &[(&[&[u8]], u64)] = &[
     (&[b"enter", b"room"], 3),
     (&[b"press"], 0),
     (&[b"toggle"], 10),
@@ -92,7 +92,7 @@ fn is_room_plan(mapped: &Mapped) -> bool {
         && mapped.total == 16
         && steps
             .iter()
-            .zip(&ROOM_STEPS)
+            .zip(ROOM_STEPS)
             .all(|(step, row)| is_step(step, row.0, row.1))
 }
 
@@ -126,7 +126,7 @@ fn mapped_beside(alloc: Global, task: &str, text: &[u8]) -> Result<Mapped, MapEn
 
 #[test]
 fn each_plan_gives_its_steps_or_its_first_faulty_line(rt: HostRuntime) {
-    for row in &SWITCH_PLANS {
+    for row in SWITCH_PLANS {
         let found = mapped_beside(rt.alloc(), SWITCH, row.0);
         assert!(rt; comes_to(&found, row.1), "{:?}", row.0);
     }

@@ -87,7 +87,7 @@ const GATE: &str = task! {
         [1, "1 0", "4 1 0"]
 };
 
-static LEFT: [(&str, &str); 6] = [
+static LEFT: &[(&str, &str)] = &[
     // What is of no account is left out.
     (tasks::BACK, BACK),
     (shop!(goal 1 "0 0"), SMALL_SHOP),
@@ -102,5 +102,5 @@ static LEFT: [(&str, &str); 6] = [
 
 #[test]
 fn what_is_of_no_account_is_left_out(rt: HostRuntime) {
-    assert_made(&rt, rt.alloc(), Making::Relevance, &LEFT);
+    assert_made(&rt, rt.alloc(), Making::Relevance, LEFT);
 }

@@ -47,7 +47,7 @@ const TIED: &[&[u64]] = &[&[0, 1, 2], &[1, 4, 5], &[0, 6, 7]];
 
 const THREE: &[&[u64]] = &[&[0, 1, 2], &[0, 3, 4], &[0, 5, 6]];
 
-static ROWS: [Row; 18] = [
+static ROWS: &[Row] = &[
     // ---- parts of groups
     // Facts of no group stand alone.
     (0, &[], false, &[]),

@@ -118,7 +118,7 @@ impl Asked for Grounded {
     }
 }
 
-static ROWS: [Row<Grounded>; 4] = [
+static ROWS: &[Row<Grounded>] = &[
     // Neither q nor r can be reached: r is added only where q is true, and q only where r is. So the axiom for d goes, with d,
     // and so do the effects on r, under q, and on q, which deletes a fact that is never true. `not (q)` and `not (d)` are true
     // then, and the action that needs r goes. It is made, since the condition under which r is added isn't looked at.
@@ -255,5 +255,5 @@ static ROWS: [Row<Grounded>; 4] = [
 
 #[test]
 fn what_can_be_reached_is_kept(rt: HostRuntime) {
-    assert_answers(&rt, rt.alloc(), &ROWS);
+    assert_answers(&rt, rt.alloc(), ROWS);
 }

@@ -111,7 +111,7 @@ const SECOND_BALL: Names = &[
     "carry(ball2, right)",
 ];
 
-static ROWS: [Row<Groups>; 6] = [
+static ROWS: &[Row<Groups>] = &[
     // Accepted are off alone, which nothing adds, and on with off. Off is true at the start, so both weigh one.
     (SWITCH, ONE, Groups(&[&["off()"], &["on()", "off()"]], None)),
     // Accepted are the hand (free, or holding some block); for each block what is below it (a block, the table, the hand);
@@ -190,5 +190,5 @@ static ROWS: [Row<Groups>; 6] = [
 
 #[test]
 fn groups_and_covers_as_worked_by_hand(rt: HostRuntime) {
-    assert_answers(&rt, rt.alloc(), &ROWS);
+    assert_answers(&rt, rt.alloc(), ROWS);
 }

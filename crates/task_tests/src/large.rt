@@ -115,7 +115,7 @@ impl Asked for Instances {
     }
 }
 
-static INSTANCES: [Made<Instances>; 2] = [
+static INSTANCES: &[Made<Instances>] = &[
     // In a ring one hops over the next place. So half of the places can be reached. A plain search goes through each three.
     (
         &[(

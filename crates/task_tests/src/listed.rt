@@ -20,7 +20,7 @@ impl Asked for Ones {
 const PROBLEM: &str =
     "(define (problem p) (:domain d) (:objects a b) (:init) (:goal (forall (?x) (q ?x))))";
 
-static ONES: [Row<Ones>; 2] = [
+static ONES: &[Row<Ones>] = &[
     // No effect changes r, and s and the predicate that stands for the goal's `forall` are derived. Only deletes are of q.
     (
         "(define (domain d) (:predicates (p ?x ?y) (r ?x) (s ?x) (q ?x)) (:derived (s ?x) (r ?x))
@@ -44,5 +44,5 @@ static ONES: [Row<Ones>; 2] = [
 
 #[test]
 fn candidates_with_one_part_in_their_order(rt: HostRuntime) {
-    assert_answers(&rt, rt.alloc(), &ONES);
+    assert_answers(&rt, rt.alloc(), ONES);
 }

@@ -5,7 +5,7 @@ use crate::tasks::{Row, assert_answers};
 use std::test::*;
 
 /// Pairs of files and what is shown of their normal tasks.
-static TASKS: [Row<Shown>; 5] = [
+static TASKS: &[Row<Shown>] = &[
     // A `forall` is the negation of a new derived atom, which is true where some object doesn't have the inside.
     (
         "(define (domain all) (:predicates (p ?x) (q) (r))
@@ -122,7 +122,7 @@ goal:"
     };
 }
 
-static ACTIONS: [Row<Shown>; 20] = [
+static ACTIONS: &[Row<Shown>] = &[
     // ---- quantifiers
     action!(
         ":precondition (forall (?x - none) (p ?x))",
@@ -278,7 +278,7 @@ macro_rules! goal {
     };
 }
 
-static GOALS: [Row<Shown>; 5] = [
+static GOALS: &[Row<Shown>] = &[
     goal!("()", "", "", ""),
     goal!("(not (p b))", "", "", " -0(#1)"),
     goal!("(or)", " new-axiom@0/0:derived", "", " +1()"),
@@ -315,7 +315,7 @@ macro_rules! cost {
     };
 }
 
-static COSTS: [Row<Shown>; 6] = [
+static COSTS: &[Row<Shown>] = &[
     cost!(
         "(increase (total-cost) (price ?x))",
         PRICED,
@@ -333,7 +333,7 @@ static COSTS: [Row<Shown>; 6] = [
 ];
 
 /// What `:init` states stands once, in the order of the file, and `total-cost` has no value.
-static STATED: [Row<Shown>; 2] = [
+static STATED: &[Row<Shown>] = &[
     (
         "(define (domain d) (:constants c) (:predicates (p ?x) (q)) (:functions (total-cost) (price ?x) (toll)))",
         "(define (problem p) (:domain d) (:objects a b) (:init (p a) (q) (p a) (not (p b)) (= (price b) 3)
@@ -356,9 +356,9 @@ metric",
 
 #[test]
 fn normal_tasks_as_worked_by_hand(rt: HostRuntime) {
-    assert_answers(&rt, rt.alloc(), &TASKS);
-    assert_answers(&rt, rt.alloc(), &ACTIONS);
-    assert_answers(&rt, rt.alloc(), &GOALS);
-    assert_answers(&rt, rt.alloc(), &COSTS);
-    assert_answers(&rt, rt.alloc(), &STATED);
+    assert_answers(&rt, rt.alloc(), TASKS);
+    assert_answers(&rt, rt.alloc(), ACTIONS);
+    assert_answers(&rt, rt.alloc(), GOALS);
+    assert_answers(&rt, rt.alloc(), COSTS);
+    assert_answers(&rt, rt.alloc(), STATED);
 }

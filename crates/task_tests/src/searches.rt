@@ -18,7 +18,7 @@ impl Asked for Search {
     }
 }
 
-static ROWS: [Row<Search>; 6] = [
+static ROWS: &[Row<Search>] = &[
     // The switch: off, and on with off.
     (
         SWITCH,
@@ -78,5 +78,5 @@ static ROWS: [Row<Search>; 6] = [
 
 #[test]
 fn candidates_are_tried_and_accepted_as_worked_by_hand(rt: HostRuntime) {
-    assert_answers(&rt, rt.alloc(), &ROWS);
+    assert_answers(&rt, rt.alloc(), ROWS);
 }

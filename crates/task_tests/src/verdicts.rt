@@ -29,7 +29,7 @@ macro_rules! problem {
 
 const ROOMS: &str = problem!("a b - room c d - ball e f - gripper");
 
-static WORKED: [Row<Says>; 10] = [
+static WORKED: &[Row<Says>] = &[
     // Nothing deletes on where it is added. With off beside it, off is deleted there, which the precondition requires.
     (
         SWITCH,
@@ -124,7 +124,7 @@ const SPARE: &str = "(define (domain d) (:types spare) (:predicates (on) (off))
  (:action flip :precondition (off) :effect (and (on) (forall (?l - spare) (not (off))))))";
 
 /// Effects with variables and conditions.
-static EFFECTS: [Row<Says>; 15] = [
+static EFFECTS: &[Row<Says>] = &[
     // The delete's variable is given ?from: the atom and its condition are then required. It comes back only where ?to
     // is ?from, and then the added atom was true before.
     (
@@ -249,7 +249,7 @@ const SWAP: &str = "(define (domain d) (:constants hall yard) (:predicates (here
   :effect (and (here hall) (here yard) (not (gone hall)) (not (gone yard)))))";
 
 /// Lists of literals that are contradictory, and others.
-static CONTRADICTIONS: [Row<Says>; 14] = [
+static CONTRADICTIONS: &[Row<Says>] = &[
     // The added atom is true before.
     (
         "(define (domain d) (:predicates (on)) (:action keep :precondition (on) :effect (on)))",
@@ -378,7 +378,7 @@ static CONTRADICTIONS: [Row<Says>; 14] = [
 ];
 
 /// Repairs by several placements of one predicate.
-static PLACED: [Row<Says>; 2] = [
+static PLACED: &[Row<Says>] = &[
     // The placement (0, 1) comes before (1, 0). q stands first, so its places rise, and those of p turn with them.
     (
         "(define (domain d) (:predicates (q ?x ?y) (p ?x ?y))
@@ -470,8 +470,8 @@ impl Asked for Says {
 
 #[test]
 fn candidates_are_answered_as_worked_by_hand(rt: HostRuntime) {
-    assert_answers(&rt, rt.alloc(), &WORKED);
-    assert_answers(&rt, rt.alloc(), &EFFECTS);
-    assert_answers(&rt, rt.alloc(), &CONTRADICTIONS);
-    assert_answers(&rt, rt.alloc(), &PLACED);
+    assert_answers(&rt, rt.alloc(), WORKED);
+    assert_answers(&rt, rt.alloc(), EFFECTS);
+    assert_answers(&rt, rt.alloc(), CONTRADICTIONS);
+    assert_answers(&rt, rt.alloc(), PLACED);
 }

@@ -64,7 +64,7 @@ mod row;
 mod texts;
 
 /// The files of worked calls, in the order in which they are read.
-static FILES: [&str; 10] = [
+static FILES: &[&str] = &[
     "words",
     "plans",
     "written_tasks",
@@ -86,7 +86,7 @@ fn tell_file(rt: &HostRuntime, texts: &mut Texts, name: &str) -> io::Result<()> 
 }
 
 fn tell_files(rt: &HostRuntime, texts: &mut Texts) -> io::Result<()> {
-    for name in &FILES {
+    for name in FILES {
         tell_file(rt, texts, name)?;
     }
     real::tell(rt, texts)

@@ -57,7 +57,7 @@ pub fn push_line(text: &mut String, line: &str) -> Result<(), AllocError> {
 }
 
 /// What stands for a byte in a text of one line.
-static MARKS: [(&str, &str); 5] = [
+static MARKS: &[(&str, &str)] = &[
     ("\\s", " "),
     ("\\n", "\n"),
     ("\\t", "\t"),
@@ -68,7 +68,7 @@ static MARKS: [(&str, &str); 5] = [
 /// The text that stands in one line.
 pub fn of_line(alloc: Global, line: &str) -> Result<String, AllocError> {
     let mut text = String::from_str(alloc, line)?;
-    for row in &MARKS {
+    for row in MARKS {
         text = text.replace(alloc, row.0, row.1)?;
     }
     with_repeated(alloc, &text)
