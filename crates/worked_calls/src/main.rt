@@ -1,5 +1,6 @@
-//! Worked calls of `translate`: each is performed on files and a console in memory, and a line says whether it ended as it
-//! was worked by hand, from the rules of what is read, written and printed.
+//! Worked calls of `translate`: each is performed on files and a console in memory, and has to end as it was worked by hand,
+//! from the rules of what is read, written and printed. A line is printed for each file of calls, and one for each call that
+//! ends otherwise, with what differs.
 //!
 //! The files in `data` hold the calls. A file is paragraphs with an empty line between two. In a paragraph a line that
 //! begins with `#` is a comment, and the others are items, each with a word before it. An item that has a text goes on with
@@ -41,7 +42,13 @@
 //! makes a row a call for each of its numbers: `[1 to 17]`. Further ranges count on with it: `[0 by 16]` is 0, then 16, then 32.
 //!
 //! An example is translated, done and printed as it says; what is written of it is read back and written again, where no
-//! candidate is tried; and all passes may follow one another.
+//! candidate is tried; and all passes may follow one another. So is each folder in `data/examples`, by the words that it has
+//! for the files beside them. All its files but the words are texts with names, as `switch/output.sas`.
+//!
+//! So a new call is a paragraph or a row in `data`, and a new example a folder, and nothing else changes: what is printed
+//! names how many calls a file has at least, as `FILES` does. A file that has fewer, since it lost some or they weren't
+//! understood, says so, and what is printed isn't what it should be. Who adds many calls raises the number, here and in
+//! `stdout`, so that these can't be lost unseen either.
 //!
 //! Behind the files' calls the switch task is written to a real file, with what that prints before the line on it. At last the
 //! translator runs on this process's own words, of which one is no UTF-8, and the process ends as that run does.
@@ -52,6 +59,7 @@ use texts::Texts;
 use translator::{Ended, run};
 
 mod call;
+mod examples;
 mod line;
 mod outside;
 mod perform;
@@ -63,31 +71,60 @@ mod report;
 mod row;
 mod texts;
 
-/// The files of worked calls, in the order in which they are read.
-static FILES: &[&str] = &[
-    "words",
-    "plans",
-    "written_tasks",
-    "faults",
-    "tasks",
-    "passes",
-    "made_and_whole",
-    "devices",
-    "failures",
-    "limits",
+/// The files of worked calls, in the order in which they are read, each with so many calls as it has at least.
+static FILES: &[(&str, u64)] = &[
+    ("words", 44),
+    ("plans", 22),
+    ("written_tasks", 15),
+    ("faults", 215),
+    ("tasks", 114),
+    ("passes", 16),
+    ("made_and_whole", 6),
+    ("devices", 9),
+    ("failures", 817),
+    ("limits", 31),
 ];
 
-/// Says of each call of the file how it ended.
-fn tell_file(rt: &HostRuntime, texts: &mut Texts, name: &str) -> io::Result<()> {
-    match fs::read_to_string(rt, name) {
+/// So many calls the examples have at least.
+const OF_EXAMPLES: u64 = 21;
+
+/// Says what is to be said of the calls of a text, and answers how many end as they stand.
+fn tell_text(
+    rt: &HostRuntime,
+    texts: &mut Texts,
+    name: &str,
+    text: io::Result<String>,
+) -> io::Result<u64> {
+    match text {
         Ok(text) => report::tell_all(rt, texts, &text),
-        Err(_) => println!(rt; "{name}: cannot be read"),
+        Err(_) => {
+            println!(rt; "{name}: cannot be read")?;
+            Ok(0)
+        }
     }
 }
 
-fn tell_files(rt: &HostRuntime, texts: &mut Texts) -> io::Result<()> {
-    for name in FILES {
-        tell_file(rt, texts, name)?;
+fn tell_count(rt: &HostRuntime, name: &str, calls: u64, least: u64) -> io::Result<()> {
+    if calls < least {
+        return println!(rt; "{name}: {calls} calls end as they stand, and not {least}");
+    }
+    println!(rt; "{name}: at least {least} calls end as they stand")
+}
+
+fn tell_examples(rt: &HostRuntime, texts: &mut Texts) -> io::Result<()> {
+    let mut calls = 0u64;
+    for name in &examples::names(rt)? {
+        let paragraph = examples::paragraph(rt, texts, name);
+        calls = calls.saturating_add(tell_text(rt, texts, name, paragraph)?);
+    }
+    tell_count(rt, examples::FOLDER, calls, OF_EXAMPLES)
+}
+
+fn tell_all(rt: &HostRuntime, texts: &mut Texts) -> io::Result<()> {
+    tell_examples(rt, texts)?;
+    for (name, least) in FILES {
+        let calls = tell_text(rt, texts, name, fs::read_to_string(rt, name))?;
+        tell_count(rt, name, calls, *least)?;
     }
     real::tell(rt, texts)
 }
@@ -95,7 +132,7 @@ fn tell_files(rt: &HostRuntime, texts: &mut Texts) -> io::Result<()> {
 fn main(rt: HostRuntime) -> Ended {
     let mut texts = Texts::new(rt.alloc());
     // A line that can't be printed is missing from the stored output.
-    let _told = tell_files(&rt, &mut texts);
+    let _told = tell_all(&rt, &mut texts);
     drop(texts);
     run(&rt)
 }

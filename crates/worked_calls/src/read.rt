@@ -90,8 +90,9 @@ impl<'a> Call<'a> {
     ) -> Result<bool, AllocError> {
         self.open = Open::Nothing;
         match word {
-            "call" => {}
-            "example" => self.words = "translate d.pddl p.pddl",
+            // Behind the words another call would take the place of this one.
+            "call" if self.words.is_empty() => {}
+            "example" if self.words.is_empty() => self.words = "translate d.pddl p.pddl",
             "translate" => self.words = line,
             "takes" | "room" | "fails" => self.settings.push(line)?,
             "book" => self.book = said,

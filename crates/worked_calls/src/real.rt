@@ -27,15 +27,18 @@ fn holds(rt: &HostRuntime, name: &str, text: &str) -> bool {
 /// Whether an absent problem is told, and this task is written.
 fn is_written(rt: &HostRuntime, task: &str) -> Result<bool, AllocError> {
     Ok(
-        status(rt, "translate real_domain no_file")? == Status::Device
-            && status(rt, "translate real_domain real_problem")? == Status::Done
+        status(rt, "translate examples/switch/domain.pddl no_file")? == Status::Device
+            && status(
+                rt,
+                "translate examples/switch/domain.pddl examples/switch/problem.pddl",
+            )? == Status::Done
             && holds(rt, OUTPUT, task),
     )
 }
 
 /// Says whether the switch task takes the place of a longer one, behind what the two calls print.
 pub fn tell(rt: &HostRuntime, texts: &Texts) -> io::Result<()> {
-    let task = texts.find("switch task").unwrap_or("");
+    let task = texts.find("switch/output.sas").unwrap_or("");
     fs::write(rt, OUTPUT, task.repeat(rt.alloc(), 2)?.as_bytes())?;
     let verdict = if is_written(rt, task)? {
         "as it stands"

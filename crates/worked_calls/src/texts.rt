@@ -32,16 +32,14 @@ impl Texts {
         None
     }
 
-    /// Names the text behind the bars of a paragraph.
-    pub fn add(&mut self, alloc: Global, name: &str, paragraph: &str) -> Result<(), AllocError> {
-        let name = String::from_str(alloc, name)?;
-        let text = behind_bars(alloc, paragraph)?;
+    pub fn add(&mut self, name: String, text: String) -> Result<(), AllocError> {
         self.named.push(Named { name, text })?;
         Ok(())
     }
 }
 
-fn behind_bars(alloc: Global, paragraph: &str) -> Result<String, AllocError> {
+/// The text behind the bars of a paragraph.
+pub fn behind_bars(alloc: Global, paragraph: &str) -> Result<String, AllocError> {
     let mut text = String::new(alloc);
     for line in paragraph.lines() {
         if let Line::Bar(line) = Line::of(line) {

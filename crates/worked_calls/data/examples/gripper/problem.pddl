@@ -1,4 +1,5 @@
-; Four balls. There are 7 variables with 24 values, 7 mutex groups and 34 operators.
+; Four balls. There are 7 variables with 24 values, 7 mutex groups and 34 operators: what each of two hands has, where the
+; robot is, and the place of each ball, which has none while it is carried.
 (define (problem four)
  (:domain gripper)
  (:objects rooma roomb - room left right - gripper
