@@ -22,7 +22,7 @@
 //! fails KIND NUMBER      so many calls of the kind are made, and this one fails: `open`, `read`, `create`, `write` or `print`
 //! book PASSES            the book of passes is `empty`, or has one pass, the order, `wanting memory` each time
 //! changed                behind it, a row behind each bar
-//! example NAME           a pair of files, `d.pddl` and `p.pddl`, with what is printed and written of them: three calls
+//! example NAME           a pair, `domain.pddl` and `problem.pddl`, with what is printed and written of it: three calls
 //! ```
 //!
 //! Where nothing stands in the place of TEXT, it is the lines behind the bars. `of NAME` is the named text, then those lines,
@@ -42,13 +42,13 @@
 //! makes a row a call for each of its numbers: `[1 to 17]`. Further ranges count on with it: `[0 by 16]` is 0, then 16, then 32.
 //!
 //! An example is translated, done and printed as it says; what is written of it is read back and written again, where no
-//! candidate is tried; and all passes may follow one another. So is each folder in `data/examples`, by the words that it has
-//! for the files beside them. All its files but the words are texts with names, as `switch/output.sas`.
+//! candidate is tried; and all passes may follow one another. Each folder in `data/examples` is one too, with its words in a
+//! file beside the pair. Its other files are texts that calls name: `switch/output.sas`.
 //!
-//! So a new call is a paragraph or a row in `data`, and a new example a folder, and nothing else changes: what is printed
-//! names how many calls a file has at least, as `FILES` does. A file that has fewer, since it lost some or they weren't
-//! understood, says so, and what is printed isn't what it should be. Who adds many calls raises the number, here and in
-//! `stdout`, so that these can't be lost unseen either.
+//! So a new call is one edit in `data`, a paragraph or a row, and a new example is one folder. What is printed stays as it is:
+//! of each file it doesn't say how many calls end as they stand, but that there are as many as `FILES` asks for. A call that
+//! is gone, or isn't understood, doesn't count, so that a file that loses calls is seen. Whoever adds many raises the number,
+//! here and in `stdout`, so that those aren't lost unseen either.
 //!
 //! Behind the files' calls the switch task is written to a real file, with what that prints before the line on it. At last the
 //! translator runs on this process's own words, of which one is no UTF-8, and the process ends as that run does.
@@ -71,7 +71,7 @@ mod report;
 mod row;
 mod texts;
 
-/// The files of worked calls, in the order in which they are read, each with so many calls as it has at least.
+/// The files of worked calls, in the order in which they are read, each with the least number of its calls.
 static FILES: &[(&str, u64)] = &[
     ("words", 44),
     ("plans", 22),
@@ -85,10 +85,10 @@ static FILES: &[(&str, u64)] = &[
     ("limits", 31),
 ];
 
-/// So many calls the examples have at least.
+/// The least number of calls of the examples, of which each has three.
 const OF_EXAMPLES: u64 = 21;
 
-/// Says what is to be said of the calls of a text, and answers how many end as they stand.
+/// Says how each call of the text ended that ended otherwise, and answers how many ended as they stand.
 fn tell_text(
     rt: &HostRuntime,
     texts: &mut Texts,

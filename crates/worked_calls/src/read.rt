@@ -92,7 +92,7 @@ impl<'a> Call<'a> {
         match word {
             // Behind the words another call would take the place of this one.
             "call" if self.words.is_empty() => {}
-            "example" if self.words.is_empty() => self.words = "translate d.pddl p.pddl",
+            "example" if self.words.is_empty() => self.words = "translate domain.pddl problem.pddl",
             "translate" => self.words = line,
             "takes" | "room" | "fails" => self.settings.push(line)?,
             "book" => self.book = said,

@@ -67,7 +67,7 @@ fn add_text(rt: &HostRuntime, texts: &mut Texts, name: &str, paragraph: &str) ->
 
 /// The rows of an example: it is read back, and all passes follow one another.
 const OF_AN_EXAMPLE: &str = "the same | read back | translate --from-sas output.sas
-the same | translate d.pddl p.pddl --pass h2,relevance,order | printed anything | written output.sas anything";
+the same | translate domain.pddl problem.pddl --pass h2,relevance,order | printed anything | written output.sas anything";
 
 /// Says how the call and each row behind it ended, where that is otherwise, and answers how many ended as they stand.
 fn tell_calls(
