@@ -13,7 +13,7 @@ MIB = 1024 * 1024
 # begins with before it becomes the translator.
 LEAST = 32 * MIB
 
-with open(os.path.join(TOP, "crates/worked_calls/data/examples", "switch", "problem.pddl"), "rb") as switch:
+with open(os.path.join(TOP, "examples", "switch", "problem.pddl"), "rb") as switch:
     SWITCH = switch.read()
 
 
