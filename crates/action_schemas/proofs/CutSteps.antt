@@ -2,12 +2,12 @@
 use Rattle.std.proofs.Common.{append-nil, ◌≡◌, ℕ, ◌+◌, Bool, true, false, not, List, [], ◌∷◌, ◌++◌, length, refl, ap, ◌∙◌, sym}
 use Rattle.std.specs.Prelude.{if◌then◌else◌}
 use Rattle.pddl_lexer.specs.declared.position.At.{At}
-use Rattle.pddl_parser.specs.declared.types.Condition.{Condition, Condition-F}
-use Rattle.pddl_parser.specs.declared.types.Condition.TheVariants as conditions
-use Rattle.pddl_parser.specs.declared.types.Domain.{Domain}
-use Rattle.pddl_parser.specs.declared.types.Problem.{Problem}
-use Rattle.pddl_parser.specs.declared.types.Typed.{Typed}
-use Rattle.pddl_parser.proofs.ConditionCases as c
+use Rattle.pddl_syntax.specs.declared.types.Condition.{Condition, Condition-F}
+use Rattle.pddl_syntax.specs.declared.types.Condition.TheVariants as conditions
+use Rattle.pddl_syntax.specs.declared.types.Domain.{Domain}
+use Rattle.pddl_syntax.specs.declared.types.Problem.{Problem}
+use Rattle.pddl_syntax.specs.declared.types.Typed.{Typed}
+use Rattle.pddl_syntax.proofs.ConditionCases as c
 use Rattle.action_schemas.specs.declared.conditions.Asked.{Asked}
 use Rattle.normal_task.specs.declared.parts.Part.{Part}
 use Rattle.normal_task.specs.declared.parts.Fresh.{Fresh}

@@ -2,13 +2,13 @@
 use Rattle.std.proofs.Common.{◌≡◌, ℕ, List, [], ◌∷◌, ◌++◌, true, sym, ap, ◌∙◌}
 use Rattle.std.proofs.lemmas.List.{map-append}
 use Rattle.pddl_lexer.specs.declared.position.At.{At}
-use Rattle.pddl_parser.specs.declared.types.Condition.{Condition}
-use Rattle.pddl_parser.specs.declared.types.Domain.{Domain}
-use Rattle.pddl_parser.specs.declared.types.Effect.{Effect}
-use Rattle.pddl_parser.specs.declared.types.Effect.TheVariants.{When, Forall}
-use Rattle.pddl_parser.specs.declared.types.Problem.{Problem}
-use Rattle.pddl_parser.specs.declared.types.Typed.{Typed}
-use Rattle.pddl_parser.proofs.EffectCases.{fold-When, fold-Forall}
+use Rattle.pddl_syntax.specs.declared.types.Condition.{Condition}
+use Rattle.pddl_syntax.specs.declared.types.Domain.{Domain}
+use Rattle.pddl_syntax.specs.declared.types.Effect.{Effect}
+use Rattle.pddl_syntax.specs.declared.types.Effect.TheVariants.{When, Forall}
+use Rattle.pddl_syntax.specs.declared.types.Problem.{Problem}
+use Rattle.pddl_syntax.specs.declared.types.Typed.{Typed}
+use Rattle.pddl_syntax.proofs.EffectCases.{fold-When, fold-Forall}
 use Rattle.action_schemas.specs.declared.effects.Required.{Required}
 use Rattle.action_schemas.specs.Cuts.{cut_of, cuts_of}
 use Rattle.normal_task.specs.Normalised.{Rows, row_step, rows_of, for_each}

@@ -1,8 +1,8 @@
 -- The schemas of an action.
 use Rattle.std.proofs.Common.{◌≡◌, ℕ, ◌+◌, List, [], true, length, ap, ◌∙◌}
-use Rattle.pddl_parser.specs.declared.types.Action.{Action}
-use Rattle.pddl_parser.specs.declared.types.Domain.{Domain}
-use Rattle.pddl_parser.specs.declared.types.Problem.{Problem}
+use Rattle.pddl_syntax.specs.declared.types.Action.{Action}
+use Rattle.pddl_syntax.specs.declared.types.Domain.{Domain}
+use Rattle.pddl_syntax.specs.declared.types.Problem.{Problem}
 use Rattle.normal_task.specs.declared.task.EffectRow.{EffectRow}
 use Rattle.action_schemas.specs.SchemaRows.{schemas_of_parts, schemas_in_scope}
 use Rattle.normal_rows.proofs.MadeSame.{made-same}

@@ -4,9 +4,9 @@ use Rattle.std.specs.Prelude.{◌&&◌, nat_lt}
 use Rattle.std.proofs.lemmas.Bool.{lt-ltb}
 use Rattle.std.proofs.lemmas.List.{map-append}
 use Rattle.pddl_lexer.specs.declared.position.At.{At}
-use Rattle.pddl_parser.specs.declared.types.Condition.{Condition}
-use Rattle.pddl_parser.specs.declared.types.Condition.TheVariants as conditions
-use Rattle.pddl_parser.proofs.ConditionCases.{fold-Imply}
+use Rattle.pddl_syntax.specs.declared.types.Condition.{Condition}
+use Rattle.pddl_syntax.specs.declared.types.Condition.TheVariants as conditions
+use Rattle.pddl_syntax.proofs.ConditionCases.{fold-Imply}
 use Rattle.fault_positions.specs.Sizes.{Size, product, paired, size_step, size_of}
 use Rattle.normal_rows.proofs.TurnSteps.{twice-next}
 

@@ -1,8 +1,8 @@
 -- What conditions are cut into.
 use Rattle.std.specs.Prelude.{ℕ, Bool, true, List, [], map, if◌then◌else◌}
-use Rattle.pddl_parser.specs.declared.types.Domain.{Domain}
-use Rattle.pddl_parser.specs.declared.types.Problem.{Problem}
-use Rattle.pddl_parser.specs.declared.types.Typed.{Typed}
+use Rattle.pddl_syntax.specs.declared.types.Domain.{Domain}
+use Rattle.pddl_syntax.specs.declared.types.Problem.{Problem}
+use Rattle.pddl_syntax.specs.declared.types.Typed.{Typed}
 use Rattle.action_schemas.specs.declared.effects.Required.{Required}
 use Rattle.normal_task.specs.declared.parts.Part.{Part}
 use Rattle.normal_task.specs.Parts.{Made, Scope, Known, in_turn, all_of, parts, exists_inside, none_inside}

@@ -1,8 +1,8 @@
 -- What the code's values say of schemas.
 use Rattle.std.specs.Prelude.{ℕ, ◌+◌, List, [], ◌++◌, true, map, length}
-use Rattle.pddl_parser.specs.declared.types.Action.{Action}
-use Rattle.pddl_parser.specs.declared.types.Domain.{Domain}
-use Rattle.pddl_parser.specs.declared.types.Problem.{Problem}
+use Rattle.pddl_syntax.specs.declared.types.Action.{Action}
+use Rattle.pddl_syntax.specs.declared.types.Domain.{Domain}
+use Rattle.pddl_syntax.specs.declared.types.Problem.{Problem}
 use Rattle.normal_rows.specs.Costs.{cost_of}
 use Rattle.action_schemas.specs.declared.schemas.Shared.{Shared}
 use Rattle.normal_task.specs.declared.parts.Part.{Part}

@@ -1,7 +1,7 @@
 // How a condition is cut into parts.
 ghost use Rattle.std.specs.Prelude.{◌≡◌, ◌++◌, ◌+◌, ◌&&◌, ◌||◌, [], ℕ, suc, not, map, length, nat_lt, true, false, IfOk, if◌then◌else◌};
-ghost use Rattle.pddl_parser.specs.declared.types.Domain.{Domain};
-ghost use Rattle.pddl_parser.specs.declared.types.Problem.{Problem};
+ghost use Rattle.pddl_syntax.specs.declared.types.Domain.{Domain};
+ghost use Rattle.pddl_syntax.specs.declared.types.Problem.{Problem};
 ghost use Rattle.fault_positions.specs.Sizes.{size_of};
 ghost use Rattle.normal_task.specs.declared.task.Literal.TheVariants.{Holds, Equal};
 ghost use Rattle.normal_task.specs.declared.task.Place.TheVariants as place;
@@ -19,7 +19,7 @@ use normal_rows::{
 use normal_task::laws::as_many_parts;
 use normal_task::{Literal, Part};
 use numbering::Numbering;
-use pddl_parser::{Atom, Condition, Term, Typed};
+use pddl_syntax::{Atom, Condition, Term, Typed};
 use std::alloc::{AllocError, Global};
 
 /// Where a condition stands: the variables in scope, and how many variables there are around it.

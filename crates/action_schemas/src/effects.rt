@@ -19,7 +19,7 @@ use normal_rows::{
 use normal_task::laws::as_many_parts;
 use normal_task::{EffectRow, ObjectRange, Part};
 use numbering::Numbering;
-use pddl_parser::{Atom, Condition, Effect, Typed};
+use pddl_syntax::{Atom, Condition, Effect, Typed};
 use std::alloc::{AllocError, Global};
 
 /// A condition that is required around an effect, and the variables around it.

@@ -2,7 +2,7 @@
 ghost use Rattle.std.specs.Prelude.{◌≡◌, map, nat_lt};
 ghost use Rattle.fault_positions.specs.Sizes.{listed, paired, size_of};
 
-use pddl_parser::Condition;
+use pddl_syntax::Condition;
 
 /// Whether the condition, or its negation where it isn't `positive`, has parts.
 #[cycle(has_parts)]

@@ -14,7 +14,7 @@ use normal_rows::{
 };
 use normal_task::{EffectRow, ObjectRange, Part, Schema};
 use numbering::Numbering;
-use pddl_parser::Action;
+use pddl_syntax::Action;
 use std::alloc::{AllocError, Global};
 
 /// What the schemas of an action share: its parameters as variables, what they range over, and its effects.

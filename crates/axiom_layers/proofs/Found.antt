@@ -5,12 +5,12 @@ use Rattle.std.specs.List.{All, Contains}
 use Rattle.std.proofs.lemmas.Bool.{true≢false}
 use Rattle.std.proofs.lemmas.List.Elements.{All-contains}
 use Rattle.lists.proofs.Items.{Among, among_contains, contains_among, among_map, map_source, among_filter, filter_among, among_left, among_right, among_which, among_flat_map, flat_map_piece}
-use Rattle.relaxed_reach.specs.declared.types.Reached.{Reached}
-use Rattle.relaxed_reach.specs.declared.types.ReachedAxiom.{ReachedAxiom}
-use Rattle.relaxed_reach.specs.ReachedTask.{is_derived, axiom_row}
-use Rattle.relaxed_reach.specs.Lawful.{IsLawful, IsLawfulAxiom}
-use Rattle.relaxed_reach.specs.Layers.{Names, RestsOn, AreLayers}
-use Rattle.relaxed_reach.proofs.OneLayers.{derived_below}
+use Rattle.reached_task.specs.declared.types.Reached.{Reached}
+use Rattle.reached_task.specs.declared.types.ReachedAxiom.{ReachedAxiom}
+use Rattle.reached_task.specs.ReachedTask.{is_derived, axiom_row}
+use Rattle.reached_task.specs.Lawful.{IsLawful, IsLawfulAxiom}
+use Rattle.reached_task.specs.Layers.{Names, RestsOn, AreLayers}
+use Rattle.reached_task.proofs.OneLayers.{derived_below}
 use Rattle.names.specs.declared.arcs.Arc.{Arc}
 use Rattle.axiom_layers.specs.Arcs.{arc_to, arcs_at, arcs_of, AreSound, IsAbove, AreHeld}
 

@@ -5,7 +5,7 @@ use Rattle.std.proofs.lemmas.Bool.{cases_lt, true≢false, leb-true, le-leb, cas
 use Rattle.std.proofs.lemmas.List.Elements.{All-from_get_or}
 use Rattle.std.proofs.lemmas.List.Sums.{sum_by-le, sum_by-set}
 use Rattle.lists.proofs.Items.{Among, among_at}
-use Rattle.relaxed_reach.proofs.LongLists.{as_long}
+use Rattle.reached_task.proofs.LongLists.{as_long}
 use Rattle.names.specs.declared.arcs.Arc.{Arc}
 use Rattle.axiom_layers.specs.Arcs.{AreSound, IsAbove, AreHeld, lifted}
 

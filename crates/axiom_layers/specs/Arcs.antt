@@ -1,10 +1,10 @@
 -- Derived facts and those on which they rest, as the layers are found.
 use Rattle.std.specs.Prelude.{◌≡◌, ℕ, ◌+◌, ◌<◌, ◌≤◌, ◌⊎◌, List, map, filter, ◌++◌, length, Contains, slice_index, slice_set, nat_le, if◌then◌else◌}
 use Rattle.std.specs.List.{flat_map}
-use Rattle.relaxed_reach.specs.declared.types.Fact.{Fact}
-use Rattle.relaxed_reach.specs.declared.types.Reached.{Reached}
-use Rattle.relaxed_reach.specs.declared.types.ReachedAxiom.{ReachedAxiom}
-use Rattle.relaxed_reach.specs.ReachedTask.{is_derived}
+use Rattle.reached_task.specs.declared.types.Fact.{Fact}
+use Rattle.reached_task.specs.declared.types.Reached.{Reached}
+use Rattle.reached_task.specs.declared.types.ReachedAxiom.{ReachedAxiom}
+use Rattle.reached_task.specs.ReachedTask.{is_derived}
 use Rattle.names.specs.declared.arcs.Arc.{Arc}
 
 -- the arc of a fact that rests on a lower one

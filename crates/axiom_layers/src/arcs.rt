@@ -1,11 +1,11 @@
 // Which derived facts the axioms' facts rest on.
 ghost use Rattle.std.specs.Prelude.{◌≡◌, ◌++◌, map, filter, IfOk, OnOk};
 ghost use Rattle.std.specs.List.{flat_map};
-ghost use Rattle.relaxed_reach.specs.ReachedTask.{is_derived};
+ghost use Rattle.reached_task.specs.ReachedTask.{is_derived};
 ghost use Rattle.axiom_layers.specs.Arcs.{arc_to, arcs_at, arcs_of};
 
 use names::Arc;
-use relaxed_reach::{Reached, ReachedAxiom};
+use reached_task::{Reached, ReachedAxiom};
 use std::alloc::{AllocError, Global};
 
 /// Adds an arc to the fact from each derived fact among the literals.

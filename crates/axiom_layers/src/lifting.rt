@@ -1,13 +1,13 @@
 // The layers: each fact is lifted above the facts on which it rests, until none has to be lifted.
 ghost use Rattle.std.specs.Prelude.{◌≡◌, ◌<◌, ◌^◌, true, false, length, sum, All, IfOk, slice_index, nat_le};
-ghost use Rattle.relaxed_reach.specs.Lawful.{IsLawful};
-ghost use Rattle.relaxed_reach.specs.Layers.{AreLayers};
+ghost use Rattle.reached_task.specs.Lawful.{IsLawful};
+ghost use Rattle.reached_task.specs.Layers.{AreLayers};
 ghost use Rattle.axiom_layers.specs.Arcs.{AreSound, AreHeld, IsAbove, lifted};
 
 use crate::arcs::arcs;
 use crate::order::order;
 use names::Arc;
-use relaxed_reach::Reached;
+use reached_task::Reached;
 use std::alloc::{AllocError, Global};
 
 /// Lifts the fact to which the arc leads above the lower fact from which it leads. Answers whether it had to.

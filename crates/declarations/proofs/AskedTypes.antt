@@ -5,10 +5,10 @@ use Rattle.std.proofs.lemmas.List.{drop-map, length-map}
 use Rattle.std.proofs.lemmas.List.Folds.{flat_map-map}
 use Rattle.std.proofs.Math.Seq.{drop-append_seam}
 use Rattle.lists.proofs.LoopSteps.{flat_map_turn}
-use Rattle.pddl_parser.specs.declared.types.Domain.{Domain}
-use Rattle.pddl_parser.specs.declared.types.Head.{Head}
-use Rattle.pddl_parser.specs.declared.types.Named.{Named}
-use Rattle.pddl_parser.specs.declared.types.Problem.{Problem}
+use Rattle.pddl_syntax.specs.declared.types.Domain.{Domain}
+use Rattle.pddl_syntax.specs.declared.types.Head.{Head}
+use Rattle.pddl_syntax.specs.declared.types.Named.{Named}
+use Rattle.pddl_syntax.specs.declared.types.Problem.{Problem}
 use Rattle.fault_positions.specs.declared.mentions.Mention as code
 use Rattle.fault_positions.specs.Mentions.{Mention, in_head, in_action, in_axiom, in_domain, in_problem}
 use Rattle.fault_positions.specs.Seen.{seen, all_seen}

@@ -8,11 +8,11 @@ use Rattle.lists.proofs.Items.{Among, among_at, any_passes, passing, any_append,
 use Rattle.lists.proofs.LoopSteps.{any_next}
 use Rattle.names.proofs.SameNames.{same_name}
 use Rattle.names.proofs.Reachability.{same_as, standing}
-use Rattle.pddl_parser.specs.declared.types.Named.{Named}
-use Rattle.pddl_parser.specs.declared.types.Typed.{Typed}
-use Rattle.pddl_parser.specs.Words.{Name, is_same}
-use Rattle.pddl_parser.specs.Objects.{root, declares, some_supertype, leads}
-use Rattle.pddl_parser.proofs.TypeChains.{any_chain}
+use Rattle.pddl_syntax.specs.declared.types.Named.{Named}
+use Rattle.pddl_syntax.specs.declared.types.Typed.{Typed}
+use Rattle.pddl_syntax.specs.Words.{Name, is_same}
+use Rattle.pddl_syntax.specs.Objects.{root, declares, some_supertype, leads}
+use Rattle.pddl_syntax.proofs.TypeChains.{any_chain}
 use Rattle.declarations.specs.Below.{has, is_next, with_next, leads_to, AllLead, Grows, IsClosed, missing}
 use Rattle.std.specs.Cmp.{both_ways}
 

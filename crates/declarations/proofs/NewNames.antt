@@ -5,10 +5,10 @@ use Rattle.std.proofs.lemmas.Cmp.{nat_list_eq_equiv}
 use Rattle.std.proofs.lemmas.List.{take-append-drop, map-append}
 use Rattle.lists.proofs.LoopSteps.{take_next}
 use Rattle.names.specs.Names.{Name, is_same}
-use Rattle.pddl_parser.specs.declared.types.Domain.{Domain}
-use Rattle.pddl_parser.specs.declared.types.Head.{Head}
-use Rattle.pddl_parser.specs.declared.types.Problem.{Problem}
-use Rattle.pddl_parser.specs.declared.types.Typed.{Typed}
+use Rattle.pddl_syntax.specs.declared.types.Domain.{Domain}
+use Rattle.pddl_syntax.specs.declared.types.Head.{Head}
+use Rattle.pddl_syntax.specs.declared.types.Problem.{Problem}
+use Rattle.pddl_syntax.specs.declared.types.Typed.{Typed}
 use Rattle.type_checker.specs.Faults.{check_faults}
 use Rattle.type_checker.proofs.Once.{predicates_once, functions_once, objects_once}
 use Rattle.normal_task.specs.Numbers.{head_names}

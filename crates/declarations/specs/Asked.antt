@@ -1,9 +1,9 @@
 -- The types of the variables of two files, one after another.
 use Rattle.std.specs.Prelude.{List, ◌++◌, map}
 use Rattle.std.specs.List.{flat_map}
-use Rattle.pddl_parser.specs.declared.types.Domain.{Domain}
-use Rattle.pddl_parser.specs.declared.types.Named.{Named}
-use Rattle.pddl_parser.specs.declared.types.Problem.{Problem}
+use Rattle.pddl_syntax.specs.declared.types.Domain.{Domain}
+use Rattle.pddl_syntax.specs.declared.types.Named.{Named}
+use Rattle.pddl_syntax.specs.declared.types.Problem.{Problem}
 use Rattle.fault_positions.specs.Mentions.{Mention, listed_variables, in_action, in_axiom, in_problem}
 
 -- the types of each variable of the list, where one is mentioned

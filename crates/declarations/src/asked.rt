@@ -4,7 +4,7 @@ ghost use Rattle.fault_positions.specs.Seen.{all_seen, seen};
 ghost use Rattle.declarations.specs.Asked.{types_at, types_of, variable_types};
 
 use fault_positions::{Mention, mentions_in_domain, mentions_in_problem};
-use pddl_parser::{Domain, Named, Problem, Typed};
+use pddl_syntax::{Domain, Named, Problem, Typed};
 use std::alloc::{AllocError, Global};
 
 /// The lists of types of all variables of actions, axioms and the goal. The heads of predicates and functions, which a domain

@@ -1,15 +1,15 @@
 // Listed types, and the types below them.
 ghost use Rattle.std.specs.Prelude.{◌≡◌, ◌+◌, ◌*◌, ◌||◌, ◌<◌, true, false, if◌then◌else◌, [], ◌∷◌, IfOk, IfSome, MatchOption, OnOk};
 ghost use Rattle.std.specs.List.{list_any};
-ghost use Rattle.pddl_parser.specs.declared.types.Domain.{Domain};
-ghost use Rattle.pddl_parser.specs.declared.types.Problem.{Problem};
-ghost use Rattle.pddl_parser.specs.Objects.{root};
-ghost use Rattle.pddl_parser.specs.Words.{Name, is_same};
+ghost use Rattle.pddl_syntax.specs.declared.types.Domain.{Domain};
+ghost use Rattle.pddl_syntax.specs.declared.types.Problem.{Problem};
+ghost use Rattle.pddl_syntax.specs.Objects.{root};
+ghost use Rattle.pddl_syntax.specs.Words.{Name, is_same};
 ghost use Rattle.declarations.specs.Below.{has, is_next, with_next, leads_to, missing, Grows, IsClosed, objects_of_type, range_of_types};
 ghost use Rattle.declarations.specs.Below as spec;
 
 use names::Names;
-use pddl_parser::{Named, Typed};
+use pddl_syntax::{Named, Typed};
 use std::alloc::{AllocError, Global};
 
 /// The entries of `:types`, with a table of those that stand below each type.

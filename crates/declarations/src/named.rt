@@ -5,7 +5,7 @@ ghost use Rattle.names.specs.Names.{is_same};
 ghost use Rattle.normal_task.specs.Numbers as spec;
 
 use names::Names;
-use pddl_parser::{Head, Typed};
+use pddl_syntax::{Head, Typed};
 use std::alloc::{AllocError, Global};
 use type_checker::Checked;
 

@@ -5,13 +5,13 @@ use Rattle.pddl_lexer.specs.declared.position.At.{At}
 use Rattle.pddl_lexer.specs.Members.{Members, NoMore, WordThen, ListThen, is_empty, is_list, position, word, rest}
 use Rattle.pddl_lexer.specs.declared.fault.Fault.{Fault}
 use Rattle.pddl_lexer.specs.declared.fault.ShapePlace.TheVariants as places
-use Rattle.pddl_parser.specs.declared.end.ParseEnd.{ParseEnd}
-use Rattle.pddl_parser.specs.declared.types.Head.{Head}
-use Rattle.pddl_parser.specs.Outcome.{both, first}
-use Rattle.pddl_parser.specs.Shapes.{passes, next, malformed}
-use Rattle.pddl_parser.specs.Values.{head}
-use Rattle.pddl_parser.specs.Words.{Name, is_dash}
-use Rattle.pddl_parser.proofs.Rows.{none_left, word_then, list_then, after, after_both, after_fails}
+use Rattle.pddl_syntax.specs.declared.end.ParseEnd.{ParseEnd}
+use Rattle.pddl_syntax.specs.declared.types.Head.{Head}
+use Rattle.pddl_syntax.specs.Outcome.{both, first}
+use Rattle.pddl_syntax.specs.Shapes.{passes, next, malformed}
+use Rattle.pddl_syntax.specs.Values.{head}
+use Rattle.pddl_syntax.specs.Words.{Name, is_dash}
+use Rattle.pddl_syntax.proofs.Rows.{none_left, word_then, list_then, after, after_both, after_fails}
 use Rattle.domain_parser.specs.Reading.{check_number_type, check_functions, check_after_dash, heads, ActionKey, ActionPart, key_here, check_key_value, check_keys, check_keyed, action_key, part, action_parts}
 
 -- ---- functions

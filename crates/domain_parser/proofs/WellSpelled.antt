@@ -6,21 +6,21 @@ use Rattle.std.proofs.lemmas.List.Elements.{All-nil, All-cons, All-head, All-tai
 use Rattle.pddl_lexer.specs.declared.position.At.{At}
 use Rattle.pddl_lexer.specs.Members.{Members, NoMore, WordThen, ListThen, position, word, inside, rest}
 use Rattle.pddl_lexer.specs.declared.fault.ShapePlace.TheVariants as places
-use Rattle.pddl_parser.specs.declared.expected.Expected.TheVariants as expected
-use Rattle.pddl_parser.specs.declared.types.Action.{Action}
-use Rattle.pddl_parser.specs.declared.types.Domain.{Domain}
-use Rattle.pddl_parser.specs.declared.types.Head.{Head}
-use Rattle.pddl_parser.specs.declared.types.Typed.{Typed}
-use Rattle.pddl_parser.specs.Conditions.{condition}
-use Rattle.pddl_parser.specs.Effects.{effect}
-use Rattle.pddl_parser.specs.Outcome.{Outcome, Reads, made, every, first, Gives}
-use Rattle.pddl_parser.specs.Shapes.{unsupported, check_all}
-use Rattle.pddl_parser.specs.Spelled.{IsSpelled, IsSpelledType, HasSmallCosts, IsWellSpelled}
-use Rattle.pddl_parser.specs.Values.{names, head, variables}
-use Rattle.pddl_parser.proofs.Given.{own_reads, made_reads, both_reads, refused_never, pairs_have, nothing_has, every_has, fold_has, first_passes, unless_empty, given_has}
-use Rattle.pddl_parser.proofs.Numbers.{HasSmall, nothing_small, effect_small}
-use Rattle.pddl_parser.proofs.Sections.{section_has, sections_have}
-use Rattle.pddl_parser.proofs.Spelling.{named_spelled, name_passes, names_spelled, without_types, head_spelled}
+use Rattle.pddl_syntax.specs.declared.expected.Expected.TheVariants as expected
+use Rattle.pddl_syntax.specs.declared.types.Action.{Action}
+use Rattle.pddl_syntax.specs.declared.types.Domain.{Domain}
+use Rattle.pddl_syntax.specs.declared.types.Head.{Head}
+use Rattle.pddl_syntax.specs.declared.types.Typed.{Typed}
+use Rattle.pddl_syntax.specs.Conditions.{condition}
+use Rattle.pddl_syntax.specs.Effects.{effect}
+use Rattle.pddl_syntax.specs.Outcome.{Outcome, Reads, made, every, first, Gives}
+use Rattle.pddl_syntax.specs.Shapes.{unsupported, check_all}
+use Rattle.pddl_syntax.specs.Spelled.{IsSpelled, IsSpelledType, HasSmallCosts, IsWellSpelled}
+use Rattle.pddl_syntax.specs.Values.{names, head, variables}
+use Rattle.pddl_syntax.proofs.Given.{own_reads, made_reads, both_reads, refused_never, pairs_have, nothing_has, every_has, fold_has, first_passes, unless_empty, given_has}
+use Rattle.pddl_syntax.proofs.Numbers.{HasSmall, nothing_small, effect_small}
+use Rattle.pddl_syntax.proofs.Sections.{section_has, sections_have}
+use Rattle.pddl_syntax.proofs.Spelling.{named_spelled, name_passes, names_spelled, without_types, head_spelled}
 use Rattle.domain_parser.specs.declared.action.ActionKey.TheVariants as action_keys
 use Rattle.domain_parser.specs.declared.action.ActionPart.TheVariants.{Parameters, Precondition, Effect}
 use Rattle.domain_parser.specs.declared.domain.DomainKey.TheVariants as keys

@@ -4,7 +4,7 @@ pub use Rattle.domain_parser.specs.declared.action.ActionKey.{ActionKey}
 pub use Rattle.domain_parser.specs.declared.action.ActionPart.{ActionPart}
 pub use Rattle.domain_parser.specs.declared.domain.DomainKey.{DomainKey}
 pub use Rattle.domain_parser.specs.declared.domain.DomainSection.{DomainSection}
-pub use Rattle.pddl_parser.specs.Reading.{check_file, title, section, sections}
+pub use Rattle.pddl_syntax.specs.Reading.{check_file, title, section, sections}
 use Rattle.std.specs.Prelude.{ℕ, Bool, true, false, ◌&&◌, List, [], ◌∷◌, ◌++◌, Option, Some, None, Result, Ok, Err, codes, if◌then◌else◌}
 use Rattle.std.specs.List.{fold}
 use Rattle.lists.specs.Members.{is_among}
@@ -17,19 +17,19 @@ use Rattle.domain_parser.specs.declared.action.ActionKey.TheVariants as keys
 use Rattle.domain_parser.specs.declared.action.ActionPart.TheVariants as parts
 use Rattle.domain_parser.specs.declared.domain.DomainKey.TheVariants as domain_keys
 use Rattle.domain_parser.specs.declared.domain.DomainSection.TheVariants as domain
-use Rattle.pddl_parser.specs.declared.expected.Expected.TheVariants as expected
-use Rattle.pddl_parser.specs.declared.types.Action.{Action}
-use Rattle.pddl_parser.specs.declared.types.Condition.TheVariants.{True}
-use Rattle.pddl_parser.specs.declared.types.Derived.{Derived}
-use Rattle.pddl_parser.specs.declared.types.Domain.{Domain}
-use Rattle.pddl_parser.specs.declared.types.Effect.TheVariants.{Nothing}
-use Rattle.pddl_parser.specs.declared.types.Head.{Head}
-use Rattle.pddl_parser.specs.Conditions.{condition}
-use Rattle.pddl_parser.specs.Effects.{effect}
-use Rattle.pddl_parser.specs.Outcome.{Reading, Reads, made, both, own, refused, every}
-use Rattle.pddl_parser.specs.Shapes.{Check, passes, next, unsupported, repeated, are_alike, malformed, check_exact, check_member, check_all}
-use Rattle.pddl_parser.specs.Values.{named, names, head, variables}
-use Rattle.pddl_parser.specs.Words.{Name, is_dash, spells, is_word, begins_with_colon}
+use Rattle.pddl_syntax.specs.declared.expected.Expected.TheVariants as expected
+use Rattle.pddl_syntax.specs.declared.types.Action.{Action}
+use Rattle.pddl_syntax.specs.declared.types.Condition.TheVariants.{True}
+use Rattle.pddl_syntax.specs.declared.types.Derived.{Derived}
+use Rattle.pddl_syntax.specs.declared.types.Domain.{Domain}
+use Rattle.pddl_syntax.specs.declared.types.Effect.TheVariants.{Nothing}
+use Rattle.pddl_syntax.specs.declared.types.Head.{Head}
+use Rattle.pddl_syntax.specs.Conditions.{condition}
+use Rattle.pddl_syntax.specs.Effects.{effect}
+use Rattle.pddl_syntax.specs.Outcome.{Reading, Reads, made, both, own, refused, every}
+use Rattle.pddl_syntax.specs.Shapes.{Check, passes, next, unsupported, repeated, are_alike, malformed, check_exact, check_member, check_all}
+use Rattle.pddl_syntax.specs.Values.{named, names, head, variables}
+use Rattle.pddl_syntax.specs.Words.{Name, is_dash, spells, is_word, begins_with_colon}
 
 -- ---- functions
 

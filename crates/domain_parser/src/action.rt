@@ -3,14 +3,14 @@ ghost use Rattle.std.specs.Prelude.{◌≡◌, [], map, IfOk};
 ghost use Rattle.std.specs.List.{fold};
 ghost use Rattle.pddl_lexer.specs.Members.{position, rest, word};
 ghost use Rattle.domain_parser.specs.Reading as spec;
-ghost use Rattle.pddl_parser.specs.Outcome.{Reads, own, first, Gives};
+ghost use Rattle.pddl_syntax.specs.Outcome.{Reads, own, first, Gives};
 
 use lists::List;
 use pddl_lexer::{At, Fault, ShapePlace};
-use pddl_parser::condition::condition;
-use pddl_parser::effect::effect;
-use pddl_parser::values::{head, named, variables};
-use pddl_parser::{
+use pddl_syntax::condition::condition;
+use pddl_syntax::effect::effect;
+use pddl_syntax::values::{head, named, variables};
+use pddl_syntax::{
     Action, Condition, Cursor, Derived, Effect, Expected, ParseEnd, Typed, begins_with_colon,
     check_exact, check_member, is_among, malformed, repeated, spells, unsupported,
 };
@@ -90,7 +90,7 @@ fn check_key_value(key: ActionKey, at: At, cursor: &Cursor<'_>) -> Result<(), Fa
 }
 
 /// Keys in any order, each at most once and with its value.
-#[tactic(auto, using(crate::proofs::Keys::keys_none, crate::proofs::Keys::keys_fault, crate::proofs::Keys::value_fault, crate::proofs::Keys::value_passes, pddl_parser::proofs::Rows::fewer, pddl_parser::proofs::Rows::fewer_after_two))]
+#[tactic(auto, using(crate::proofs::Keys::keys_none, crate::proofs::Keys::keys_fault, crate::proofs::Keys::value_fault, crate::proofs::Keys::value_passes, pddl_syntax::proofs::Rows::fewer, pddl_syntax::proofs::Rows::fewer_after_two))]
 fn check_keys(alloc: Global, members: &Cursor<'_>) -> Result<(), ParseEnd>
     ensures { Gives result (first (own (spec.check_keys [] members.now) (Reads tt))) }
 {
@@ -117,7 +117,7 @@ fn check_action(alloc: Global, at: At, members: &Cursor<'_>) -> Result<(), Parse
 }
 
 /// The key here, with its value.
-#[tactic(auto, using(pddl_parser::proofs::Readings::first_made))]
+#[tactic(auto, using(pddl_syntax::proofs::Readings::first_made))]
 fn part(alloc: Global, cursor: &Cursor<'_>) -> Result<ActionPart, ParseEnd>
     ensures { Gives result (first (spec.part (spec.action_key (word cursor.now)) (rest cursor.now))) }
 {
@@ -131,7 +131,7 @@ fn part(alloc: Global, cursor: &Cursor<'_>) -> Result<ActionPart, ParseEnd>
 }
 
 /// The keys with their values, in order.
-#[tactic(auto, using(crate::proofs::Keys::parts_turn, crate::proofs::Keys::parts_fails, crate::proofs::Keys::parts_list, crate::proofs::Keys::parts_ended, pddl_parser::proofs::Rows::begun, pddl_parser::proofs::Rows::fewer))]
+#[tactic(auto, using(crate::proofs::Keys::parts_turn, crate::proofs::Keys::parts_fails, crate::proofs::Keys::parts_list, crate::proofs::Keys::parts_ended, pddl_syntax::proofs::Rows::begun, pddl_syntax::proofs::Rows::fewer))]
 fn parts(alloc: Global, members: &Cursor<'_>) -> Result<List<ActionPart>, ParseEnd>
     ensures { Gives result (first (spec.action_parts members.now)) }
 {
@@ -187,7 +187,7 @@ fn bare_action(alloc: Global, at: At, members: &Cursor<'_>) -> Result<Action, Al
 }
 
 /// An action, by the members after `:action`. It stands at this position.
-#[tactic(auto, using(pddl_parser::proofs::Readings::first_made), unfolding(crate::specs::Reading::action))]
+#[tactic(auto, using(pddl_syntax::proofs::Readings::first_made), unfolding(crate::specs::Reading::action))]
 pub(crate) fn action(alloc: Global, at: At, members: &Cursor<'_>) -> Result<Action, ParseEnd>
     ensures { Gives result (first (spec.action at members.now)) }
 {
@@ -198,7 +198,7 @@ pub(crate) fn action(alloc: Global, at: At, members: &Cursor<'_>) -> Result<Acti
 }
 
 /// An axiom, by the members after `:derived`. It stands at this position.
-#[tactic(auto, using(pddl_parser::proofs::Readings::first_both))]
+#[tactic(auto, using(pddl_syntax::proofs::Readings::first_both))]
 pub(crate) fn derived(alloc: Global, at: At, members: &Cursor<'_>) -> Result<Derived, ParseEnd>
     ensures { Gives result (first (spec.derived at members.now)) }
 {

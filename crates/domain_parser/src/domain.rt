@@ -1,16 +1,16 @@
 // Domain files.
 ghost use Rattle.std.specs.Prelude.{◌≡◌, [], map, IfOk};
 ghost use Rattle.std.specs.List.{fold};
-ghost use Rattle.pddl_parser.specs.Outcome.{first, Gives};
+ghost use Rattle.pddl_syntax.specs.Outcome.{first, Gives};
 ghost use Rattle.domain_parser.specs.Reading as spec;
-ghost use Rattle.pddl_parser.specs.Spelled.{IsWellSpelled};
+ghost use Rattle.pddl_syntax.specs.Spelled.{IsWellSpelled};
 
 use crate::action::{action, derived};
 use crate::function::{functions, predicates};
 use lists::List;
 use pddl_lexer::{At, ShapePlace, Tree};
-use pddl_parser::values::names;
-use pddl_parser::{
+use pddl_syntax::values::names;
+use pddl_syntax::{
     Action, Cursor, Derived, Domain, Expected, Head, ParseEnd, Typed, begins_with_colon, check_all,
     check_file, check_title, is_repeated, malformed, repeated, spells, unsupported,
 };
@@ -63,7 +63,7 @@ enum DomainSection {
 }
 
 /// The section of this sort, by the members after its first. It stands at this position.
-#[tactic(auto, using(pddl_parser::proofs::Readings::first_made), unfolding(crate::specs::Reading::domain_section_of))]
+#[tactic(auto, using(pddl_syntax::proofs::Readings::first_made), unfolding(crate::specs::Reading::domain_section_of))]
 fn section_of(
     alloc: Global,
     key: DomainKey,
@@ -149,7 +149,7 @@ fn of_sections(alloc: Global, sections: List<DomainSection>) -> Result<Domain, A
 }
 
 /// The sections among the members.
-#[tactic(auto, using(pddl_parser::proofs::Rows::begun, pddl_parser::proofs::Rows::fewer))]
+#[tactic(auto, using(pddl_syntax::proofs::Rows::begun, pddl_syntax::proofs::Rows::fewer))]
 fn sections(alloc: Global, members: &Cursor<'_>) -> Result<List<DomainSection>, ParseEnd>
     ensures { Gives result (first (spec.sections spec.domain_section [] members.now)) }
 {
@@ -179,7 +179,7 @@ pub fn parse_domain(alloc: Global, tree: &Tree<'_>) -> Result<Domain, ParseEnd>
     read(alloc, tree)
 }
 
-#[tactic(auto, using(pddl_parser::proofs::Readings::first_made, pddl_parser::proofs::Readings::first_titled), unfolding(crate::specs::Reading::domain_reading))]
+#[tactic(auto, using(pddl_syntax::proofs::Readings::first_made, pddl_syntax::proofs::Readings::first_titled), unfolding(crate::specs::Reading::domain_reading))]
 fn read(alloc: Global, tree: &Tree<'_>) -> Result<Domain, ParseEnd>
     ensures { Gives result (first (spec.domain_reading tree.now)) }
 {

@@ -1,20 +1,20 @@
 // The heads of predicates and functions.
 ghost use Rattle.std.specs.Prelude.{◌≡◌, false};
 ghost use Rattle.domain_parser.specs.Reading as spec;
-ghost use Rattle.pddl_parser.specs.Outcome.{every, first, own, Gives};
-ghost use Rattle.pddl_parser.specs.Values.{head};
-ghost use Rattle.pddl_parser.specs.Shapes.{check_all};
+ghost use Rattle.pddl_syntax.specs.Outcome.{every, first, own, Gives};
+ghost use Rattle.pddl_syntax.specs.Values.{head};
+ghost use Rattle.pddl_syntax.specs.Shapes.{check_all};
 ghost use Rattle.pddl_lexer.specs.declared.fault.ShapePlace.TheVariants as places;
-ghost use Rattle.pddl_parser.specs.declared.expected.Expected.TheVariants as expected;
+ghost use Rattle.pddl_syntax.specs.declared.expected.Expected.TheVariants as expected;
 
 use lists::List;
 use pddl_lexer::{At, Fault, ShapePlace};
-use pddl_parser::values::head;
-use pddl_parser::{Cursor, Expected, Head, ParseEnd, check_all, is_dash, malformed, unsupported};
+use pddl_syntax::values::head;
+use pddl_syntax::{Cursor, Expected, Head, ParseEnd, check_all, is_dash, malformed, unsupported};
 use std::alloc::Global;
 
 /// The heads of predicates.
-#[tactic(auto, using(pddl_parser::proofs::Rows::turn, pddl_parser::proofs::Rows::fails, pddl_parser::proofs::Rows::ended, pddl_parser::proofs::Rows::begun, pddl_parser::proofs::Rows::fewer))]
+#[tactic(auto, using(pddl_syntax::proofs::Rows::turn, pddl_syntax::proofs::Rows::fails, pddl_syntax::proofs::Rows::ended, pddl_syntax::proofs::Rows::begun, pddl_syntax::proofs::Rows::fewer))]
 pub(crate) fn predicates(alloc: Global, members: &Cursor<'_>) -> Result<List<Head>, ParseEnd>
     ensures { Gives result (first (own (check_all (expected.List places.Head) members.now) (every head members.now))) }
 {
@@ -44,7 +44,7 @@ fn check_number_type(at: At, cursor: &Cursor<'_>) -> Result<(), Fault>
 }
 
 /// Heads, directly after any of which `- number` may stand, in a section at this position.
-#[tactic(auto, using(crate::proofs::Keys::functions_none, crate::proofs::Keys::functions_list, crate::proofs::Keys::functions_dash, crate::proofs::Keys::functions_word, pddl_parser::proofs::Rows::fewer, pddl_parser::proofs::Rows::fewer_after_two))]
+#[tactic(auto, using(crate::proofs::Keys::functions_none, crate::proofs::Keys::functions_list, crate::proofs::Keys::functions_dash, crate::proofs::Keys::functions_word, pddl_syntax::proofs::Rows::fewer, pddl_syntax::proofs::Rows::fewer_after_two))]
 pub(crate) fn check_functions(at: At, members: &Cursor<'_>) -> Result<(), Fault>
     ensures { result ≡ spec.check_functions at false members.now }
 {
@@ -67,7 +67,7 @@ pub(crate) fn check_functions(at: At, members: &Cursor<'_>) -> Result<(), Fault>
 }
 
 /// The heads of functions, in a section at this position.
-#[tactic(auto, using(crate::proofs::Keys::heads_turn, crate::proofs::Keys::heads_fails, crate::proofs::Keys::heads_word, crate::proofs::Keys::heads_ended, pddl_parser::proofs::Rows::begun, pddl_parser::proofs::Rows::fewer))]
+#[tactic(auto, using(crate::proofs::Keys::heads_turn, crate::proofs::Keys::heads_fails, crate::proofs::Keys::heads_word, crate::proofs::Keys::heads_ended, pddl_syntax::proofs::Rows::begun, pddl_syntax::proofs::Rows::fewer))]
 pub(crate) fn functions(alloc: Global, at: At, members: &Cursor<'_>) -> Result<List<Head>, ParseEnd>
     ensures { Gives result (first (own (spec.check_functions at false members.now) (spec.heads members.now))) }
 {

@@ -3,9 +3,9 @@
 ghost use Rattle.std.specs.Prelude.{◌≡◌};
 ghost use Rattle.domain_parser.specs.Reading.{domain_reading};
 ghost use Rattle.pddl_lexer.specs.Members.{Members};
-ghost use Rattle.pddl_parser.specs.Outcome.{Reads};
-ghost use Rattle.pddl_parser.specs.Spelled.{IsWellSpelled};
-ghost use Rattle.pddl_parser.specs.declared.types.Domain.{Domain};
+ghost use Rattle.pddl_syntax.specs.Outcome.{Reads};
+ghost use Rattle.pddl_syntax.specs.Spelled.{IsWellSpelled};
+ghost use Rattle.pddl_syntax.specs.declared.types.Domain.{Domain};
 
 /// A domain that is read is well spelled: what it declares has a name, lowered, and no number in it is too large.
 pub fn domains_are_spelled()

@@ -14,14 +14,14 @@ use Rattle.indexmap.specs.IndexMap as tables
 use Rattle.indexmap.specs.IndexSet as sets
 use Rattle.indexmap.proofs.CallerLemmas.{insert_entry-new}
 use Rattle.pddl_lexer.specs.declared.position.At.{At}
-use Rattle.pddl_parser.specs.declared.types.Atom.{Atom}
-use Rattle.pddl_parser.specs.declared.types.Init.{Init}
-use Rattle.pddl_parser.specs.declared.types.Init.TheVariants.{Holds, HoldsNot, Value}
-use Rattle.pddl_parser.specs.Words.{Name, is_same}
-use Rattle.pddl_parser.specs.Holds.{GroundAtom, is_same_atom, ground}
-use Rattle.pddl_parser.specs.Plan.{is_stated}
-use Rattle.pddl_parser.specs.Step.{value_in}
-use Rattle.pddl_parser.proofs.SameAtoms.{same_atom}
+use Rattle.pddl_syntax.specs.declared.types.Atom.{Atom}
+use Rattle.pddl_syntax.specs.declared.types.Init.{Init}
+use Rattle.pddl_syntax.specs.declared.types.Init.TheVariants.{Holds, HoldsNot, Value}
+use Rattle.pddl_syntax.specs.Words.{Name, is_same}
+use Rattle.pddl_syntax.specs.Holds.{GroundAtom, is_same_atom, ground}
+use Rattle.pddl_syntax.specs.Plan.{is_stated}
+use Rattle.pddl_syntax.specs.Step.{value_in}
+use Rattle.pddl_syntax.proofs.SameAtoms.{same_atom}
 use Rattle.fault_positions.specs.AtomTables.{names_of, Key, names_in, is_key_of, HasStated, HasValues}
 use Rattle.fault_positions.specs.Initial.{denied_position}
 use Rattle.fault_positions.specs.Positions.{earliest}

@@ -2,10 +2,10 @@
 use Rattle.std.proofs.Common.{◌≡◌, ℕ, ◌+◌, ◌<◌, Bool, true, false, List, [], ◌∷◌, ◌++◌, map, take, length, get_or, sym, ap, ◌∙◌}
 use Rattle.std.proofs.lemmas.List.{take_more, map-append}
 use Rattle.pddl_lexer.specs.declared.position.At.{At}
-use Rattle.pddl_parser.specs.declared.types.Condition.{Condition}
-use Rattle.pddl_parser.specs.declared.types.Condition.TheVariants.{Imply, Forall, Exists}
-use Rattle.pddl_parser.specs.declared.types.Typed.{Typed}
-use Rattle.pddl_parser.proofs.ConditionCases.{fold-Imply, fold-Forall, fold-Exists}
+use Rattle.pddl_syntax.specs.declared.types.Condition.{Condition}
+use Rattle.pddl_syntax.specs.declared.types.Condition.TheVariants.{Imply, Forall, Exists}
+use Rattle.pddl_syntax.specs.declared.types.Typed.{Typed}
+use Rattle.pddl_syntax.proofs.ConditionCases.{fold-Imply, fold-Forall, fold-Exists}
 use Rattle.fault_positions.specs.declared.sizes.CappedSize.{CappedSize}
 use Rattle.fault_positions.specs.CappedSizes.{capped, paired_with, listed_with, replaced_at}
 use Rattle.fault_positions.specs.Sizes.{Size, size_step, size_of, paired, listed}

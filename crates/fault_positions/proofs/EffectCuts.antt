@@ -4,11 +4,11 @@ use Rattle.std.specs.Prelude.{min}
 use Rattle.std.specs.List.{flat_map}
 use Rattle.std.proofs.lemmas.List.Folds.{flat_map-map}
 use Rattle.pddl_lexer.specs.declared.position.At.{At}
-use Rattle.pddl_parser.specs.declared.types.Condition.{Condition}
-use Rattle.pddl_parser.specs.declared.types.Effect.{Effect}
-use Rattle.pddl_parser.specs.declared.types.Effect.TheVariants.{When}
-use Rattle.pddl_parser.proofs.ConditionCases.{Each}
-use Rattle.pddl_parser.proofs.EffectCases.{effect_by_cases, fold-Nothing, fold-Add, fold-Delete, fold-And, fold-When, fold-Forall, fold-Increase}
+use Rattle.pddl_syntax.specs.declared.types.Condition.{Condition}
+use Rattle.pddl_syntax.specs.declared.types.Effect.{Effect}
+use Rattle.pddl_syntax.specs.declared.types.Effect.TheVariants.{When}
+use Rattle.pddl_syntax.proofs.ConditionCases.{Each}
+use Rattle.pddl_syntax.proofs.EffectCases.{effect_by_cases, fold-Nothing, fold-Add, fold-Delete, fold-And, fold-When, fold-Forall, fold-Increase}
 use Rattle.fault_positions.specs.declared.sizes.CappedSize.{CappedSize}
 use Rattle.fault_positions.specs.CappedSizes.{cap, capped, of_parts, paired_with, first_at}
 use Rattle.fault_positions.specs.Positions.{earlier, earliest}

@@ -6,13 +6,13 @@ use Rattle.std.proofs.Math.Bool.{or-false}
 use Rattle.std.proofs.lemmas.List.{append-nil, take_more}
 use Rattle.std.proofs.lemmas.List.Folds.{list_any-append}
 use Rattle.pddl_lexer.specs.declared.position.At.{At}
-use Rattle.pddl_parser.specs.declared.types.Atom.{Atom}
-use Rattle.pddl_parser.specs.declared.types.Init.{Init}
-use Rattle.pddl_parser.specs.declared.types.Init.TheVariants.{Holds, HoldsNot, Value}
-use Rattle.pddl_parser.specs.Holds.{GroundAtom, is_same_atom, ground}
-use Rattle.pddl_parser.specs.Plan.{is_stated}
-use Rattle.pddl_parser.specs.Step.{value_in}
-use Rattle.pddl_parser.proofs.SameAtoms.{same_atom}
+use Rattle.pddl_syntax.specs.declared.types.Atom.{Atom}
+use Rattle.pddl_syntax.specs.declared.types.Init.{Init}
+use Rattle.pddl_syntax.specs.declared.types.Init.TheVariants.{Holds, HoldsNot, Value}
+use Rattle.pddl_syntax.specs.Holds.{GroundAtom, is_same_atom, ground}
+use Rattle.pddl_syntax.specs.Plan.{is_stated}
+use Rattle.pddl_syntax.specs.Step.{value_in}
+use Rattle.pddl_syntax.proofs.SameAtoms.{same_atom}
 use Rattle.fault_positions.specs.Initial.{revalued_position, revalued_after}
 use Rattle.fault_positions.specs.Positions.{earlier, earliest}
 use Rattle.fault_positions.proofs.Earliest.{earliest_append}

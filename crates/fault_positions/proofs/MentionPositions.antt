@@ -5,7 +5,7 @@ use Rattle.std.proofs.lemmas.List.Folds.{flat_map-map}
 use Rattle.std.proofs.lemmas.List.{map-append}
 use Rattle.std.proofs.lemmas.List.Elements.{filter-append}
 use Rattle.pddl_lexer.specs.declared.position.At.{At}
-use Rattle.pddl_parser.specs.declared.types.Named.{Named}
+use Rattle.pddl_syntax.specs.declared.types.Named.{Named}
 use Rattle.fault_positions.specs.declared.mentions.Mention as code
 use Rattle.fault_positions.specs.Positions.{positions_where}
 use Rattle.fault_positions.specs.Mentions.{Mention, Use}

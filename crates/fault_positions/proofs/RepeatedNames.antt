@@ -4,8 +4,8 @@ use Rattle.std.specs.Prelude.{if◌then◌else◌}
 use Rattle.std.specs.List.{list_any}
 use Rattle.std.proofs.lemmas.List.{drop_more}
 use Rattle.pddl_lexer.specs.declared.position.At.{At}
-use Rattle.pddl_parser.specs.declared.types.Named.{Named}
-use Rattle.pddl_parser.specs.Words.{Name, is_same}
+use Rattle.pddl_syntax.specs.declared.types.Named.{Named}
+use Rattle.pddl_syntax.specs.Words.{Name, is_same}
 use Rattle.fault_positions.specs.Positions.{earlier, earliest}
 use Rattle.fault_positions.specs.Names.{repeats_after}
 use Rattle.fault_positions.proofs.Earliest.{earlier_chain, earliest_append}

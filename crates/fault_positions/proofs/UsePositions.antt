@@ -1,7 +1,7 @@
 -- The positions of uses are given use by use.
 use Rattle.std.proofs.Common.{not, ◌&&◌, nat_eq}
-use Rattle.pddl_parser.specs.declared.types.Domain.{Domain}
-use Rattle.pddl_parser.specs.Words.{is_same}
+use Rattle.pddl_syntax.specs.declared.types.Domain.{Domain}
+use Rattle.pddl_syntax.specs.Words.{is_same}
 use Rattle.fault_positions.specs.Increases.{total_cost}
 use Rattle.fault_positions.specs.Names.{is_declared, is_function, has_arity, is_well_used}
 use Rattle.fault_positions.specs.Uses.{undeclared_predicates, wrong_predicates, undeclared_functions, wrong_functions, overfull_totals}

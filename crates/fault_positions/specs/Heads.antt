@@ -2,8 +2,8 @@
 use Rattle.std.specs.Prelude.{◌≡◌, ℕ, Bool, ◌&&◌, ◌==◌, List, length, nat_eq}
 use Rattle.std.specs.Borrow.{Bor}
 use Rattle.std.specs.List.{list_any}
-use Rattle.pddl_parser.specs.declared.types.Head.{Head}
-use Rattle.pddl_parser.specs.Words.{Name, is_same}
+use Rattle.pddl_syntax.specs.declared.types.Head.{Head}
+use Rattle.pddl_syntax.specs.Words.{Name, is_same}
 use Rattle.fault_positions.specs.Names.{is_declared}
 
 -- one of the heads has the name, and so many variables

@@ -3,11 +3,11 @@ pub use Rattle.names.specs.Links.{Link, link, leads, is_on_cycle}
 use Rattle.std.specs.Prelude.{List, [], map, if◌then◌else◌}
 use Rattle.std.specs.List.{filter, flat_map}
 use Rattle.pddl_lexer.specs.declared.position.At.{At}
-use Rattle.pddl_parser.specs.declared.types.Derived.{Derived}
-use Rattle.pddl_parser.specs.declared.types.Domain.{Domain}
-use Rattle.pddl_parser.specs.declared.types.Typed.{Typed}
-use Rattle.pddl_parser.specs.Words.{is_same}
-use Rattle.pddl_parser.specs.Objects.{root}
+use Rattle.pddl_syntax.specs.declared.types.Derived.{Derived}
+use Rattle.pddl_syntax.specs.declared.types.Domain.{Domain}
+use Rattle.pddl_syntax.specs.declared.types.Typed.{Typed}
+use Rattle.pddl_syntax.specs.Words.{is_same}
+use Rattle.pddl_syntax.specs.Objects.{root}
 use Rattle.fault_positions.specs.Mentions.{in_condition, asked_predicates}
 
 -- from a type to its supertypes; `object` has none

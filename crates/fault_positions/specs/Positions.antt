@@ -3,7 +3,7 @@ use Rattle.std.specs.Prelude.{Bool, List, [], ◌∷◌, map, Option, Some, None
 use Rattle.std.specs.List.{filter, reduce}
 use Rattle.pddl_lexer.specs.declared.position.At.{At}
 use Rattle.pddl_lexer.specs.Positions.{is_not_after, earlier_of}
-use Rattle.pddl_parser.specs.declared.types.Named.{Named}
+use Rattle.pddl_syntax.specs.declared.types.Named.{Named}
 
 -- the positions of the names that pass the test
 abbrev pub positions_where : (Named → Bool) → List Named → List At

@@ -1,9 +1,9 @@
 // Arguments that name no object, and derived predicates that an effect or `:init` writes.
 ghost use Rattle.std.specs.Prelude.{◌≡◌, ◌||◌, IfOk, OnOk};
 ghost use Rattle.std.specs.List.{flat_map, list_any};
-ghost use Rattle.pddl_parser.specs.Holds.{is_derived};
-ghost use Rattle.pddl_parser.specs.Objects.{objects};
-ghost use Rattle.pddl_parser.specs.Words.{Name, is_same};
+ghost use Rattle.pddl_syntax.specs.Holds.{is_derived};
+ghost use Rattle.pddl_syntax.specs.Objects.{objects};
+ghost use Rattle.pddl_syntax.specs.Words.{Name, is_same};
 ghost use Rattle.fault_positions.specs.Arguments.{is_listed};
 ghost use Rattle.fault_positions.specs.Positions.{earliest, positions_where};
 ghost use Rattle.fault_positions.specs.Mentioned.{AreMentioned};
@@ -16,7 +16,7 @@ use crate::mentions::Mention;
 use crate::positions::{FirstPositions, earlier, first_of};
 use names::Names;
 use pddl_lexer::At;
-use pddl_parser::{Domain, Problem, Term, Typed};
+use pddl_syntax::{Domain, Problem, Term, Typed};
 use std::alloc::{AllocError, Global};
 use std::marker::Model;
 
@@ -32,11 +32,11 @@ struct Objects<'a> {
 
 impl<'a> Model for Objects<'a> {
     ghost use Rattle.std.specs.Coded.{coded×};
-    ghost use Rattle.pddl_parser.specs.contracts.types.Domain as domains;
-    ghost use Rattle.pddl_parser.specs.contracts.types.Problem as problems;
-    ghost use Rattle.pddl_parser.specs.declared.types.Domain.{Domain};
-    ghost use Rattle.pddl_parser.specs.declared.types.Problem.{Problem};
-    ghost use Rattle.pddl_parser.specs.Objects.{objects};
+    ghost use Rattle.pddl_syntax.specs.contracts.types.Domain as domains;
+    ghost use Rattle.pddl_syntax.specs.contracts.types.Problem as problems;
+    ghost use Rattle.pddl_syntax.specs.declared.types.Domain.{Domain};
+    ghost use Rattle.pddl_syntax.specs.declared.types.Problem.{Problem};
+    ghost use Rattle.pddl_syntax.specs.Objects.{objects};
     ghost use Rattle.fault_positions.specs.Arguments.{is_listed, AreThose};
 
     ghost Value = { Domain × Problem };
@@ -145,9 +145,9 @@ struct DerivedNames<'a> {
 }
 
 impl<'a> Model for DerivedNames<'a> {
-    ghost use Rattle.pddl_parser.specs.contracts.types.Domain as domains;
-    ghost use Rattle.pddl_parser.specs.declared.types.Domain.{Domain};
-    ghost use Rattle.pddl_parser.specs.Holds.{is_derived};
+    ghost use Rattle.pddl_syntax.specs.contracts.types.Domain as domains;
+    ghost use Rattle.pddl_syntax.specs.declared.types.Domain.{Domain};
+    ghost use Rattle.pddl_syntax.specs.Holds.{is_derived};
     ghost use Rattle.fault_positions.specs.Arguments.{AreThose};
 
     ghost Value = { Domain };

@@ -1,7 +1,7 @@
 // Types that are on a cycle of supertypes.
 ghost use Rattle.std.specs.Prelude.{◌≡◌, ◌++◌, map, IfOk, OnOk};
 ghost use Rattle.std.specs.List.{filter, list_any};
-ghost use Rattle.pddl_parser.specs.Words.{is_same};
+ghost use Rattle.pddl_syntax.specs.Words.{is_same};
 ghost use Rattle.names.specs.Links.{link};
 ghost use Rattle.fault_positions.specs.Positions.{earliest};
 ghost use Rattle.fault_positions.specs.Links as spec;
@@ -9,7 +9,7 @@ ghost use Rattle.fault_positions.specs.Links as spec;
 use crate::positions::earlier;
 use names::{Links, Names};
 use pddl_lexer::At;
-use pddl_parser::{Domain, Named, Typed};
+use pddl_syntax::{Domain, Named, Typed};
 use std::alloc::{AllocError, Global};
 
 /// The first position of a declaration of a type that is on a cycle of supertypes.

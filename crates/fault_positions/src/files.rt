@@ -1,7 +1,7 @@
 // A domain and a problem, with what the checks of their names look through.
 use crate::heads::Signature;
 use crate::mentions::Mention;
-use pddl_parser::{Domain, Problem};
+use pddl_syntax::{Domain, Problem};
 
 /// A domain and a problem, what each of them mentions, and the table of what is declared.
 #[derive(Clone, Copy)]

@@ -7,7 +7,7 @@ ghost use Rattle.fault_positions.specs.Names.{is_declared};
 
 use indexmap::IndexSet;
 use names::Names;
-use pddl_parser::{Domain, Head};
+use pddl_syntax::{Domain, Head};
 use std::alloc::{AllocError, Global};
 use std::marker::Model;
 
@@ -31,7 +31,7 @@ impl Drop for Heads<'_> {
 
 impl<'a> Model for Heads<'a> {
     ghost use Rattle.std.specs.Prelude.{List};
-    ghost use Rattle.pddl_parser.specs.declared.types.Head.{Head};
+    ghost use Rattle.pddl_syntax.specs.declared.types.Head.{Head};
     ghost use Rattle.fault_positions.specs.Heads.{Know};
 
     ghost Value = { List Head };
@@ -117,8 +117,8 @@ impl Drop for Signature<'_> {
 
 impl<'a> Model for Signature<'a> {
     ghost use Rattle.std.specs.Prelude.{◌≡◌};
-    ghost use Rattle.pddl_parser.specs.contracts.types.Domain as domains;
-    ghost use Rattle.pddl_parser.specs.declared.types.Domain.{Domain};
+    ghost use Rattle.pddl_syntax.specs.contracts.types.Domain as domains;
+    ghost use Rattle.pddl_syntax.specs.declared.types.Domain.{Domain};
 
     ghost Value = { Domain };
 

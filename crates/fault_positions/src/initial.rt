@@ -1,7 +1,7 @@
 // Entries of `:init` that contradict others.
 ghost use Rattle.std.specs.Prelude.{◌≡◌, List, ◌∷◌, [], ◌++◌, IfOk, OnOk};
-ghost use Rattle.pddl_parser.specs.declared.types.Init.{Init as Entry};
-ghost use Rattle.pddl_parser.specs.Holds.{object_of, ground};
+ghost use Rattle.pddl_syntax.specs.declared.types.Init.{Init as Entry};
+ghost use Rattle.pddl_syntax.specs.Holds.{object_of, ground};
 ghost use Rattle.fault_positions.specs.AtomTables.{names_of, names_in, HasStated, HasValues};
 ghost use Rattle.fault_positions.specs.Initial as spec;
 ghost use Rattle.fault_positions.specs.Positions.{earliest};
@@ -9,7 +9,7 @@ ghost use Rattle.fault_positions.specs.Positions.{earliest};
 use crate::positions::{earlier, try_first_of};
 use indexmap::{IndexMap, IndexSet};
 use pddl_lexer::At;
-use pddl_parser::{Atom, Init, Problem, Term};
+use pddl_syntax::{Atom, Init, Problem, Term};
 use std::alloc::{AllocError, Global};
 
 /// A ground atom in tables: the name of its predicate, and then those of its objects.

@@ -4,7 +4,7 @@ ghost use Rattle.std.specs.List.{flat_map};
 ghost use Rattle.fault_positions.specs.Mentions as spec;
 ghost use Rattle.fault_positions.specs.Seen.{seen, all_seen};
 
-use pddl_parser::{
+use pddl_syntax::{
     Action, Atom, Condition, Cost, Derived, Domain, Effect, Head, Init, Problem, Term, Typed,
 };
 use std::alloc::{AllocError, Global};

@@ -1,7 +1,7 @@
 // Derived predicates that depend on themselves.
 ghost use Rattle.std.specs.Prelude.{◌≡◌, ◌++◌, map, IfOk, OnOk};
 ghost use Rattle.std.specs.List.{filter, flat_map, list_any};
-ghost use Rattle.pddl_parser.specs.Words.{is_same};
+ghost use Rattle.pddl_syntax.specs.Words.{is_same};
 ghost use Rattle.names.specs.Links.{link};
 ghost use Rattle.fault_positions.specs.Positions.{earliest};
 ghost use Rattle.fault_positions.specs.Links as spec;
@@ -12,7 +12,7 @@ use crate::mentions::{Mention, mentions_in_condition};
 use crate::positions::earlier;
 use names::{Links, Names};
 use pddl_lexer::At;
-use pddl_parser::{Derived, Domain};
+use pddl_syntax::{Derived, Domain};
 use std::alloc::{AllocError, Global};
 
 /// The first position of an axiom whose predicate depends on itself.

@@ -3,8 +3,8 @@ ghost use Rattle.std.specs.Prelude.{◌≡◌, ◌||◌, ◌∷◌, [], map, IfO
 ghost use Rattle.std.specs.Borrow.{Bor};
 ghost use Rattle.std.specs.Fn.{FnReturnsAt};
 ghost use Rattle.std.specs.List.{list_any};
-ghost use Rattle.pddl_parser.specs.declared.types.Named.{Named as Place};
-ghost use Rattle.pddl_parser.specs.Words.{Name, is_same};
+ghost use Rattle.pddl_syntax.specs.declared.types.Named.{Named as Place};
+ghost use Rattle.pddl_syntax.specs.Words.{Name, is_same};
 ghost use Rattle.fault_positions.specs.Positions.{earliest};
 ghost use Rattle.fault_positions.specs.Names as spec;
 ghost use Rattle.fault_positions.specs.Seen.{all_seen};
@@ -13,7 +13,7 @@ use crate::mentions::Mention;
 use crate::positions::{earlier, try_first_of};
 use names::Names;
 use pddl_lexer::At;
-use pddl_parser::{Action, Head, Named, Typed};
+use pddl_syntax::{Action, Head, Named, Typed};
 use std::alloc::{AllocError, Global};
 
 /// The names of the list.

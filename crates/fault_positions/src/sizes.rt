@@ -8,7 +8,7 @@ ghost use Rattle.fault_positions.specs.Sizes as spec;
 use crate::files::Files;
 use crate::positions::{FirstPositions, earlier, first_of};
 use pddl_lexer::At;
-use pddl_parser::{Action, Condition, Derived, Domain, Effect, Problem};
+use pddl_syntax::{Action, Condition, Derived, Domain, Effect, Problem};
 
 /// The most parts that a condition may have.
 const MOST_PARTS: u64 = 4096;

@@ -1,7 +1,7 @@
 // Types that no entry of `:types` names.
 ghost use Rattle.std.specs.Prelude.{◌≡◌, ◌||◌, ◌++◌, not, IfOk, OnOk};
 ghost use Rattle.std.specs.List.{list_any, flat_map};
-ghost use Rattle.pddl_parser.specs.Words.{Name, is_same};
+ghost use Rattle.pddl_syntax.specs.Words.{Name, is_same};
 ghost use Rattle.fault_positions.specs.Positions.{positions_where, earliest};
 ghost use Rattle.fault_positions.specs.Mentioned.{AreMentioned};
 ghost use Rattle.fault_positions.specs.Mentions.{listed_variables};
@@ -13,7 +13,7 @@ use crate::mentions::Mention;
 use crate::positions::{FirstPositions, earlier, first_of};
 use names::Names;
 use pddl_lexer::At;
-use pddl_parser::{Domain, Named, Typed};
+use pddl_syntax::{Domain, Named, Typed};
 use std::alloc::{AllocError, Global};
 
 /// The first positions with an unknown type.

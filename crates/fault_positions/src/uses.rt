@@ -1,7 +1,7 @@
 // Predicates and functions that are used without a declaration, or with another number of arguments.
 ghost use Rattle.std.specs.Prelude.{◌≡◌, ◌∷◌, []};
 ghost use Rattle.std.specs.List.{flat_map};
-ghost use Rattle.pddl_parser.specs.Words.{is_same};
+ghost use Rattle.pddl_syntax.specs.Words.{is_same};
 ghost use Rattle.fault_positions.specs.Increases.{total_cost};
 ghost use Rattle.fault_positions.specs.Positions.{earliest};
 ghost use Rattle.fault_positions.specs.Mentioned.{AreMentioned};
@@ -15,7 +15,7 @@ use crate::heads::Signature;
 use crate::mentions::Mention;
 use crate::positions::{FirstPositions, earlier, first_of};
 use pddl_lexer::At;
-use pddl_parser::{Atom, Domain, Head, Named};
+use pddl_syntax::{Atom, Domain, Head, Named};
 
 /// A predicate or a function with so many arguments.
 #[derive(Clone, Copy)]

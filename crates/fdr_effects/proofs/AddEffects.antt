@@ -10,8 +10,8 @@ use Rattle.std.proofs.lemmas.List.Elements.{filter-append}
 use Rattle.std.proofs.lemmas.List.Kept.{AllPairs-filter}
 use Rattle.lists.specs.Members.{is_among}
 use Rattle.sas_task.specs.declared.parts.Pair.{Pair}
-use Rattle.static_matcher.specs.declared.types.Cond.{Cond}
-use Rattle.relaxed_reach.specs.declared.types.ReachedEffect.{ReachedEffect}
+use Rattle.ground_task.specs.declared.types.Cond.{Cond}
+use Rattle.reached_task.specs.declared.types.ReachedEffect.{ReachedEffect}
 use Rattle.fdr_effects.specs.declared.rivals.Rival.{Rival}
 use Rattle.sas_task.specs.Pairs.{pair}
 use Rattle.fdr_effects.specs.Places.{Cover, set_of, places, stands_in}

@@ -6,7 +6,7 @@ use Rattle.std.proofs.lemmas.Bool.{cases_lt}
 use Rattle.std.proofs.lemmas.List.Kept.{IsStrictlyIncreasing-filter}
 use Rattle.sas_task.specs.declared.parts.Pair.{Pair}
 use Rattle.lists.proofs.Members.{flat_map_member, all_from_members, map_member, member_single}
-use Rattle.static_matcher.specs.declared.types.Cond.{Cond}
+use Rattle.ground_task.specs.declared.types.Cond.{Cond}
 use Rattle.sas_task.specs.Pairs.{pair}
 use Rattle.fdr_effects.specs.Places.{Cover}
 use Rattle.fdr_effects.specs.Split.{is_looked_at, values_left, combinations, split}

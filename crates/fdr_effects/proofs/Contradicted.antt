@@ -7,7 +7,7 @@ use Rattle.std.proofs.lemmas.Bool.{and_from, and_parts, or_cases, or_left, or_ri
 use Rattle.std.proofs.lemmas.List.Elements.{Contains-append_cases, Contains-append_left, Contains-append_right}
 use Rattle.lists.proofs.Members.{no_member, member_first, member_later, member_cases, member_single, member_filter, filter_member, member_range, any_member, member_any, all_pass, each_passes, filter_none, flat_map_member}
 use Rattle.sas_task.specs.declared.parts.Pair.{Pair}
-use Rattle.static_matcher.specs.declared.types.Cond.{Cond}
+use Rattle.ground_task.specs.declared.types.Cond.{Cond}
 use Rattle.fdr_effects.specs.declared.literals.Literal.{Literal}
 use Rattle.fdr_effects.specs.Effects.{both, is_true, is_false}
 use Rattle.sas_task.specs.Pairs.{pair}

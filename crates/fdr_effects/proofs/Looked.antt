@@ -9,7 +9,7 @@ use Rattle.std.proofs.lemmas.List.Kept.{IsStrictlyIncreasing-filter}
 use Rattle.sas_task.specs.declared.parts.Pair.{Pair}
 use Rattle.lists.proofs.Items.{filter_no}
 use Rattle.lists.proofs.Members.{member_first, member_range, member_filter, filter_member, any_member, member_any}
-use Rattle.static_matcher.specs.declared.types.Cond.{Cond}
+use Rattle.ground_task.specs.declared.types.Cond.{Cond}
 use Rattle.fdr_effects.specs.Places.{Cover, places, first_place, stands_in}
 use Rattle.fdr_effects.specs.Split.{is_looked_at, values_left, combinations, split}
 use Rattle.fdr_effects.proofs.Placed.{place_is, stands_below}

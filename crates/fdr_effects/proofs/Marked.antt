@@ -13,7 +13,7 @@ use Rattle.std.proofs.lemmas.List.Kept.{IsStrictlyIncreasing-filter, Contains-de
 use Rattle.lists.proofs.Items.{any_flat_map, all_flat_map}
 use Rattle.sas_task.specs.declared.parts.Pair.{Pair}
 use Rattle.lists.proofs.Members.{member_first, member_range, filter_every, filter_none, flat_map_member, all_from_members, map_member, member_filter, filter_member, any_member, member_any, member_single}
-use Rattle.static_matcher.specs.declared.types.Cond.{Cond}
+use Rattle.ground_task.specs.declared.types.Cond.{Cond}
 use Rattle.sas_task.specs.Pairs.{pair}
 use Rattle.fdr_effects.specs.Places.{Cover, set_of, places, first_place, last_value}
 use Rattle.fdr_effects.specs.Split.{is_looked_at, is_left, values_left}

@@ -12,7 +12,7 @@ use Rattle.lists.proofs.Items.{any_map, filter_yes, filter_no}
 use Rattle.lists.proofs.Ordered.{pairs_head, pairs_tail}
 use Rattle.lists.proofs.Members.{no_member, member_first, member_later, member_cases}
 use Rattle.sas_task.specs.declared.parts.Pair.{Pair}
-use Rattle.static_matcher.specs.declared.types.Cond.{Cond}
+use Rattle.ground_task.specs.declared.types.Cond.{Cond}
 use Rattle.sas_task.specs.Pairs.{pair}
 use Rattle.fdr_effects.specs.Places.{Cover, places, first_place, last_value}
 use Rattle.fdr_effects.specs.Split.{split, combinations, values_left, is_looked_at}

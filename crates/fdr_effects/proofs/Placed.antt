@@ -7,11 +7,11 @@ use Rattle.std.proofs.lemmas.Option.{slice_get-get_or}
 use Rattle.lists.specs.Members.{is_among}
 use Rattle.sas_task.specs.declared.parts.Pair.{Pair}
 use Rattle.lists.proofs.Members.{member_range, range_member, member_map, map_member, member_filter, filter_member, any_member, member_any}
-use Rattle.static_matcher.specs.declared.types.Cond.{Cond}
+use Rattle.ground_task.specs.declared.types.Cond.{Cond}
 use Rattle.planning.specs.Task.{State}
 use Rattle.sas_task.specs.Pairs.{pair}
 use Rattle.fdr_effects.specs.Places.{Cover, set_of, places, first_place, stands_in, value_in}
-use Rattle.relaxed_reach.specs.Exclusive.{AtMostOne}
+use Rattle.reached_task.specs.Exclusive.{AtMostOne}
 use Rattle.fdr_effects.proofs.Sets.{has_member, member_has, place_of_true, true_at_place}
 
 -- of each set at most one fact is true in the state

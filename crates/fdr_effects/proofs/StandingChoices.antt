@@ -10,7 +10,7 @@ use Rattle.lists.proofs.Items.{contains_among, filter_no, same_flat_map}
 use Rattle.lists.proofs.Members.{no_member, member_cases, member_single, map_member, any_member, all_pass, filter_none, flat_map_member}
 use Rattle.sas_task.specs.declared.parts.Pair.{Pair}
 use Rattle.sas_task.specs.declared.parts.Effect.{Effect}
-use Rattle.static_matcher.specs.declared.types.Cond.{Cond}
+use Rattle.ground_task.specs.declared.types.Cond.{Cond}
 use Rattle.fdr_effects.specs.declared.literals.Literal.{Literal}
 use Rattle.sas_task.specs.Pairs.{pair}
 use Rattle.fdr_effects.specs.Places.{Cover, last_value}

@@ -3,8 +3,8 @@ use Rattle.std.specs.Prelude.{ℕ, ◌&&◌, List, [], ◌∷◌, ◌++◌, map,
 use Rattle.std.specs.List.{filter, flat_map}
 use Rattle.sas_task.specs.declared.parts.Pair.{Pair}
 use Rattle.sas_task.specs.declared.parts.Effect.{Effect}
-use Rattle.static_matcher.specs.declared.types.Cond.{Cond}
-use Rattle.relaxed_reach.specs.declared.types.ReachedEffect.{ReachedEffect}
+use Rattle.ground_task.specs.declared.types.Cond.{Cond}
+use Rattle.reached_task.specs.declared.types.ReachedEffect.{ReachedEffect}
 use Rattle.sas_task.specs.Pairs.{pair}
 use Rattle.fdr_effects.specs.Places.{Cover, places, stands_in, last_value}
 use Rattle.fdr_effects.specs.Split.{split}

@@ -1,8 +1,8 @@
 -- Words of the code: the add effects of an action, gathered by variable.
 use Rattle.std.specs.Prelude.{◌≡◌, ℕ, Bool, ◌==◌, ◌&&◌, List, [], map, length, if◌then◌else◌}
 use Rattle.std.specs.List.{filter}
-use Rattle.static_matcher.specs.declared.types.Cond.{Cond}
-use Rattle.relaxed_reach.specs.declared.types.ReachedEffect.{ReachedEffect}
+use Rattle.ground_task.specs.declared.types.Cond.{Cond}
+use Rattle.reached_task.specs.declared.types.ReachedEffect.{ReachedEffect}
 use Rattle.fdr_effects.specs.declared.rivals.Rival.{Rival}
 use Rattle.fdr_effects.specs.Places.{Cover, places}
 use Rattle.fdr_effects.specs.Effects.{rivals}

@@ -3,7 +3,7 @@ use Rattle.std.specs.Prelude.{ℕ, ◌+◌, Bool, true, false, ◌==◌, ◌&&�
 use Rattle.std.specs.List.{list_any, list_all, filter, flat_map, range_with_len}
 use Rattle.std.specs.Option.{option_map_or}
 use Rattle.sas_task.specs.declared.parts.Pair.{Pair}
-use Rattle.static_matcher.specs.declared.types.Cond.{Cond}
+use Rattle.ground_task.specs.declared.types.Cond.{Cond}
 use Rattle.sas_task.specs.Pairs.{pair}
 use Rattle.fdr_effects.specs.Places.{Cover, places, first_place, stands_in, last_value}
 

@@ -7,7 +7,7 @@ use Rattle.std.specs.Option.{option_map_or}
 use Rattle.sas_task.specs.declared.parts.Pair.{Pair}
 use Rattle.sas_task.specs.declared.parts.Effect.{Effect}
 use Rattle.sas_task.specs.Pairs.{pair}
-use Rattle.static_matcher.specs.declared.types.Cond.{Cond}
+use Rattle.ground_task.specs.declared.types.Cond.{Cond}
 use Rattle.fdr_effects.specs.declared.literals.Literal.{Literal}
 use Rattle.fdr_effects.specs.Places.{Cover, places, first_place, last_value}
 use Rattle.fdr_effects.specs.Effects.{both, no_literals, is_true, is_false, sets_where, negated_choices}

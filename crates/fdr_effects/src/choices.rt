@@ -2,7 +2,7 @@
 
 ghost use Rattle.std.specs.Prelude.{◌≡◌, ℕ, ◌++◌, ◌∷◌, [], not, map, IfOk, OnOk};
 ghost use Rattle.std.specs.List.{filter, flat_map};
-ghost use Rattle.static_matcher.specs.declared.types.Cond.{Cond as Literals};
+ghost use Rattle.ground_task.specs.declared.types.Cond.{Cond as Literals};
 ghost use Rattle.fdr_effects.specs.Rivals.{conditions};
 ghost use Rattle.fdr_effects.specs.Standing.{AreForced, alone, forced_by, is_alone, rules_out, standing, turned};
 ghost use Rattle.fdr_effects.specs.Effects as words;
@@ -10,8 +10,8 @@ ghost use Rattle.fdr_effects.specs.Effects as words;
 use crate::index::Index;
 use crate::literals::{Literal, Marked, can_stand};
 use crate::rivals::Rival;
+use ground_task::Cond;
 use lists::List;
-use static_matcher::Cond;
 use std::alloc::{AllocError, Global};
 
 /// The numbers of both slices.

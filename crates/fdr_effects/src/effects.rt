@@ -3,7 +3,7 @@
 ghost use Rattle.std.specs.Prelude.{◌≡◌, ◌++◌, ◌||◌, List as Items, map, IfOk, OnOk, if◌then◌else◌};
 ghost use Rattle.std.specs.List.{list_any};
 ghost use Rattle.std.specs.List.Sorted.{IsNonDecreasingBy};
-ghost use Rattle.relaxed_reach.specs.declared.types.ReachedEffect.{ReachedEffect as Row};
+ghost use Rattle.reached_task.specs.declared.types.ReachedEffect.{ReachedEffect as Row};
 ghost use Rattle.sas_task.specs.Pairs.{pair};
 ghost use Rattle.fdr_effects.specs.Places.{last_value};
 ghost use Rattle.fdr_effects.specs.Effects as words;
@@ -16,10 +16,10 @@ use crate::literals::Marked;
 use crate::on::on;
 use crate::rivals::{Rival, rivals};
 use crate::splits::split;
+use ground_task::Cond;
 use lists::List;
-use relaxed_reach::ReachedEffect;
+use reached_task::ReachedEffect;
 use sas_task::{Effect, Pair};
-use static_matcher::Cond;
 use std::alloc::{AllocError, Global};
 
 /// An effect for each member.

@@ -7,8 +7,8 @@ ghost use Rattle.fdr_effects.specs.Standing as words;
 use crate::index::Index;
 use crate::on::on;
 use crate::splits::by_variable;
+use ground_task::Cond;
 use sas_task::Pair;
-use static_matcher::Cond;
 use std::alloc::{AllocError, Global};
 use std::marker::Model;
 

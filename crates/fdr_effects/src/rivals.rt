@@ -8,9 +8,9 @@ ghost use Rattle.fdr_effects.specs.Rivals as words;
 
 use crate::index::Index;
 use crate::on::OnVariable;
-use relaxed_reach::ReachedEffect;
+use ground_task::Cond;
+use reached_task::ReachedEffect;
 use sas_task::Pair;
-use static_matcher::Cond;
 use std::alloc::{AllocError, Global};
 
 /// A variable, and the condition of an add effect on a fact of it.

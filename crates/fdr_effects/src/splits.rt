@@ -14,10 +14,10 @@ ghost use Rattle.fdr_effects.specs.Split as words;
 use crate::index::Index;
 use crate::on::on;
 use crate::pools::pool;
+use ground_task::Cond;
 use itertools::{Itertools, MultiProduct};
 use lists::List;
 use sas_task::Pair;
-use static_matcher::Cond;
 use std::alloc::{AllocError, Global};
 
 /// Marks by variable.

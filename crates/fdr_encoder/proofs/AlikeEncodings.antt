@@ -7,15 +7,15 @@ use Rattle.sas_task.specs.declared.parts.Operator.{Operator}
 use Rattle.sas_task.specs.declared.parts.Rule.{Rule}
 use Rattle.sas_task.specs.Task.{Task}
 use Rattle.sas_task.specs.Alike.{IsAlike, HasAlike, AreAlike, RulesAgree}
-use Rattle.static_matcher.specs.declared.types.GoalRow.{GoalRow}
-use Rattle.static_matcher.specs.Literals.{initial}
+use Rattle.ground_task.specs.declared.types.GoalRow.{GoalRow}
+use Rattle.ground_task.specs.Literals.{initial}
 use Rattle.lists.specs.SameMembers.{SameMembers}
 use Rattle.lists.proofs.SameMembers.{mapped, filtered, permuted}
-use Rattle.relaxed_reach.specs.declared.types.Fact.{Fact}
-use Rattle.relaxed_reach.specs.declared.types.Reached.{Reached}
-use Rattle.relaxed_reach.specs.declared.types.ReachedAction.{ReachedAction}
-use Rattle.relaxed_reach.specs.ReachedTask.{reached_task}
-use Rattle.relaxed_reach.specs.Alike.{AreAlike as AreAlikeReached}
+use Rattle.reached_task.specs.declared.types.Fact.{Fact}
+use Rattle.reached_task.specs.declared.types.Reached.{Reached}
+use Rattle.reached_task.specs.declared.types.ReachedAction.{ReachedAction}
+use Rattle.reached_task.specs.ReachedTask.{reached_task}
+use Rattle.reached_task.specs.Alike.{AreAlike as AreAlikeReached}
 use Rattle.fdr_effects.specs.Places.{Cover, values_in}
 use Rattle.fdr_encoder.specs.Encoding.{variable_over, rules_at, goal_part_of, IsSameOperator, IsEncoding}
 use Rattle.fdr_effects.specs.Groups.{group_of, groups_of}

@@ -6,10 +6,10 @@ use Rattle.std.proofs.lemmas.Bool.{both_ways, cases_eq, cases_lt}
 use Rattle.std.proofs.lemmas.List.Elements.{All-contains, All-from_get_or, Contains-get_or}
 use Rattle.std.proofs.lemmas.List.FromFn.{length-map-range_with_len, get_or-map-range_with_len}
 use Rattle.lists.proofs.Members.{no_member, member_first, filter_every, all_from_members, member_single}
-use Rattle.relaxed_reach.specs.declared.types.Reached.{Reached}
-use Rattle.relaxed_reach.specs.ReachedTask.{is_derived}
+use Rattle.reached_task.specs.declared.types.Reached.{Reached}
+use Rattle.reached_task.specs.ReachedTask.{is_derived}
 use Rattle.fdr_effects.specs.Places.{Cover, set_of}
-use Rattle.relaxed_reach.specs.Exclusive.{IsExclusive}
+use Rattle.reached_task.specs.Exclusive.{IsExclusive}
 use Rattle.fdr_encoder.specs.Covers.{singles, IsGroupCover, MakesVariables, IsBasicGroup}
 use Rattle.group_cover.specs.Cover.{IsCover, AreParts, uncovered, single, is_covered}
 use Rattle.group_cover.proofs.Parts.{covers_all, share_as_groups, lie_inside, are_filled, are_sorted, are_facts}

@@ -4,10 +4,10 @@ use Rattle.std.specs.Prelude.{fold}
 use Rattle.std.specs.List.{Contains, range_with_len}
 use Rattle.std.proofs.lemmas.Bool.{cases_Bool, cond-true, cond-false}
 use Rattle.lists.proofs.Members.{range_member, member_first, member_later}
-use Rattle.relaxed_reach.specs.declared.types.Reached.{Reached}
-use Rattle.relaxed_reach.specs.ReachedTask.{is_derived}
-use Rattle.relaxed_reach.specs.Layers.{AreLayers}
-use Rattle.relaxed_reach.proofs.OneLayers.{small_layers}
+use Rattle.reached_task.specs.declared.types.Reached.{Reached}
+use Rattle.reached_task.specs.ReachedTask.{is_derived}
+use Rattle.reached_task.specs.Layers.{AreLayers}
+use Rattle.reached_task.proofs.OneLayers.{small_layers}
 use Rattle.fdr_encoder.specs.Encoding.{layer_above}
 
 -- a fold by max stays within a bound of what each member gives

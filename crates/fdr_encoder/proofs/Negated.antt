@@ -5,8 +5,8 @@ use Rattle.std.proofs.lemmas.Bool.{and_parts, and_from, and_cases, not-true, not
 use Rattle.std.proofs.lemmas.List.Elements.{Contains-append_left, Contains-append_right, Contains-append_cases}
 use Rattle.std.proofs.lemmas.List.Folds.{list_all-append}
 use Rattle.lists.proofs.Members.{no_member, member_first, member_later, member_cases, member_flat_map, flat_map_member, all_pass, member_map, map_member, member_single}
-use Rattle.static_matcher.specs.declared.types.Cond.{Cond}
-use Rattle.static_matcher.specs.Literals.{holds}
+use Rattle.ground_task.specs.declared.types.Cond.{Cond}
+use Rattle.ground_task.specs.Literals.{holds}
 use Rattle.planning.specs.Task.{State}
 use Rattle.fdr_effects.specs.Effects.{no_literals, is_true, is_false, both, negations, negated_choices}
 use Rattle.fdr_effects.specs.Places.{Cover}

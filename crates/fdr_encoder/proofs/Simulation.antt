@@ -24,21 +24,21 @@ use Rattle.sas_task.specs.Keeps.{AtMostOne as AtMostOnePair}
 use Rattle.lists.proofs.Members.{flat_map_member, range_member, all_from_members, any_member, member_map, map_member, filter_member}
 use Rattle.sas_task.proofs.Successors.{Lists, Carries, successor_lists, lists_successor, carried_agrees}
 use Rattle.sas_task.proofs.States.{reachable_is_state}
-use Rattle.static_matcher.specs.Literals.{ActionRow, LiteralTask, holds, initial, meaning}
+use Rattle.ground_task.specs.Literals.{ActionRow, LiteralTask, holds, initial, meaning}
 use Rattle.planning.specs.Task.{State, IsFull, Takes, TakesBusy, IsIdle, successor}
 use Rattle.planning.specs.Plan.{IsReachable, MeetsGoal, system as plans, busy_system}
-use Rattle.relaxed_reach.specs.declared.types.Reached.{Reached}
-use Rattle.relaxed_reach.specs.declared.types.ReachedAction.{ReachedAction}
-use Rattle.relaxed_reach.specs.declared.types.ReachedEffect.{ReachedEffect}
-use Rattle.relaxed_reach.specs.ReachedTask.{is_derived, action_row, reached_task}
+use Rattle.reached_task.specs.declared.types.Reached.{Reached}
+use Rattle.reached_task.specs.declared.types.ReachedAction.{ReachedAction}
+use Rattle.reached_task.specs.declared.types.ReachedEffect.{ReachedEffect}
+use Rattle.reached_task.specs.ReachedTask.{is_derived, action_row, reached_task}
 use Rattle.sas_task.specs.Pairs.{pair}
 use Rattle.fdr_effects.specs.Places.{Cover, set_of, first_place, last_value, value_in}
 use Rattle.fdr_effects.specs.Effects.{effects_of}
 use Rattle.fdr_encoder.specs.Operators.{simplified}
-use Rattle.relaxed_reach.specs.Lawful.{IsLawfulEffect, IsLawfulAction, IsLawful}
+use Rattle.reached_task.specs.Lawful.{IsLawfulEffect, IsLawfulAction, IsLawful}
 use Rattle.fdr_effects.specs.Groups.{is_groups, group_of, groups_of}
 use Rattle.fdr_encoder.specs.Encoding.{IsSameOperator, IsEncoding}
-use Rattle.relaxed_reach.specs.Exclusive.{IsExclusive}
+use Rattle.reached_task.specs.Exclusive.{IsExclusive}
 use Rattle.fdr_encoder.specs.Covers.{MakesVariables, IsBasicGroup}
 use Rattle.fdr_encoder.specs.Simulates.{Shows, Correspond, Simulates}
 use Rattle.fdr_effects.proofs.Sets.{has_member, place_of_true, true_at_place, same_place}

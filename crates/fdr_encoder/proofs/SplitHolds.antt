@@ -7,8 +7,8 @@ use Rattle.std.proofs.lemmas.List.Sums.{prefix_len-le-length}
 use Rattle.sas_task.specs.declared.parts.Pair.{Pair}
 use Rattle.sas_task.specs.Values.{all_hold}
 use Rattle.lists.proofs.Members.{no_member, member_first, member_later, member_cases, member_flat_map, flat_map_member, member_range, range_member, all_pass, each_passes, member_map, map_member, member_filter, filter_member, member_any, member_single}
-use Rattle.static_matcher.specs.declared.types.Cond.{Cond}
-use Rattle.static_matcher.specs.Literals.{holds}
+use Rattle.ground_task.specs.declared.types.Cond.{Cond}
+use Rattle.ground_task.specs.Literals.{holds}
 use Rattle.planning.specs.Task.{State}
 use Rattle.sas_task.specs.Pairs.{pair}
 use Rattle.fdr_effects.specs.Places.{Cover, set_of, places, first_place, stands_in, last_value, value_in}

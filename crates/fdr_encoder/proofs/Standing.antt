@@ -7,15 +7,15 @@ use Rattle.std.proofs.lemmas.List.Elements.{All-contains, Contains-get_or}
 use Rattle.sas_task.specs.declared.parts.Pair.{Pair}
 use Rattle.sas_task.specs.Task.{Task}
 use Rattle.sas_task.specs.Valid.{layer_of}
-use Rattle.static_matcher.specs.declared.types.Cond.{Cond}
-use Rattle.static_matcher.specs.Literals.{initial}
+use Rattle.ground_task.specs.declared.types.Cond.{Cond}
+use Rattle.ground_task.specs.Literals.{initial}
 use Rattle.planning.specs.Task.{State}
-use Rattle.relaxed_reach.specs.declared.types.Reached.{Reached}
-use Rattle.relaxed_reach.specs.declared.types.ReachedAction.{ReachedAction}
-use Rattle.relaxed_reach.specs.declared.types.ReachedAxiom.{ReachedAxiom}
-use Rattle.relaxed_reach.specs.ReachedTask.{is_derived, reached_task}
+use Rattle.reached_task.specs.declared.types.Reached.{Reached}
+use Rattle.reached_task.specs.declared.types.ReachedAction.{ReachedAction}
+use Rattle.reached_task.specs.declared.types.ReachedAxiom.{ReachedAxiom}
+use Rattle.reached_task.specs.ReachedTask.{is_derived, reached_task}
 use Rattle.fdr_effects.specs.Places.{Cover, set_of, places}
-use Rattle.relaxed_reach.specs.Lawful.{NamesFacts, IsLawfulEffect, IsLawfulAction, IsLawfulAxiom, IsLawful}
+use Rattle.reached_task.specs.Lawful.{NamesFacts, IsLawfulEffect, IsLawfulAction, IsLawfulAxiom, IsLawful}
 use Rattle.fdr_encoder.specs.Encoding.{IsEncoding}
 use Rattle.fdr_encoder.specs.Covers.{MakesVariables}
 use Rattle.lists.proofs.Members.{any_member, member_single}

@@ -17,20 +17,20 @@ use Rattle.sas_task.specs.declared.parts.Rule.{Rule}
 use Rattle.sas_task.specs.Task.{Task}
 use Rattle.sas_task.specs.Valid.{IsValid, IsValue, IsFact, AreConditions, IsValidVariable, IsValidGroup, IsValidEffect, IsValidOperator, IsBelow, IsValidRule, layer_of, default_of}
 use Rattle.lists.proofs.Members.{no_member, member_first, member_cases, flat_map_member, member_range, range_member, all_from_members, map_member, filter_member, any_member, member_single}
-use Rattle.static_matcher.specs.declared.types.Cond.{Cond}
-use Rattle.static_matcher.specs.declared.types.GoalRow.{GoalRow}
-use Rattle.static_matcher.specs.declared.types.GoalRow.TheVariants as goals
-use Rattle.static_matcher.specs.Literals.{initial}
-use Rattle.relaxed_reach.specs.declared.types.Reached.{Reached}
-use Rattle.relaxed_reach.specs.declared.types.ReachedAction.{ReachedAction}
-use Rattle.relaxed_reach.specs.ReachedTask.{is_derived, reached_task}
+use Rattle.ground_task.specs.declared.types.Cond.{Cond}
+use Rattle.ground_task.specs.declared.types.GoalRow.{GoalRow}
+use Rattle.ground_task.specs.declared.types.GoalRow.TheVariants as goals
+use Rattle.ground_task.specs.Literals.{initial}
+use Rattle.reached_task.specs.declared.types.Reached.{Reached}
+use Rattle.reached_task.specs.declared.types.ReachedAction.{ReachedAction}
+use Rattle.reached_task.specs.ReachedTask.{is_derived, reached_task}
 use Rattle.sas_task.specs.Pairs.{pair}
 use Rattle.fdr_effects.specs.Places.{Cover, set_of, first_place, stands_in, last_value, value_in}
 use Rattle.fdr_effects.specs.Split.{is_looked_at, split}
 use Rattle.fdr_encoder.specs.Operators.{among, can_go, less_known, less_idle, effects_left, is_of_use, simplified}
 use Rattle.fdr_effects.specs.Effects.{effects_of}
-use Rattle.relaxed_reach.specs.Lawful.{NamesFacts, IsLawfulEffect, IsLawfulAction, IsLawfulGoal, IsLawful}
-use Rattle.relaxed_reach.specs.Layers.{Names, AreLayers}
+use Rattle.reached_task.specs.Lawful.{NamesFacts, IsLawfulEffect, IsLawfulAction, IsLawfulGoal, IsLawful}
+use Rattle.reached_task.specs.Layers.{Names, AreLayers}
 use Rattle.fdr_encoder.specs.Encoding.{variable_over, goal_variable, goal_split, layer_above, rule, GoalPart, IsEncoding}
 use Rattle.fdr_effects.specs.Groups.{group_of, groups_of}
 use Rattle.fdr_encoder.specs.Covers.{MakesVariables, IsBasicGroup}
@@ -39,7 +39,7 @@ use Rattle.fdr_effects.proofs.Placed.{place_is, first, first_in, first_is, stand
 use Rattle.fdr_encoder.proofs.SplitHolds.{combination_pairs, split_pairs}
 use Rattle.fdr_encoder.proofs.OneStep.{effect_from}
 use Rattle.fdr_encoder.proofs.Parts.{RuleFrom, rule_after, in_one, count, count_state, variable_at, layer_at, start_at, last_variable, variable_last, layer_last, start_last, goal_whole, goal_parted, rule_from, operator_from, is_whole, is_parted, part}
-use Rattle.relaxed_reach.proofs.OneLayers.{derived_below}
+use Rattle.reached_task.proofs.OneLayers.{derived_below}
 use Rattle.fdr_encoder.proofs.Standing.{lawful_axiom, value_single, stands, literals_stand, OverBasic, kind, layer_of_basic, starts_plain}
 use Rattle.fdr_effects.proofs.Rising.{rising_filter, two_members}
 use Rattle.fdr_effects.proofs.ByVariable.{member_rises}

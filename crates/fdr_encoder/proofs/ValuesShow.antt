@@ -16,21 +16,21 @@ use Rattle.sas_task.specs.Completion.{Completes}
 use Rattle.lists.proofs.Members.{no_member, member_first, member_later, any_member, member_any, member_map, map_member, member_single}
 use Rattle.sas_task.proofs.Completion.{values_complete, values_only}
 use Rattle.sas_task.proofs.Successors.{Lists}
-use Rattle.static_matcher.specs.declared.types.GoalRow.{GoalRow}
-use Rattle.static_matcher.specs.declared.types.GoalRow.TheVariants as goals
-use Rattle.static_matcher.specs.Literals.{holds, gives, initial, goal_holds, meaning}
+use Rattle.ground_task.specs.declared.types.GoalRow.{GoalRow}
+use Rattle.ground_task.specs.declared.types.GoalRow.TheVariants as goals
+use Rattle.ground_task.specs.Literals.{holds, gives, initial, goal_holds, meaning}
 use Rattle.planning.specs.Task.{State, IsFull}
-use Rattle.relaxed_reach.specs.declared.types.Reached.{Reached}
-use Rattle.relaxed_reach.specs.ReachedTask.{is_derived, axiom_row, reached_task}
+use Rattle.reached_task.specs.declared.types.Reached.{Reached}
+use Rattle.reached_task.specs.ReachedTask.{is_derived, axiom_row, reached_task}
 use Rattle.fdr_effects.specs.Places.{Cover, set_of, value_in}
-use Rattle.relaxed_reach.specs.Lawful.{IsLawfulGoal, IsLawful}
+use Rattle.reached_task.specs.Lawful.{IsLawfulGoal, IsLawful}
 use Rattle.fdr_encoder.specs.Encoding.{rule, goal_split, layer_above, IsEncoding}
 use Rattle.fdr_encoder.specs.Covers.{MakesVariables}
 use Rattle.fdr_encoder.specs.Simulates.{Shows}
 use Rattle.fdr_effects.proofs.Sets.{same_place}
 use Rattle.fdr_effects.proofs.Placed.{AreExclusive, place_in, place_is, place_at, first, first_in}
 use Rattle.fdr_encoder.proofs.SplitHolds.{split_on, split_back}
-use Rattle.relaxed_reach.proofs.OneLayers.{derived_below}
+use Rattle.reached_task.proofs.OneLayers.{derived_below}
 use Rattle.fdr_encoder.proofs.Standing.{lawful_axiom, value_single, stands, literals_stand, OverDerived, only_place, kind, exclusive_full, over_by_layer, basic_by_layer, layer_of_derived, layer_of_basic, starts_plain}
 use Rattle.fdr_encoder.proofs.Parts.{rule_after, in_one, within, start_at, last_variable, last_below, layer_last, start_last, goal_whole, goal_parted, rule_from, axiom_rule, goal_rule}
 

@@ -4,7 +4,7 @@ use Rattle.std.specs.List.{list_any, filter}
 use Rattle.sas_task.specs.declared.parts.Pair.{Pair}
 use Rattle.sas_task.specs.declared.parts.Effect.{Effect}
 use Rattle.sas_task.specs.declared.parts.Operator.{Operator}
-use Rattle.relaxed_reach.specs.declared.types.ReachedAction.{ReachedAction}
+use Rattle.reached_task.specs.declared.types.ReachedAction.{ReachedAction}
 use Rattle.sas_task.specs.Pairs.{pair}
 use Rattle.fdr_effects.specs.Places.{Cover, last_value}
 use Rattle.fdr_effects.specs.Split.{split}

@@ -4,14 +4,14 @@ ghost use Rattle.std.specs.Prelude.{◌≡◌, ℕ, Bool, ◌^◌, ◌<◌, ◌+
 ghost use Rattle.std.specs.List.{flat_map};
 ghost use Rattle.std.specs.List.Sorted.{IsStrictlyIncreasing};
 ghost use Rattle.sas_task.specs.Valid.{IsValid};
-ghost use Rattle.static_matcher.specs.Literals.{initial};
-ghost use Rattle.relaxed_reach.specs.ReachedTask.{reached_task};
+ghost use Rattle.ground_task.specs.Literals.{initial};
+ghost use Rattle.reached_task.specs.ReachedTask.{reached_task};
 ghost use Rattle.fdr_effects.specs.Places.{values_in};
 ghost use Rattle.group_cover.specs.Cover.{IsCover};
 ghost use Rattle.fdr_encoder.specs.Encoding as parts;
 ghost use Rattle.fdr_encoder.specs.GoalForms.{goal_part_in};
-ghost use Rattle.relaxed_reach.specs.Lawful.{IsLawful};
-ghost use Rattle.relaxed_reach.specs.Layers.{AreLayers};
+ghost use Rattle.reached_task.specs.Lawful.{IsLawful};
+ghost use Rattle.reached_task.specs.Layers.{AreLayers};
 ghost use Rattle.fdr_encoder.specs.Covers.{MakesVariables, IsBasicGroup};
 
 use crate::goal::{GoalForm, goal_form};
@@ -22,7 +22,7 @@ use fdr_effects::flags::flags;
 use fdr_effects::groups::groups;
 use group_cover::{Cover, Groups};
 use lists::List;
-use relaxed_reach::Reached;
+use reached_task::Reached;
 use sas_task::{Rule, SasTask, Variable};
 use std::alloc::{AllocError, Global};
 

@@ -6,9 +6,9 @@ ghost use Rattle.fdr_encoder.specs.GoalForms as words;
 
 use crate::operators::push_rules;
 use fdr_effects::{Index, split};
+use ground_task::GoalRow;
 use lists::{List, Text};
 use sas_task::{Pair, Rule, Variable};
-use static_matcher::GoalRow;
 use std::alloc::{AllocError, Global};
 
 /// The form that the goal has in the task.

@@ -3,11 +3,11 @@ use Rattle.std.proofs.Common.{◌≡◌, ℕ, true, false, not, List, sym, ◌�
 use Rattle.std.specs.List.{list_all}
 use Rattle.std.proofs.lemmas.Bool.{and_parts, not-true}
 use Rattle.lists.specs.Members.{is_among}
-use Rattle.pddl_parser.specs.declared.types.Domain.{Domain}
-use Rattle.pddl_parser.specs.declared.types.Problem.{Problem}
-use Rattle.pddl_parser.specs.Words.{is_same}
-use Rattle.pddl_parser.specs.Holds as pddl
-use Rattle.pddl_parser.proofs.SameAtoms.{same_atom as same_pddl_atom}
+use Rattle.pddl_syntax.specs.declared.types.Domain.{Domain}
+use Rattle.pddl_syntax.specs.declared.types.Problem.{Problem}
+use Rattle.pddl_syntax.specs.Words.{is_same}
+use Rattle.pddl_syntax.specs.Holds as pddl
+use Rattle.pddl_syntax.proofs.SameAtoms.{same_atom as same_pddl_atom}
 use Rattle.lists.proofs.Items.{all_passes}
 use Rattle.normal_task.specs.Meaning.{is_same_atom, is_derived}
 use Rattle.normal_task.specs.Normalised.{numbered_atom, normal}

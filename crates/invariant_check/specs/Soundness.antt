@@ -1,11 +1,11 @@
 -- What follows for accepted candidates.
 use Rattle.std.specs.Prelude.{◌≡◌, ℕ, ◌≤◌, Bool, true, not, List, []}
 use Rattle.std.specs.List.{list_all}
-use Rattle.pddl_parser.specs.declared.types.Domain.{Domain}
-use Rattle.pddl_parser.specs.declared.types.Problem.{Problem}
-use Rattle.pddl_parser.specs.Holds as pddl
-use Rattle.pddl_parser.specs.Plan.{pddl_task}
-use Rattle.pddl_parser.specs.Spelled.{IsWellSpelled, IsWellSpelledProblem}
+use Rattle.pddl_syntax.specs.declared.types.Domain.{Domain}
+use Rattle.pddl_syntax.specs.declared.types.Problem.{Problem}
+use Rattle.pddl_syntax.specs.Holds as pddl
+use Rattle.pddl_syntax.specs.Plan.{pddl_task}
+use Rattle.pddl_syntax.specs.Spelled.{IsWellSpelled, IsWellSpelledProblem}
 use Rattle.planning.specs.Plan.{IsReachable}
 use Rattle.type_checker.specs.Faults.{check_faults}
 use Rattle.normal_task.specs.declared.task.Normal.{Normal}

@@ -13,7 +13,7 @@ use Rattle.lists.proofs.LoopSteps.{range_next}
 use Rattle.names.specs.Names.{is_same}
 use Rattle.normal_task.specs.declared.task.GroundAtom.{GroundAtom}
 use Rattle.normal_task.specs.Lawful.{differ}
-use Rattle.relaxed_reach.specs.declared.types.Fact.{Fact}
+use Rattle.reached_task.specs.declared.types.Fact.{Fact}
 use Rattle.contradictions.specs.declared.types.Candidate.{Candidate}
 use Rattle.contradictions.specs.declared.types.Part.{Part}
 use Rattle.contradictions.specs.Candidates.{at_positions, part_covers, covers}

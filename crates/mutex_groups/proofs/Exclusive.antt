@@ -15,17 +15,17 @@ use Rattle.normal_task.specs.declared.task.PredicateRow.{PredicateRow}
 use Rattle.normal_task.specs.Lawful.{IsLawful}
 use Rattle.normal_task.specs.Meaning as normal
 use Rattle.normal_task.specs.Meaning.{is_same_atom, is_derived}
-use Rattle.static_matcher.specs.GroundTask.{ground_task, is_fixed}
-use Rattle.static_matcher.specs.Ranked.{IsRanked}
-use Rattle.static_matcher.proofs.GroundMeaning as ground_law
-use Rattle.static_matcher.proofs.LawfulNormal.{keeps_statics, instances_ranked}
-use Rattle.relaxed_reach.specs.declared.types.Fact.{Fact}
-use Rattle.relaxed_reach.specs.declared.types.Reached.{Reached}
-use Rattle.relaxed_reach.specs.ReachedTask.{atoms_of}
-use Rattle.relaxed_reach.specs.Reachable.{is_among, number_of, fact_of}
-use Rattle.relaxed_reach.proofs.ReachedMeaning as reached_law
-use Rattle.relaxed_reach.proofs.OrderedFacts.{facts_apart}
-use Rattle.relaxed_reach.proofs.Numbers.{place_among, place_is}
+use Rattle.ground_task.specs.GroundTask.{ground_task, is_fixed}
+use Rattle.ground_task.specs.Ranked.{IsRanked}
+use Rattle.ground_task.proofs.GroundMeaning as ground_law
+use Rattle.ground_task.proofs.LawfulNormal.{keeps_statics, instances_ranked}
+use Rattle.reached_task.specs.declared.types.Fact.{Fact}
+use Rattle.reached_task.specs.declared.types.Reached.{Reached}
+use Rattle.reached_task.specs.ReachedTask.{atoms_of}
+use Rattle.reached_task.specs.Reachable.{is_among, number_of, fact_of}
+use Rattle.reached_task.proofs.ReachedMeaning as reached_law
+use Rattle.reached_task.proofs.OrderedFacts.{facts_apart}
+use Rattle.reached_task.proofs.Numbers.{place_among, place_is}
 use Rattle.contradictions.specs.declared.types.Candidate.{Candidate}
 use Rattle.contradictions.specs.declared.types.Part.{Part}
 use Rattle.contradictions.specs.Candidates.{part_covers, covers}
@@ -37,7 +37,7 @@ use Rattle.invariant_check.proofs.FormedParts.{formed_facts}
 use Rattle.invariant_check.proofs.Sound.{invariants_are_sound}
 use Rattle.invariant_check.proofs.Weights.{most_of_weight}
 use Rattle.mutex_groups.specs.Groups.{covers_fact, IsMutexGroup}
-use Rattle.relaxed_reach.specs.Exclusive.{IsExclusive}
+use Rattle.reached_task.specs.Exclusive.{IsExclusive}
 use Rattle.mutex_groups.specs.Laws.{IsReachedOf, GroupsAreExclusive, GroupsAreSorted, GroupsAreFacts, GroupsAreBasic}
 use Rattle.normal_task.proofs.OnceEach.{same_atom, atom_same}
 

@@ -15,15 +15,15 @@ use Rattle.normal_task.specs.declared.task.Normal.{Normal}
 use Rattle.normal_task.specs.declared.task.PredicateRow.{PredicateRow}
 use Rattle.normal_task.specs.Lawful.{IsLawful, is_init, is_object, has_row}
 use Rattle.normal_task.specs.Meaning.{choices}
-use Rattle.relaxed_reach.specs.declared.types.Fact.{Fact}
-use Rattle.relaxed_reach.specs.declared.types.Reached.{Reached}
+use Rattle.reached_task.specs.declared.types.Fact.{Fact}
+use Rattle.reached_task.specs.declared.types.Reached.{Reached}
 use Rattle.contradictions.specs.declared.types.Candidate.{Candidate}
 use Rattle.contradictions.specs.Candidates.{covers}
 use Rattle.candidate_parts.specs.Extensions.{arity_of}
 use Rattle.mutex_groups.specs.declared.tables.Weight.{Weight}
 use Rattle.invariant_check.specs.WellFormed.{is_well_formed}
 use Rattle.mutex_groups.specs.Groups.{covered_facts, IsInstance, IsMutexGroup, AreGroups}
-use Rattle.static_matcher.specs.Buckets.{numbers_in}
+use Rattle.ground_task.specs.Buckets.{numbers_in}
 use Rattle.mutex_groups.specs.Found.{weight_among, parts_differ, instance_of, told, is_one, gives, covers_just, has_group, HoldsWeights, HoldsNumbers, AddsGroup}
 use Rattle.mutex_groups.proofs.Covered.{covers-is, covers-some}
 use Rattle.contradictions.proofs.Covering.{Covering, covering}

@@ -5,7 +5,7 @@ use Rattle.std.specs.Map.{lookup, KeepsOthers}
 use Rattle.names.specs.Names.{is_same}
 use Rattle.names.proofs.SameNames.{same_name}
 use Rattle.mutex_groups.specs.declared.tables.Weight.{Weight}
-use Rattle.static_matcher.proofs.KeyTables.{seen, lookup-seen, after_change}
+use Rattle.ground_task.proofs.KeyTables.{seen, lookup-seen, after_change}
 use Rattle.mutex_groups.specs.Found.{told_more, weight_in}
 
 module _ {Key : Type 0} (held : Key → List ℕ) (instance : List ℕ) (old : List (Key × Weight)) (entries : List (List ℕ × Weight)) (is : seen held (λ w. w) old ≡ entries) where

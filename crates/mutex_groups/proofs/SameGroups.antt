@@ -1,8 +1,8 @@
 -- Which groups there are is fixed by the task, the candidates and the facts.
 use Rattle.std.proofs.Common.{◌≡◌, ℕ, List, sym, ap, ◌∙◌}
 use Rattle.normal_task.specs.declared.task.Normal.{Normal}
-use Rattle.relaxed_reach.specs.declared.types.Fact.{Fact}
-use Rattle.relaxed_reach.specs.declared.types.Reached.{Reached}
+use Rattle.reached_task.specs.declared.types.Fact.{Fact}
+use Rattle.reached_task.specs.declared.types.Reached.{Reached}
 use Rattle.contradictions.specs.declared.types.Candidate.{Candidate}
 use Rattle.mutex_groups.specs.Groups.{covered_facts, IsMutexGroup}
 use Rattle.mutex_groups.specs.Laws.{OneSetOfGroups}

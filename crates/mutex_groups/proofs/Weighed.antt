@@ -11,7 +11,7 @@ use Rattle.normal_task.specs.declared.task.Normal.{Normal}
 use Rattle.normal_task.specs.Lawful.{IsLawful, differ}
 use Rattle.normal_task.specs.Meaning.{is_same_atom, initial}
 use Rattle.normal_task.proofs.OnceEach.{same_atom-swap, same_atom, atom_same}
-use Rattle.static_matcher.proofs.LawfulGround.{differ_filter}
+use Rattle.ground_task.proofs.LawfulGround.{differ_filter}
 use Rattle.contradictions.specs.declared.types.Candidate.{Candidate}
 use Rattle.contradictions.specs.Candidates.{covers, HasWeight}
 use Rattle.mutex_groups.specs.Found.{weight_among}

@@ -6,8 +6,8 @@ use Rattle.std.specs.Option.{option_map, option_map_or}
 use Rattle.names.specs.Names.{is_same}
 use Rattle.normal_task.specs.declared.task.GroundAtom.{GroundAtom}
 use Rattle.normal_task.specs.Lawful.{differ}
-use Rattle.static_matcher.specs.Buckets.{numbers_in}
-use Rattle.relaxed_reach.specs.declared.types.Fact.{Fact}
+use Rattle.ground_task.specs.Buckets.{numbers_in}
+use Rattle.reached_task.specs.declared.types.Fact.{Fact}
 use Rattle.contradictions.specs.declared.types.Candidate.{Candidate}
 use Rattle.contradictions.specs.declared.types.Part.{Part}
 use Rattle.contradictions.specs.Candidates.{at_positions, covers}

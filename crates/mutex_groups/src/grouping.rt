@@ -4,7 +4,7 @@ ghost use Rattle.std.specs.List.{list_any, list_all};
 ghost use Rattle.names.specs.Names.{is_same};
 ghost use Rattle.normal_task.specs.Lawful.{IsLawful};
 ghost use Rattle.invariant_check.specs.WellFormed.{is_well_formed};
-ghost use Rattle.relaxed_reach.specs.declared.types.Fact.{Fact as ReachedFact};
+ghost use Rattle.reached_task.specs.declared.types.Fact.{Fact as ReachedFact};
 ghost use Rattle.mutex_groups.specs.Groups.{AreGroups};
 ghost use Rattle.mutex_groups.specs.Laws.{AreExclusive};
 ghost use Rattle.mutex_groups.specs.Found.{parts_differ, AddsGroup, HoldsNumbers, HoldsWeights, covers_just, has_group};
@@ -12,11 +12,11 @@ ghost use Rattle.mutex_groups.specs.Found.{parts_differ, AddsGroup, HoldsNumbers
 use crate::instances::{instance_of, members, weights};
 use crate::tables::Weights;
 use contradictions::Candidate;
+use ground_task::Buckets;
 use group_cover::Groups;
 use normal_task::{GroundAtom, Normal};
 use number_lists::NumberLists;
-use relaxed_reach::{Fact, Reached};
-use static_matcher::Buckets;
+use reached_task::{Fact, Reached};
 use std::alloc::{AllocError, Global};
 
 /// Adds the facts that the instance covers, if it weighs one.

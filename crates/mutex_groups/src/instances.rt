@@ -3,15 +3,15 @@ ghost use Rattle.std.specs.Prelude.{◌≡◌, ◌++◌, ◌∷◌, [], ℕ, Lis
 ghost use Rattle.std.specs.List.{find};
 ghost use Rattle.std.specs.Option.{option_map, option_copied};
 ghost use Rattle.contradictions.specs.Candidates.{at_positions, covers};
-ghost use Rattle.static_matcher.specs.Buckets.{numbers_in};
+ghost use Rattle.ground_task.specs.Buckets.{numbers_in};
 ghost use Rattle.mutex_groups.specs.Found.{parts_differ};
 ghost use Rattle.mutex_groups.specs.Found as spec;
 
 use crate::tables::Weights;
 use contradictions::{Candidate, Part};
+use ground_task::Buckets;
 use normal_task::GroundAtom;
-use relaxed_reach::Fact;
-use static_matcher::Buckets;
+use reached_task::Fact;
 use std::alloc::{AllocError, Global};
 
 /// The objects at the places.

@@ -4,7 +4,7 @@ use Rattle.std.specs.Prelude.{if◌then◌else◌}
 use Rattle.std.specs.Cmp.{nat_eq_equiv}
 use Rattle.std.proofs.lemmas.Cmp.{lists_equiv}
 use Rattle.std.proofs.lemmas.List.{append_assoc}
-use Rattle.pddl_parser.specs.Words.{Name, is_same}
+use Rattle.pddl_syntax.specs.Words.{Name, is_same}
 
 pub same-swap : (a b : Name) → is_same a b ≡ is_same b a
 same-swap a b = (lists_equiv nat_eq_equiv).symm a b

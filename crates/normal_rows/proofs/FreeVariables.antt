@@ -3,7 +3,7 @@ use Rattle.std.proofs.Common.{◌≡◌, ℕ, ◌+◌, ◌<◌, Bool, true, fals
 use Rattle.std.specs.Prelude.{reverse, if◌then◌else◌}
 use Rattle.std.specs.List.{list_any}
 use Rattle.std.proofs.lemmas.List.{take_more, append-nil, append_assoc, reverse-append}
-use Rattle.pddl_parser.specs.Words.{Name, is_same}
+use Rattle.pddl_syntax.specs.Words.{Name, is_same}
 use Rattle.normal_rows.specs.Asked.{asks}
 use Rattle.normal_task.specs.Parts.{Slot, Scope, slots_for}
 use Rattle.normal_rows.proofs.FreeNames.{same-swap}

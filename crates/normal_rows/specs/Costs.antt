@@ -1,9 +1,9 @@
 -- What actions cost.
 use Rattle.std.specs.Prelude.{List, [], ◌∷◌, Option, Some, None, if◌then◌else◌}
-use Rattle.pddl_parser.specs.declared.types.Action.{Action}
-use Rattle.pddl_parser.specs.declared.types.Domain.{Domain}
-use Rattle.pddl_parser.specs.declared.types.Problem.{Problem}
-use Rattle.pddl_parser.specs.Step.{increases}
+use Rattle.pddl_syntax.specs.declared.types.Action.{Action}
+use Rattle.pddl_syntax.specs.declared.types.Domain.{Domain}
+use Rattle.pddl_syntax.specs.declared.types.Problem.{Problem}
+use Rattle.pddl_syntax.specs.Step.{increases}
 use Rattle.normal_task.specs.declared.task.CostRow.{CostRow}
 use Rattle.normal_task.specs.declared.task.CostRow.TheVariants as costs
 use Rattle.normal_task.specs.Normalised.{increase_row}

@@ -1,11 +1,11 @@
 -- The names of free variables.
 use Rattle.std.specs.Prelude.{◌≡◌, Bool, List, not, ◌&&◌, ◌||◌}
 use Rattle.std.specs.List.{list_any}
-use Rattle.pddl_parser.specs.declared.types.Condition.{Condition}
-use Rattle.pddl_parser.specs.declared.types.Domain.{Domain}
-use Rattle.pddl_parser.specs.declared.types.Problem.{Problem}
-use Rattle.pddl_parser.specs.declared.types.Typed.{Typed}
-use Rattle.pddl_parser.specs.Words.{Name, is_same}
+use Rattle.pddl_syntax.specs.declared.types.Condition.{Condition}
+use Rattle.pddl_syntax.specs.declared.types.Domain.{Domain}
+use Rattle.pddl_syntax.specs.declared.types.Problem.{Problem}
+use Rattle.pddl_syntax.specs.declared.types.Typed.{Typed}
+use Rattle.pddl_syntax.specs.Words.{Name, is_same}
 use Rattle.normal_task.specs.Parts.{known, is_listed}
 
 -- the names are those of before, and those that the test asks for, but for the bound ones

@@ -7,7 +7,7 @@ use crate::parts::with_variables;
 use lists::List;
 use normal_task::{ObjectRange, Part};
 use numbering::Numbering;
-use pddl_parser::Typed;
+use pddl_syntax::Typed;
 use std::alloc::{AllocError, Global};
 
 /// The parts behind some variables more.

@@ -1,13 +1,13 @@
 // The free variables of conditions.
 ghost use Rattle.std.specs.Prelude.{◌≡◌, ◌||◌, ◌&&◌, length, map, not, take, IfOk, OnOk};
 ghost use Rattle.std.specs.List.{list_any};
-ghost use Rattle.pddl_parser.specs.Words.{Name, is_same};
+ghost use Rattle.pddl_syntax.specs.Words.{Name, is_same};
 ghost use Rattle.normal_rows.specs.Free.{AddsUnbound, is_wanted};
 ghost use Rattle.normal_task.specs.Parts as spec;
 
 use names::Names;
 use numbering::Numbering;
-use pddl_parser::{Condition, Term, Typed};
+use pddl_syntax::{Condition, Term, Typed};
 use std::alloc::{AllocError, Global};
 
 /// The variables that are free inside the list of variables, found in one walk.

@@ -2,14 +2,14 @@
 ghost use Rattle.std.specs.Prelude.{◌≡◌, map, IfOk};
 ghost use Rattle.std.specs.List.{flat_map};
 ghost use Rattle.std.specs.Option.{option_map};
-ghost use Rattle.pddl_parser.specs.Step.{increases};
+ghost use Rattle.pddl_syntax.specs.Step.{increases};
 ghost use Rattle.normal_rows.specs.Costs.{first, cost_of};
 ghost use Rattle.normal_task.specs.Normalised as spec;
 
 use crate::scope::{Scope, places_of};
 use normal_task::CostRow;
 use numbering::Numbering;
-use pddl_parser::{Action, Cost, Effect};
+use pddl_syntax::{Action, Cost, Effect};
 use std::alloc::{AllocError, Global};
 
 /// By how much the first increase of the effect increases the cost.

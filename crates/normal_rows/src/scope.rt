@@ -8,7 +8,7 @@ use indexmap::IndexMap;
 use lists::{List, checked_sum};
 use normal_task::Place;
 use numbering::Numbering;
-use pddl_parser::{Term, Typed};
+use pddl_syntax::{Term, Typed};
 use std::alloc::{AllocError, Global};
 use std::marker::Model;
 

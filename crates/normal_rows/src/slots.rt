@@ -1,7 +1,7 @@
 // The variables in scope that a quantified condition asks for.
 ghost use Rattle.std.specs.Prelude.{◌≡◌, ◌++◌, ◌∷◌, ◌||◌, [], map, reverse, IfOk, OnOk, if◌then◌else◌};
 ghost use Rattle.std.specs.List.{list_any};
-ghost use Rattle.pddl_parser.specs.Words.{Name, is_same};
+ghost use Rattle.pddl_syntax.specs.Words.{Name, is_same};
 ghost use Rattle.normal_rows.specs.Asked.{asks};
 ghost use Rattle.normal_task.specs.declared.task.Place.TheVariants as place;
 ghost use Rattle.normal_task.specs.Parts as spec;
@@ -13,7 +13,7 @@ use lists::List;
 use names::Names;
 use normal_task::{ObjectRange, Place};
 use numbering::Numbering;
-use pddl_parser::{Condition, Typed};
+use pddl_syntax::{Condition, Typed};
 use std::alloc::{AllocError, Global};
 
 /// Adds the variable, if it is free and no inner one, of which there are these names, hides it.

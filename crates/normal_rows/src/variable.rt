@@ -4,7 +4,7 @@ ghost use Rattle.normal_task.specs.Numbers.{range_of};
 
 use normal_task::ObjectRange;
 use numbering::Numbering;
-use pddl_parser::Typed;
+use pddl_syntax::Typed;
 use std::alloc::{AllocError, Global};
 use std::marker::Model;
 

@@ -1,14 +1,14 @@
 -- What the parts of a condition and of its new predicates ask for: predicates that the condition asks for, and new ones of the condition's own that are numbered behind.
 use Rattle.std.proofs.Common.{◌≡◌, ℕ, suc, ◌+◌, ◌<◌, ◌≤◌, Bool, true, false, List, [], ◌∷◌, ◌++◌, map, length, refl, sym, subst, arith, inl, inr, ◌⊎◌}
 use Rattle.std.specs.List.{flat_map}
-use Rattle.pddl_parser.specs.declared.types.Condition.{Condition}
-use Rattle.pddl_parser.specs.declared.types.Domain.{Domain}
-use Rattle.pddl_parser.specs.declared.types.Effect.{Effect}
-use Rattle.pddl_parser.specs.declared.types.Named.{Named}
-use Rattle.pddl_parser.specs.declared.types.Problem.{Problem}
-use Rattle.pddl_parser.specs.declared.types.Typed.{Typed}
-use Rattle.pddl_parser.specs.Words.{Name}
-use Rattle.pddl_parser.proofs.ConditionCases.{Each}
+use Rattle.pddl_syntax.specs.declared.types.Condition.{Condition}
+use Rattle.pddl_syntax.specs.declared.types.Domain.{Domain}
+use Rattle.pddl_syntax.specs.declared.types.Effect.{Effect}
+use Rattle.pddl_syntax.specs.declared.types.Named.{Named}
+use Rattle.pddl_syntax.specs.declared.types.Problem.{Problem}
+use Rattle.pddl_syntax.specs.declared.types.Typed.{Typed}
+use Rattle.pddl_syntax.specs.Words.{Name}
+use Rattle.pddl_syntax.proofs.ConditionCases.{Each}
 use Rattle.fault_positions.specs.Mentions.{Mention, Asked, asked_predicates, in_condition, in_effect, effect_step}
 use Rattle.lists.proofs.Items.{Among, among_left, among_right, among_which, map_source, flat_map_piece}
 use Rattle.normal_task.specs.declared.task.Literal.{Literal}

@@ -6,15 +6,15 @@ use Rattle.planning.specs.Task.{IsIdle, changed, successor}
 use Rattle.planning.specs.Same.{SameRuns, IdleWhereFollowed, MeansTheSame}
 use Rattle.planning.proofs.SameRuns.{means_the_same}
 use Rattle.lists.proofs.Items.{among_contains}
-use Rattle.pddl_parser.specs.declared.types.Action.{Action}
-use Rattle.pddl_parser.specs.declared.types.Domain.{Domain}
-use Rattle.pddl_parser.specs.declared.types.Problem.{Problem}
-use Rattle.pddl_parser.specs.Words.{Name}
-use Rattle.pddl_parser.specs.Objects as pddl
-use Rattle.pddl_parser.specs.Holds as holds
-use Rattle.pddl_parser.specs.Step as step
-use Rattle.pddl_parser.specs.Plan.{pddl_task}
-use Rattle.pddl_parser.proofs.Steps.{is_step}
+use Rattle.pddl_syntax.specs.declared.types.Action.{Action}
+use Rattle.pddl_syntax.specs.declared.types.Domain.{Domain}
+use Rattle.pddl_syntax.specs.declared.types.Problem.{Problem}
+use Rattle.pddl_syntax.specs.Words.{Name}
+use Rattle.pddl_syntax.specs.Objects as pddl
+use Rattle.pddl_syntax.specs.Holds as holds
+use Rattle.pddl_syntax.specs.Step as step
+use Rattle.pddl_syntax.specs.Plan.{pddl_task}
+use Rattle.pddl_syntax.proofs.Steps.{is_step}
 use Rattle.fault_positions.specs.Mentions.{in_condition, in_effect, in_action}
 use Rattle.fault_positions.specs.Scopes as scopes
 use Rattle.type_checker.proofs.NoFaults.{right_empty}

@@ -1,10 +1,10 @@
 -- The law, for a pair without check faults.
 use Rattle.std.proofs.Common.{◌≡◌, []}
-use Rattle.pddl_parser.specs.declared.types.Domain.{Domain}
-use Rattle.pddl_parser.specs.declared.types.Problem.{Problem}
+use Rattle.pddl_syntax.specs.declared.types.Domain.{Domain}
+use Rattle.pddl_syntax.specs.declared.types.Problem.{Problem}
 use Rattle.type_checker.specs.Faults.{check_faults}
 use Rattle.planning.specs.Same.{MeansTheSame}
-use Rattle.pddl_parser.specs.Plan.{pddl_task}
+use Rattle.pddl_syntax.specs.Plan.{pddl_task}
 use Rattle.normal_task.specs.Meaning.{normal_task}
 use Rattle.normal_task.specs.Normalised.{normal}
 use Rattle.normal_task.specs.Same.{Shows}

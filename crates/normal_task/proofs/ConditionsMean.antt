@@ -10,17 +10,17 @@ use Rattle.std.proofs.lemmas.Cmp.{nat_list_eq_equiv}
 use Rattle.std.proofs.lemmas.List.Folds.{flat_map-map}
 use Rattle.lists.specs.Members.{is_among}
 use Rattle.pddl_lexer.specs.declared.position.At.{At}
-use Rattle.pddl_parser.specs.declared.types.Atom.{Atom}
-use Rattle.pddl_parser.specs.declared.types.Condition.{Condition, Condition-F}
-use Rattle.pddl_parser.specs.declared.types.Domain.{Domain}
-use Rattle.pddl_parser.specs.declared.types.Problem.{Problem}
-use Rattle.pddl_parser.specs.declared.types.Term.{Term}
-use Rattle.pddl_parser.specs.declared.types.Term.TheVariants as terms
-use Rattle.pddl_parser.specs.declared.types.Typed.{Typed}
-use Rattle.pddl_parser.specs.Words.{Name, is_same}
-use Rattle.pddl_parser.specs.Objects as pddl
-use Rattle.pddl_parser.specs.Holds as holds
-use Rattle.pddl_parser.proofs.ConditionCases.{Each}
+use Rattle.pddl_syntax.specs.declared.types.Atom.{Atom}
+use Rattle.pddl_syntax.specs.declared.types.Condition.{Condition, Condition-F}
+use Rattle.pddl_syntax.specs.declared.types.Domain.{Domain}
+use Rattle.pddl_syntax.specs.declared.types.Problem.{Problem}
+use Rattle.pddl_syntax.specs.declared.types.Term.{Term}
+use Rattle.pddl_syntax.specs.declared.types.Term.TheVariants as terms
+use Rattle.pddl_syntax.specs.declared.types.Typed.{Typed}
+use Rattle.pddl_syntax.specs.Words.{Name, is_same}
+use Rattle.pddl_syntax.specs.Objects as pddl
+use Rattle.pddl_syntax.specs.Holds as holds
+use Rattle.pddl_syntax.proofs.ConditionCases.{Each}
 use Rattle.fault_positions.specs.Mentions.{Mention, Asked, Compared, in_condition, condition_step}
 use Rattle.lists.proofs.Items.{Among, same_any, map_source, flat_map_piece, map_flat_map}
 use Rattle.normal_task.specs.declared.task.Literal.TheVariants.{Holds, Equal}
@@ -39,7 +39,7 @@ use Rattle.normal_task.proofs.Fits.{MadeFits, FitsFrom, Fit, InScopes, laws, con
 use Rattle.normal_task.proofs.PartsMean.{some_part, with_variables-met, GivenIn, MeansFrom, EachMeans, in_turn-means, all_of-means}
 use Rattle.normal_task.proofs.ThreeFolds.{by_folds}
 use Rattle.std.proofs.lemmas.Simd.{map-map}
-use Rattle.pddl_parser.proofs.Steps.{name_same}
+use Rattle.pddl_syntax.proofs.Steps.{name_same}
 
 -- ---- numbers of names
 

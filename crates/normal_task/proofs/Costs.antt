@@ -7,21 +7,21 @@ use Rattle.std.proofs.lemmas.Bool.{and_parts, and_from, or_cases, eqb-true, fals
 use Rattle.lists.specs.Members.{is_among}
 use Rattle.pddl_lexer.specs.declared.position.At.{At}
 use Rattle.pddl_lexer.specs.declared.fault.Kind.TheVariants as kinds
-use Rattle.pddl_parser.specs.declared.types.Action.{Action}
-use Rattle.pddl_parser.specs.declared.types.Atom.{Atom}
-use Rattle.pddl_parser.specs.declared.types.Cost.{Cost}
-use Rattle.pddl_parser.specs.declared.types.Cost.TheVariants as pddl_costs
-use Rattle.pddl_parser.specs.declared.types.Domain.{Domain}
-use Rattle.pddl_parser.specs.declared.types.Effect.{Effect, Effect-F}
-use Rattle.pddl_parser.specs.declared.types.Init.{Init}
-use Rattle.pddl_parser.specs.declared.types.Init.TheVariants as inits
-use Rattle.pddl_parser.specs.declared.types.Problem.{Problem}
-use Rattle.pddl_parser.specs.Words.{Name, is_same}
-use Rattle.pddl_parser.specs.Objects as pddl
-use Rattle.pddl_parser.specs.Holds as holds
-use Rattle.pddl_parser.specs.Step as step
-use Rattle.pddl_parser.proofs.ConditionCases.{Each}
-use Rattle.pddl_parser.proofs.SameAtoms.{same_name}
+use Rattle.pddl_syntax.specs.declared.types.Action.{Action}
+use Rattle.pddl_syntax.specs.declared.types.Atom.{Atom}
+use Rattle.pddl_syntax.specs.declared.types.Cost.{Cost}
+use Rattle.pddl_syntax.specs.declared.types.Cost.TheVariants as pddl_costs
+use Rattle.pddl_syntax.specs.declared.types.Domain.{Domain}
+use Rattle.pddl_syntax.specs.declared.types.Effect.{Effect, Effect-F}
+use Rattle.pddl_syntax.specs.declared.types.Init.{Init}
+use Rattle.pddl_syntax.specs.declared.types.Init.TheVariants as inits
+use Rattle.pddl_syntax.specs.declared.types.Problem.{Problem}
+use Rattle.pddl_syntax.specs.Words.{Name, is_same}
+use Rattle.pddl_syntax.specs.Objects as pddl
+use Rattle.pddl_syntax.specs.Holds as holds
+use Rattle.pddl_syntax.specs.Step as step
+use Rattle.pddl_syntax.proofs.ConditionCases.{Each}
+use Rattle.pddl_syntax.proofs.SameAtoms.{same_name}
 use Rattle.fault_positions.specs.Increases as increases
 use Rattle.fault_positions.specs.Increases.{Depth, Outermost, Inner, Increase, total_cost}
 use Rattle.fault_positions.specs.Mentions.{Mention, Function, in_condition, in_effect, effect_step, in_domain, in_init, in_problem}

@@ -3,8 +3,8 @@ use Rattle.std.proofs.Common.{◌≡◌, ℕ, Bool, true, ◌&&◌, List, [], �
 use Rattle.std.specs.Prelude.{nat_le}
 use Rattle.std.specs.List.{list_all, flat_map}
 use Rattle.std.proofs.lemmas.Bool.{and_parts, false≢true}
-use Rattle.pddl_parser.specs.Words.{Name}
-use Rattle.pddl_parser.specs.Step.{shown}
+use Rattle.pddl_syntax.specs.Words.{Name}
+use Rattle.pddl_syntax.specs.Step.{shown}
 use Rattle.normal_task.specs.Lawful.{is_word}
 
 abbrev printable : ℕ → Bool

@@ -4,12 +4,12 @@ use Rattle.std.specs.Prelude.{nat_eq, nat_lt, nat_le, ◌==◌, if◌then◌else
 use Rattle.std.specs.List.{list_all, list_any}
 use Rattle.std.proofs.lemmas.Bool.{and_parts, or_cases, ltb-true, ltb-false, le-ltb, leb-true, false≢true}
 use Rattle.std.proofs.Math.Bool.{or-false}
-use Rattle.pddl_parser.specs.declared.types.Domain.{Domain}
-use Rattle.pddl_parser.specs.declared.types.Problem.{Problem}
+use Rattle.pddl_syntax.specs.declared.types.Domain.{Domain}
+use Rattle.pddl_syntax.specs.declared.types.Problem.{Problem}
 use Rattle.planning.specs.Task.{IsFull}
-use Rattle.pddl_parser.specs.Holds as holds
-use Rattle.pddl_parser.specs.Plan.{pddl_task}
-use Rattle.pddl_parser.proofs.ConditionCases.{Each}
+use Rattle.pddl_syntax.specs.Holds as holds
+use Rattle.pddl_syntax.specs.Plan.{pddl_task}
+use Rattle.pddl_syntax.proofs.ConditionCases.{Each}
 use Rattle.fault_positions.specs.Mentions.{in_condition}
 use Rattle.fault_positions.specs.Scopes as scopes
 use Rattle.lists.proofs.Items.{all_passes, same_any}

@@ -5,15 +5,15 @@ use Rattle.std.specs.List.{list_all, list_any}
 use Rattle.std.specs.Option.{option_map}
 use Rattle.std.proofs.lemmas.Bool.{and_parts, and_from, or_cases, or_left, or_right, ltb-true, leb-true, lt-ltb, le-leb, not-true}
 use Rattle.lists.specs.Members.{is_among}
-use Rattle.pddl_parser.specs.declared.types.Condition.{Condition}
-use Rattle.pddl_parser.specs.declared.types.Domain.{Domain}
-use Rattle.pddl_parser.specs.declared.types.Head.{Head}
-use Rattle.pddl_parser.specs.declared.types.Problem.{Problem}
-use Rattle.pddl_parser.specs.declared.types.Term.{Term}
-use Rattle.pddl_parser.specs.declared.types.Term.TheVariants as terms
-use Rattle.pddl_parser.specs.declared.types.Typed.{Typed}
-use Rattle.pddl_parser.specs.Words.{Name, is_same}
-use Rattle.pddl_parser.proofs.ConditionCases.{Each}
+use Rattle.pddl_syntax.specs.declared.types.Condition.{Condition}
+use Rattle.pddl_syntax.specs.declared.types.Domain.{Domain}
+use Rattle.pddl_syntax.specs.declared.types.Head.{Head}
+use Rattle.pddl_syntax.specs.declared.types.Problem.{Problem}
+use Rattle.pddl_syntax.specs.declared.types.Term.{Term}
+use Rattle.pddl_syntax.specs.declared.types.Term.TheVariants as terms
+use Rattle.pddl_syntax.specs.declared.types.Typed.{Typed}
+use Rattle.pddl_syntax.specs.Words.{Name, is_same}
+use Rattle.pddl_syntax.proofs.ConditionCases.{Each}
 use Rattle.fault_positions.specs.Mentions.{Asked}
 use Rattle.normal_task.specs.declared.task.Literal.{Literal}
 use Rattle.normal_task.specs.declared.task.Literal.TheVariants.{Holds, Equal}
@@ -26,7 +26,7 @@ use Rattle.normal_task.proofs.Alls.{all-both, all-left, all-right, all-images, a
 use Rattle.normal_task.proofs.Mentioned.{is_known_mention, is_known_term, is_declared, AreKnown}
 use Rattle.normal_task.proofs.Scopes.{InScope, slot-here, slot-behind, same-slot, map-append, length-append, length-map, slots-in_scope, inside-in_scope, hides, slots_behind}
 use Rattle.normal_task.proofs.CutCases.{asked_in, unlisted-asked, CutOf, Laws, cuts-shown}
-use Rattle.pddl_parser.proofs.Steps.{name_same}
+use Rattle.pddl_syntax.proofs.Steps.{name_same}
 
 -- ---- literals
 

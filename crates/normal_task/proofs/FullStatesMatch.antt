@@ -10,18 +10,18 @@ use Rattle.std.proofs.lemmas.Cmp.{nat_list_eq_equiv, lists_equiv}
 use Rattle.std.proofs.lemmas.List.Folds.{list_any-append}
 use Rattle.std.proofs.Math.Bool.{and-false, or-false, and_assoc}
 use Rattle.lists.specs.Members.{is_among}
-use Rattle.pddl_parser.specs.declared.types.Derived.{Derived}
-use Rattle.pddl_parser.specs.declared.types.Domain.{Domain}
-use Rattle.pddl_parser.specs.declared.types.Head.{Head}
-use Rattle.pddl_parser.specs.declared.types.Problem.{Problem}
-use Rattle.pddl_parser.specs.declared.types.Typed.{Typed}
-use Rattle.pddl_parser.specs.Words.{Name, is_same}
-use Rattle.pddl_parser.specs.Objects as pddl
+use Rattle.pddl_syntax.specs.declared.types.Derived.{Derived}
+use Rattle.pddl_syntax.specs.declared.types.Domain.{Domain}
+use Rattle.pddl_syntax.specs.declared.types.Head.{Head}
+use Rattle.pddl_syntax.specs.declared.types.Problem.{Problem}
+use Rattle.pddl_syntax.specs.declared.types.Typed.{Typed}
+use Rattle.pddl_syntax.specs.Words.{Name, is_same}
+use Rattle.pddl_syntax.specs.Objects as pddl
 use Rattle.planning.specs.Task.{IsFull}
-use Rattle.pddl_parser.specs.Holds as holds
-use Rattle.pddl_parser.specs.Plan.{pddl_task}
-use Rattle.pddl_parser.proofs.SameAtoms.{same_name, same_items}
-use Rattle.pddl_parser.proofs.ConditionCases.{Each}
+use Rattle.pddl_syntax.specs.Holds as holds
+use Rattle.pddl_syntax.specs.Plan.{pddl_task}
+use Rattle.pddl_syntax.proofs.SameAtoms.{same_name, same_items}
+use Rattle.pddl_syntax.proofs.ConditionCases.{Each}
 use Rattle.fault_positions.specs.Mentions.{in_condition, in_axiom}
 use Rattle.lists.proofs.Items.{Among, passing, same_any, map_source, flat_map_piece, within_left}
 use Rattle.normal_task.specs.declared.task.AxiomRow.{AxiomRow}

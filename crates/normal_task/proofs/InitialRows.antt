@@ -4,17 +4,17 @@ use Rattle.std.specs.Prelude.{nat_le, codes, if◌then◌else◌}
 use Rattle.std.specs.List.{list_all, flat_map}
 use Rattle.std.proofs.lemmas.Bool.{and_parts, and_from, not-true, le-leb}
 use Rattle.std.proofs.lemmas.List.Elements.{All-contains}
-use Rattle.pddl_parser.specs.declared.types.Atom.{Atom}
-use Rattle.pddl_parser.specs.declared.types.Domain.{Domain}
-use Rattle.pddl_parser.specs.declared.types.Init.{Init}
-use Rattle.pddl_parser.specs.declared.types.Init.TheVariants as inits
-use Rattle.pddl_parser.specs.declared.types.Problem.{Problem}
-use Rattle.pddl_parser.specs.declared.types.Term.{Term}
-use Rattle.pddl_parser.specs.declared.types.Term.TheVariants as terms
-use Rattle.pddl_parser.specs.Objects.{objects}
-use Rattle.pddl_parser.specs.Words.{is_same}
-use Rattle.pddl_parser.specs.Holds.{object_of, is_derived, ground}
-use Rattle.pddl_parser.specs.Spelled.{HasSmallValue, IsWellSpelledProblem}
+use Rattle.pddl_syntax.specs.declared.types.Atom.{Atom}
+use Rattle.pddl_syntax.specs.declared.types.Domain.{Domain}
+use Rattle.pddl_syntax.specs.declared.types.Init.{Init}
+use Rattle.pddl_syntax.specs.declared.types.Init.TheVariants as inits
+use Rattle.pddl_syntax.specs.declared.types.Problem.{Problem}
+use Rattle.pddl_syntax.specs.declared.types.Term.{Term}
+use Rattle.pddl_syntax.specs.declared.types.Term.TheVariants as terms
+use Rattle.pddl_syntax.specs.Objects.{objects}
+use Rattle.pddl_syntax.specs.Words.{is_same}
+use Rattle.pddl_syntax.specs.Holds.{object_of, is_derived, ground}
+use Rattle.pddl_syntax.specs.Spelled.{HasSmallValue, IsWellSpelledProblem}
 use Rattle.fault_positions.specs.Mentions.{Written, Function, use_of}
 use Rattle.fault_positions.specs.Names.{has_arity}
 use Rattle.fault_positions.specs.Scopes.{unbound_terms}

@@ -3,10 +3,10 @@ use Rattle.std.proofs.Common.{◌≡◌, ℕ, suc, ◌+◌, Bool, true, ◌&&◌
 use Rattle.std.specs.Prelude.{nat_le}
 use Rattle.std.specs.List.{list_all}
 use Rattle.std.proofs.lemmas.Bool.{and_parts, and_from, le-leb}
-use Rattle.pddl_parser.specs.declared.types.Derived.{Derived}
-use Rattle.pddl_parser.specs.declared.types.Domain.{Domain}
-use Rattle.pddl_parser.specs.declared.types.Problem.{Problem}
-use Rattle.pddl_parser.specs.Words.{is_same}
+use Rattle.pddl_syntax.specs.declared.types.Derived.{Derived}
+use Rattle.pddl_syntax.specs.declared.types.Domain.{Domain}
+use Rattle.pddl_syntax.specs.declared.types.Problem.{Problem}
+use Rattle.pddl_syntax.specs.Words.{is_same}
 use Rattle.fault_positions.specs.Mentions.{Derives, head_use, in_condition}
 use Rattle.fault_positions.specs.Names as names
 use Rattle.fault_positions.specs.Scopes as scopes
@@ -29,7 +29,7 @@ use Rattle.normal_task.proofs.KnownParts.{all-by_both, literal_known, literal-la
 use Rattle.normal_task.proofs.PredicateTable.{HaveRows, declared-derived}
 use Rattle.normal_task.proofs.Scopes.{length-append, length-map}
 use Rattle.normal_task.proofs.WellMentioned.{tables, rule-well}
-use Rattle.pddl_parser.proofs.Steps.{name_same}
+use Rattle.pddl_syntax.proofs.Steps.{name_same}
 
 -- ---- variables below their bounds, wherever new predicates begin
 

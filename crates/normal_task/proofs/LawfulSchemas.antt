@@ -4,15 +4,15 @@ use Rattle.std.specs.Prelude.{nat_le, ◌==◌, All, if◌then◌else◌}
 use Rattle.std.specs.List.{list_all}
 use Rattle.std.proofs.lemmas.Bool.{and_parts, and_from, or_left, or_right, le-leb}
 use Rattle.std.proofs.lemmas.List.Elements.{All-head, All-contains}
-use Rattle.pddl_parser.specs.declared.types.Action.{Action}
-use Rattle.pddl_parser.specs.declared.types.Cost.{Cost}
-use Rattle.pddl_parser.specs.declared.types.Cost.TheVariants as pddl_costs
-use Rattle.pddl_parser.specs.declared.types.Domain.{Domain}
-use Rattle.pddl_parser.specs.declared.types.Problem.{Problem}
-use Rattle.pddl_parser.specs.Words.{Name}
-use Rattle.pddl_parser.specs.Spelled.{IsSpelled, IsSmall, HasSmallCosts, IsWellSpelled}
-use Rattle.pddl_parser.specs.Step.{increases}
-use Rattle.pddl_parser.proofs.ConditionCases.{Each}
+use Rattle.pddl_syntax.specs.declared.types.Action.{Action}
+use Rattle.pddl_syntax.specs.declared.types.Cost.{Cost}
+use Rattle.pddl_syntax.specs.declared.types.Cost.TheVariants as pddl_costs
+use Rattle.pddl_syntax.specs.declared.types.Domain.{Domain}
+use Rattle.pddl_syntax.specs.declared.types.Problem.{Problem}
+use Rattle.pddl_syntax.specs.Words.{Name}
+use Rattle.pddl_syntax.specs.Spelled.{IsSpelled, IsSmall, HasSmallCosts, IsWellSpelled}
+use Rattle.pddl_syntax.specs.Step.{increases}
+use Rattle.pddl_syntax.proofs.ConditionCases.{Each}
 use Rattle.fault_positions.specs.Mentions.{in_condition, in_effect}
 use Rattle.fault_positions.specs.Scopes as scopes
 use Rattle.type_checker.specs.Faults.{check_faults}

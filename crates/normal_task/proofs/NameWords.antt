@@ -7,13 +7,13 @@ use Rattle.std.proofs.lemmas.Bool.{and_parts, and_from, le-leb}
 use Rattle.std.proofs.lemmas.List.Elements.{All-head, All-tail}
 use Rattle.std.proofs.lemmas.Nat.{mod_below}
 use Rattle.pddl_lexer.specs.Text.{is_word_byte}
-use Rattle.pddl_parser.specs.declared.types.Domain.{Domain}
-use Rattle.pddl_parser.specs.declared.types.Named.{Named}
-use Rattle.pddl_parser.specs.declared.types.Problem.{Problem}
-use Rattle.pddl_parser.specs.declared.types.Typed.{Typed}
-use Rattle.pddl_parser.specs.Words.{Name, is_name, is_name_byte}
-use Rattle.pddl_parser.specs.Objects.{objects}
-use Rattle.pddl_parser.specs.Spelled.{IsSpelled, IsWellSpelled, IsWellSpelledProblem}
+use Rattle.pddl_syntax.specs.declared.types.Domain.{Domain}
+use Rattle.pddl_syntax.specs.declared.types.Named.{Named}
+use Rattle.pddl_syntax.specs.declared.types.Problem.{Problem}
+use Rattle.pddl_syntax.specs.declared.types.Typed.{Typed}
+use Rattle.pddl_syntax.specs.Words.{Name, is_name, is_name_byte}
+use Rattle.pddl_syntax.specs.Objects.{objects}
+use Rattle.pddl_syntax.specs.Spelled.{IsSpelled, IsWellSpelled, IsWellSpelledProblem}
 use Rattle.normal_task.specs.Lawful.{is_word}
 use Rattle.normal_task.specs.Numbers.{object_names}
 use Rattle.normal_task.proofs.Alls.{all-both, all-weaker, all-images}

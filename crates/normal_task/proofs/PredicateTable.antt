@@ -6,13 +6,13 @@ use Rattle.std.specs.List.{list_all, AllByRecursion, IsDistinct}
 use Rattle.std.proofs.lemmas.Bool.{and_parts, and_from, or_cases, eqb-true, true≢false}
 use Rattle.std.proofs.lemmas.Cmp.{nat_list_eq_equiv}
 use Rattle.std.proofs.lemmas.Map.Keys.{IsDistinct-head, IsDistinct-tail}
-use Rattle.pddl_parser.specs.declared.types.Domain.{Domain}
-use Rattle.pddl_parser.specs.declared.types.Head.{Head}
-use Rattle.pddl_parser.specs.declared.types.Problem.{Problem}
-use Rattle.pddl_parser.specs.Words.{Name, is_same}
-use Rattle.pddl_parser.specs.Holds.{is_derived}
-use Rattle.pddl_parser.specs.Spelled.{IsSpelled, IsWellSpelled}
-use Rattle.pddl_parser.proofs.SameAtoms.{same_name}
+use Rattle.pddl_syntax.specs.declared.types.Domain.{Domain}
+use Rattle.pddl_syntax.specs.declared.types.Head.{Head}
+use Rattle.pddl_syntax.specs.declared.types.Problem.{Problem}
+use Rattle.pddl_syntax.specs.Words.{Name, is_same}
+use Rattle.pddl_syntax.specs.Holds.{is_derived}
+use Rattle.pddl_syntax.specs.Spelled.{IsSpelled, IsWellSpelled}
+use Rattle.pddl_syntax.proofs.SameAtoms.{same_name}
 use Rattle.fault_positions.specs.Mentions.{Use}
 use Rattle.fault_positions.specs.Names as names
 use Rattle.type_checker.specs.Faults.{check_faults}

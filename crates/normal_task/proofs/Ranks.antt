@@ -3,13 +3,13 @@ use Rattle.std.proofs.Common.{◌≡◌, ℕ, zero, suc, max, ◌+◌, ◌<◌, 
 use Rattle.std.specs.Prelude.{◌==◌, if◌then◌else◌}
 use Rattle.std.specs.List.{flat_map}
 use Rattle.std.proofs.lemmas.Bool.{and_parts, cases_lt, eqb-true, eq-eqb}
-use Rattle.pddl_parser.specs.declared.types.Action.{Action}
-use Rattle.pddl_parser.specs.declared.types.Derived.{Derived}
-use Rattle.pddl_parser.specs.declared.types.Domain.{Domain}
-use Rattle.pddl_parser.specs.declared.types.Named.{Named}
-use Rattle.pddl_parser.specs.declared.types.Problem.{Problem}
-use Rattle.pddl_parser.specs.Words.{Name}
-use Rattle.pddl_parser.proofs.SameAtoms.{same_name}
+use Rattle.pddl_syntax.specs.declared.types.Action.{Action}
+use Rattle.pddl_syntax.specs.declared.types.Derived.{Derived}
+use Rattle.pddl_syntax.specs.declared.types.Domain.{Domain}
+use Rattle.pddl_syntax.specs.declared.types.Named.{Named}
+use Rattle.pddl_syntax.specs.declared.types.Problem.{Problem}
+use Rattle.pddl_syntax.specs.Words.{Name}
+use Rattle.pddl_syntax.proofs.SameAtoms.{same_name}
 use Rattle.names.specs.Links.{Link, link}
 use Rattle.names.proofs.Chains.{Ends, chains_end}
 use Rattle.fault_positions.specs.Links.{dependence_links, axiom_links}

@@ -3,8 +3,8 @@ use Rattle.std.proofs.Common.{◌≡◌, true, not, [], refl}
 use Rattle.std.specs.Prelude.{nat_lt}
 use Rattle.std.specs.List.{list_all}
 use Rattle.std.proofs.lemmas.Bool.{or_right, lt-ltb}
-use Rattle.pddl_parser.specs.declared.types.Domain.{Domain}
-use Rattle.pddl_parser.specs.declared.types.Problem.{Problem}
+use Rattle.pddl_syntax.specs.declared.types.Domain.{Domain}
+use Rattle.pddl_syntax.specs.declared.types.Problem.{Problem}
 use Rattle.type_checker.specs.Faults.{check_faults}
 use Rattle.lists.proofs.Items.{Among, each_passes}
 use Rattle.normal_task.specs.declared.task.AxiomRow.{AxiomRow}

@@ -7,19 +7,19 @@ use Rattle.std.proofs.lemmas.List.{get_or_append_left}
 use Rattle.std.proofs.Math.Seq.{get_or-append_seam}
 pub use Rattle.std.proofs.lemmas.List.{length-append, map-append, append_assoc as append-assoc}
 use Rattle.lists.specs.Members.{is_among}
-use Rattle.pddl_parser.specs.declared.types.Domain.{Domain}
-use Rattle.pddl_parser.specs.declared.types.Problem.{Problem}
-use Rattle.pddl_parser.specs.declared.types.Typed.{Typed}
-use Rattle.pddl_parser.specs.Words.{Name, is_same}
-use Rattle.pddl_parser.specs.Objects as pddl
-use Rattle.pddl_parser.proofs.SameAtoms.{same_name}
+use Rattle.pddl_syntax.specs.declared.types.Domain.{Domain}
+use Rattle.pddl_syntax.specs.declared.types.Problem.{Problem}
+use Rattle.pddl_syntax.specs.declared.types.Typed.{Typed}
+use Rattle.pddl_syntax.specs.Words.{Name, is_same}
+use Rattle.pddl_syntax.specs.Objects as pddl
+use Rattle.pddl_syntax.proofs.SameAtoms.{same_name}
 use Rattle.lists.proofs.Items.{Among, filter_among, among_map, map_source, flat_map_piece, any_passes}
 use Rattle.normal_task.specs.Numbers.{object_names, object_number, range_of}
 use Rattle.normal_task.specs.Meaning.{Binding}
 use Rattle.normal_task.proofs.Chosen.{is_choice}
 use Rattle.normal_task.specs.Parts.{Slot, Scope, slot_of, with_slot, scope_inside, slots_for, renumbered, is_listed}
 use Rattle.normal_task.proofs.Chosen.{eq-itself}
-use Rattle.pddl_parser.proofs.Steps.{name_same}
+use Rattle.pddl_syntax.proofs.Steps.{name_same}
 
 pub length-map : {X Y : Type 0} (f : X → Y) (xs : List X) → length (map f xs) ≡ length xs
 length-map f [] = refl

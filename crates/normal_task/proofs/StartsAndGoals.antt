@@ -6,13 +6,13 @@ use Rattle.std.specs.Cmp.Lexicographic.{pointwise}
 use Rattle.std.proofs.lemmas.Bool.{and_parts, eqb-true, false≢true}
 use Rattle.std.proofs.Math.Bool.{or-false, and-true}
 use Rattle.planning.specs.Plan.{MeetsGoal}
-use Rattle.pddl_parser.specs.declared.types.Domain.{Domain}
-use Rattle.pddl_parser.specs.declared.types.Init.{Init}
-use Rattle.pddl_parser.specs.declared.types.Init.TheVariants as inits
-use Rattle.pddl_parser.specs.declared.types.Problem.{Problem}
-use Rattle.pddl_parser.specs.Holds as holds
-use Rattle.pddl_parser.specs.Plan as plans
-use Rattle.pddl_parser.proofs.SameAtoms.{same_name}
+use Rattle.pddl_syntax.specs.declared.types.Domain.{Domain}
+use Rattle.pddl_syntax.specs.declared.types.Init.{Init}
+use Rattle.pddl_syntax.specs.declared.types.Init.TheVariants as inits
+use Rattle.pddl_syntax.specs.declared.types.Problem.{Problem}
+use Rattle.pddl_syntax.specs.Holds as holds
+use Rattle.pddl_syntax.specs.Plan as plans
+use Rattle.pddl_syntax.proofs.SameAtoms.{same_name}
 use Rattle.normal_task.specs.declared.task.GroundAtom.{GroundAtom}
 use Rattle.normal_task.specs.declared.task.Literal.{Literal}
 use Rattle.normal_task.specs.Meaning as task

@@ -7,14 +7,14 @@ use Rattle.std.proofs.lemmas.List.Elements.{All-contains}
 use Rattle.std.proofs.lemmas.Map.Keys.{IsDistinct-head, IsDistinct-tail}
 use Rattle.std.proofs.Math.Seq.{take-append_seam}
 use Rattle.lists.proofs.Items.{Among, among_contains, contains_among, map_source, all_passes, passing}
-use Rattle.pddl_parser.specs.declared.types.Action.{Action}
-use Rattle.pddl_parser.specs.declared.types.Domain.{Domain}
-use Rattle.pddl_parser.specs.declared.types.Problem.{Problem}
-use Rattle.pddl_parser.specs.Words.{Name, is_same}
-use Rattle.pddl_parser.specs.Objects as pddl
-use Rattle.pddl_parser.specs.Spelled.{IsSpelled, IsWellSpelled, IsWellSpelledProblem}
-use Rattle.pddl_parser.specs.Step as step
-use Rattle.pddl_parser.proofs.SameAtoms.{same_name}
+use Rattle.pddl_syntax.specs.declared.types.Action.{Action}
+use Rattle.pddl_syntax.specs.declared.types.Domain.{Domain}
+use Rattle.pddl_syntax.specs.declared.types.Problem.{Problem}
+use Rattle.pddl_syntax.specs.Words.{Name, is_same}
+use Rattle.pddl_syntax.specs.Objects as pddl
+use Rattle.pddl_syntax.specs.Spelled.{IsSpelled, IsWellSpelled, IsWellSpelledProblem}
+use Rattle.pddl_syntax.specs.Step as step
+use Rattle.pddl_syntax.proofs.SameAtoms.{same_name}
 use Rattle.type_checker.specs.Faults.{check_faults}
 use Rattle.normal_task.specs.declared.task.Schema.{Schema}
 use Rattle.normal_task.specs.Lawful.{is_word}
@@ -33,7 +33,7 @@ use Rattle.normal_task.proofs.NameWords.{spelled-word, objects-words}
 use Rattle.normal_task.proofs.PredicateTable.{passes_all}
 use Rattle.normal_task.proofs.Scopes.{is_known, length-map}
 use Rattle.normal_task.proofs.Steps.{split-choice, choice-length, is_normal_step, names-choice, shown-names}
-use Rattle.pddl_parser.proofs.Steps.{name_same}
+use Rattle.pddl_syntax.proofs.Steps.{name_same}
 
 -- ---- items that their names tell apart
 

@@ -10,17 +10,17 @@ use Rattle.lists.specs.Members.{is_among}
 use Rattle.planning.specs.Task.{IsFull, Takes, cost, successor}
 use Rattle.runs.specs.Systems.{HasStep}
 use Rattle.planning.specs.Plan.{system}
-use Rattle.pddl_parser.specs.declared.types.Action.{Action}
-use Rattle.pddl_parser.specs.declared.types.Domain.{Domain}
-use Rattle.pddl_parser.specs.declared.types.Problem.{Problem}
-use Rattle.pddl_parser.specs.declared.types.Typed.{Typed}
-use Rattle.pddl_parser.specs.Words.{Name, is_same}
-use Rattle.pddl_parser.specs.Objects as pddl
-use Rattle.pddl_parser.specs.Holds as holds
-use Rattle.pddl_parser.specs.Step as step
-use Rattle.pddl_parser.specs.Plan.{pddl_task}
-use Rattle.pddl_parser.proofs.ConditionCases.{Each}
-use Rattle.pddl_parser.proofs.SameAtoms.{same_name}
+use Rattle.pddl_syntax.specs.declared.types.Action.{Action}
+use Rattle.pddl_syntax.specs.declared.types.Domain.{Domain}
+use Rattle.pddl_syntax.specs.declared.types.Problem.{Problem}
+use Rattle.pddl_syntax.specs.declared.types.Typed.{Typed}
+use Rattle.pddl_syntax.specs.Words.{Name, is_same}
+use Rattle.pddl_syntax.specs.Objects as pddl
+use Rattle.pddl_syntax.specs.Holds as holds
+use Rattle.pddl_syntax.specs.Step as step
+use Rattle.pddl_syntax.specs.Plan.{pddl_task}
+use Rattle.pddl_syntax.proofs.ConditionCases.{Each}
+use Rattle.pddl_syntax.proofs.SameAtoms.{same_name}
 use Rattle.fault_positions.specs.Mentions.{in_condition, in_effect, in_action}
 use Rattle.fault_positions.specs.Scopes as scopes
 use Rattle.type_checker.proofs.NoFaults.{left_empty, right_empty}
@@ -49,7 +49,7 @@ use Rattle.normal_task.proofs.EffectsMean.{StandAll, effect-means}
 use Rattle.normal_task.proofs.FullStatesMatch.{declared, planning, num, fresh_all, RuleSound, choices-known, chosen, files-full, full-given, given-of_all}
 use Rattle.normal_task.proofs.Filled.{GoalSound, first_fresh, task-full}
 use Rattle.lists.proofs.Items.{among_contains, contains_among, among_flat_map, flat_map_piece}
-use Rattle.pddl_parser.proofs.Steps.{is_step, in_steps}
+use Rattle.pddl_syntax.proofs.Steps.{is_step, in_steps}
 use Rattle.normal_task.proofs.MadeInTurn.{turn, origin}
 
 -- a choice of two lists of lists falls into a choice of each

@@ -2,13 +2,13 @@
 use Rattle.std.proofs.Common.{◌≡◌, Bool, true, not, [], inr}
 use Rattle.std.specs.List.{list_all, list_any}
 use Rattle.std.proofs.lemmas.Bool.{and_from}
-use Rattle.pddl_parser.specs.declared.types.Action.{Action}
-use Rattle.pddl_parser.specs.declared.types.Derived.{Derived}
-use Rattle.pddl_parser.specs.declared.types.Domain.{Domain}
-use Rattle.pddl_parser.specs.declared.types.Named.{Named}
-use Rattle.pddl_parser.specs.declared.types.Problem.{Problem}
-use Rattle.pddl_parser.specs.Words.{is_same}
-use Rattle.pddl_parser.specs.Holds.{is_derived}
+use Rattle.pddl_syntax.specs.declared.types.Action.{Action}
+use Rattle.pddl_syntax.specs.declared.types.Derived.{Derived}
+use Rattle.pddl_syntax.specs.declared.types.Domain.{Domain}
+use Rattle.pddl_syntax.specs.declared.types.Named.{Named}
+use Rattle.pddl_syntax.specs.declared.types.Problem.{Problem}
+use Rattle.pddl_syntax.specs.Words.{is_same}
+use Rattle.pddl_syntax.specs.Holds.{is_derived}
 use Rattle.fault_positions.specs.Mentions.{Mention, written_predicates, in_condition, in_effect, in_action, in_axiom}
 use Rattle.type_checker.specs.Faultless.{mentions, has_predicate, has_objects, is_basic}
 use Rattle.type_checker.specs.Faults.{check_faults}
@@ -22,7 +22,7 @@ use Rattle.normal_task.proofs.KnownEffects.{is_change, AreChanges}
 use Rattle.normal_task.proofs.KnownParts.{all-by_both, HasTables, well_mentioned, AreWell}
 use Rattle.normal_task.proofs.PredicateTable.{declared-arity, declared-changed}
 use Rattle.normal_task.proofs.RisingRanges.{object-is, range-is}
-use Rattle.pddl_parser.proofs.Steps.{name_same}
+use Rattle.pddl_syntax.proofs.Steps.{name_same}
 
 module _ (domain : Domain) (problem : Problem) where
   abbrev task : Normal

@@ -4,18 +4,18 @@ use Rattle.std.specs.List.{list_all, list_any, flat_map}
 use Rattle.std.proofs.lemmas.Bool.{and_parts, and_from, or_cases, false≢true, not-true}
 use Rattle.std.proofs.lemmas.List.Folds.{list_any-append}
 use Rattle.pddl_lexer.specs.declared.position.At.{At}
-use Rattle.pddl_parser.specs.declared.types.Atom.{Atom}
-use Rattle.pddl_parser.specs.declared.types.Domain.{Domain}
-use Rattle.pddl_parser.specs.declared.types.Effect.{Effect, Effect-F}
-use Rattle.pddl_parser.specs.declared.types.Problem.{Problem}
-use Rattle.pddl_parser.specs.declared.types.Named.{Named}
-use Rattle.pddl_parser.specs.declared.types.Typed.{Typed}
-use Rattle.pddl_parser.specs.Words.{Name}
-use Rattle.pddl_parser.specs.Objects as pddl
-use Rattle.pddl_parser.specs.Holds as holds
-use Rattle.pddl_parser.specs.Step as step
-use Rattle.pddl_parser.proofs.ConditionCases.{Each}
-use Rattle.pddl_parser.proofs.SameAtoms.{same_atom}
+use Rattle.pddl_syntax.specs.declared.types.Atom.{Atom}
+use Rattle.pddl_syntax.specs.declared.types.Domain.{Domain}
+use Rattle.pddl_syntax.specs.declared.types.Effect.{Effect, Effect-F}
+use Rattle.pddl_syntax.specs.declared.types.Problem.{Problem}
+use Rattle.pddl_syntax.specs.declared.types.Named.{Named}
+use Rattle.pddl_syntax.specs.declared.types.Typed.{Typed}
+use Rattle.pddl_syntax.specs.Words.{Name}
+use Rattle.pddl_syntax.specs.Objects as pddl
+use Rattle.pddl_syntax.specs.Holds as holds
+use Rattle.pddl_syntax.specs.Step as step
+use Rattle.pddl_syntax.proofs.ConditionCases.{Each}
+use Rattle.pddl_syntax.proofs.SameAtoms.{same_atom}
 use Rattle.fault_positions.specs.Mentions.{Mention, Written, written_predicates, in_condition, in_effect, effect_step}
 use Rattle.fault_positions.specs.Scopes as scopes
 use Rattle.type_checker.proofs.NoFaults.{left_empty, right_empty}

@@ -1,7 +1,7 @@
 -- When a normal task is lawful: its numbers are positions, its atoms have the arities of their predicates, and no derived predicate depends on itself.
 use Rattle.std.specs.Prelude.{◌≡◌, ℕ, ◌+◌, Bool, true, false, not, ◌&&◌, ◌||◌, ◌==◌, nat_lt, nat_le, List, [], ◌∷◌, length, Option, Some, None, slice_get}
 use Rattle.std.specs.List.{list_all, list_any}
-use Rattle.pddl_parser.specs.Words.{Name}
+use Rattle.pddl_syntax.specs.Words.{Name}
 use Rattle.normal_task.specs.declared.task.AxiomRow.{AxiomRow}
 use Rattle.normal_task.specs.declared.task.CostRow.{CostRow}
 use Rattle.normal_task.specs.declared.task.CostRow.TheVariants as costs

@@ -6,8 +6,8 @@ use Rattle.std.specs.Option.{option_map}
 pub use Rattle.lists.specs.Choices.{choices}
 use Rattle.planning.specs.Task.{PlanningTask}
 use Rattle.planning.specs.Task as planning
-use Rattle.pddl_parser.specs.Words.{Name}
-use Rattle.pddl_parser.specs.Step.{shown}
+use Rattle.pddl_syntax.specs.Words.{Name}
+use Rattle.pddl_syntax.specs.Step.{shown}
 use Rattle.normal_task.specs.declared.task.AxiomRow.{AxiomRow}
 use Rattle.normal_task.specs.declared.task.CostRow.{CostRow}
 use Rattle.normal_task.specs.declared.task.CostRow.TheVariants as costs

@@ -1,6 +1,6 @@
 -- A small lawful task, and one that is refused for each thing that makes a task lawful.
 use Rattle.std.specs.Prelude.{ℕ, Bool, true, false, List, [], ◌∷◌, ◌++◌, codes}
-use Rattle.pddl_parser.specs.Words.{Name}
+use Rattle.pddl_syntax.specs.Words.{Name}
 use Rattle.normal_task.specs.declared.task.AxiomRow.{AxiomRow}
 use Rattle.normal_task.specs.declared.task.CostRow.{CostRow}
 use Rattle.normal_task.specs.declared.task.CostRow.TheVariants as costs

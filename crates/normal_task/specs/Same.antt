@@ -2,10 +2,10 @@
 use Rattle.std.specs.Prelude.{◌≡◌, Bool, true, false, ◌&&◌}
 use Rattle.std.specs.List.{list_all}
 use Rattle.lists.specs.Members.{is_among}
-use Rattle.pddl_parser.specs.declared.types.Domain.{Domain}
-use Rattle.pddl_parser.specs.declared.types.Problem.{Problem}
-use Rattle.pddl_parser.specs.Words.{is_same}
-use Rattle.pddl_parser.specs.Holds as pddl
+use Rattle.pddl_syntax.specs.declared.types.Domain.{Domain}
+use Rattle.pddl_syntax.specs.declared.types.Problem.{Problem}
+use Rattle.pddl_syntax.specs.Words.{is_same}
+use Rattle.pddl_syntax.specs.Holds as pddl
 use Rattle.normal_task.specs.Numbers.{object_names, head_names}
 use Rattle.normal_task.specs.Meaning as task
 use Rattle.normal_task.specs.Normalised.{numbered_atom}

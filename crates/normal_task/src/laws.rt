@@ -3,11 +3,11 @@
 ghost use Rattle.std.specs.Prelude.{◌≡◌, ◌++◌, ◌∷◌, ℕ, Bool, List, true, [], length, if◌then◌else◌};
 ghost use Rattle.std.specs.List.{list_any};
 ghost use Rattle.planning.specs.Same.{MeansTheSame};
-ghost use Rattle.pddl_parser.specs.declared.types.Condition.{Condition};
-ghost use Rattle.pddl_parser.specs.declared.types.Domain.{Domain};
-ghost use Rattle.pddl_parser.specs.declared.types.Problem.{Problem};
-ghost use Rattle.pddl_parser.specs.Plan.{pddl_task};
-ghost use Rattle.pddl_parser.specs.Spelled.{IsWellSpelled, IsWellSpelledProblem};
+ghost use Rattle.pddl_syntax.specs.declared.types.Condition.{Condition};
+ghost use Rattle.pddl_syntax.specs.declared.types.Domain.{Domain};
+ghost use Rattle.pddl_syntax.specs.declared.types.Problem.{Problem};
+ghost use Rattle.pddl_syntax.specs.Plan.{pddl_task};
+ghost use Rattle.pddl_syntax.specs.Spelled.{IsWellSpelled, IsWellSpelledProblem};
 ghost use Rattle.fault_positions.specs.Sizes.{size_of};
 ghost use Rattle.type_checker.specs.Faults.{check_faults};
 ghost use Rattle.normal_task.specs.Lawful.{IsLawful};

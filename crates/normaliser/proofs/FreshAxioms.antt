@@ -2,8 +2,8 @@
 use Rattle.std.proofs.Common.{append-nil, append_assoc, ◌≡◌, ℕ, suc, ◌+◌, ◌<◌, List, [], ◌∷◌, ◌++◌, map, take, length, get_or, sym, ap, ◌∙◌, arith}
 use Rattle.std.proofs.lemmas.List.{length-take-le}
 use Rattle.lists.proofs.LoopSteps.{take_next}
-use Rattle.pddl_parser.specs.declared.types.Domain.{Domain}
-use Rattle.pddl_parser.specs.declared.types.Problem.{Problem}
+use Rattle.pddl_syntax.specs.declared.types.Domain.{Domain}
+use Rattle.pddl_syntax.specs.declared.types.Problem.{Problem}
 use Rattle.normal_task.specs.declared.task.AxiomRow.{AxiomRow}
 use Rattle.normal_task.specs.Normalised.{axiom_row, fresh_rows}
 use Rattle.normal_task.specs.declared.parts.Fresh.{Fresh}

@@ -1,22 +1,22 @@
 -- The predicates that an effect is on, beside what it mentions.
 use Rattle.std.proofs.Common.{◌≡◌, ℕ, suc, ◌+◌, ◌<◌, Bool, true, false, not, ◌&&◌, ◌||◌, List, [], ◌∷◌, ◌++◌, map, take, length, get_or, codes, decimal, refl, sym, ap, ◌∙◌, append_assoc, arith}
 use Rattle.std.specs.List.{list_any, flat_map}
-use Rattle.pddl_parser.specs.declared.types.Action.{Action}
-use Rattle.pddl_parser.specs.declared.types.Condition.{Condition}
-use Rattle.pddl_parser.specs.declared.types.Cost.{Cost}
-use Rattle.pddl_parser.specs.declared.types.Cost.TheVariants as costs
-use Rattle.pddl_parser.specs.declared.types.Derived.{Derived}
-use Rattle.pddl_parser.specs.declared.types.Domain.{Domain}
-use Rattle.pddl_parser.specs.declared.types.Effect.{Effect}
-use Rattle.pddl_parser.specs.declared.types.Head.{Head}
-use Rattle.pddl_parser.specs.declared.types.Named.{Named}
-use Rattle.pddl_parser.specs.declared.types.Problem.{Problem}
-use Rattle.pddl_parser.specs.Holds.{is_derived}
-use Rattle.pddl_parser.specs.Words.{Name, is_same}
-use Rattle.pddl_parser.proofs.ConditionCases as c
-use Rattle.pddl_parser.proofs.ConditionCases.{Each, condition_by_cases}
-use Rattle.pddl_parser.proofs.EffectCases as e
-use Rattle.pddl_parser.proofs.EffectCases.{effect_by_cases}
+use Rattle.pddl_syntax.specs.declared.types.Action.{Action}
+use Rattle.pddl_syntax.specs.declared.types.Condition.{Condition}
+use Rattle.pddl_syntax.specs.declared.types.Cost.{Cost}
+use Rattle.pddl_syntax.specs.declared.types.Cost.TheVariants as costs
+use Rattle.pddl_syntax.specs.declared.types.Derived.{Derived}
+use Rattle.pddl_syntax.specs.declared.types.Domain.{Domain}
+use Rattle.pddl_syntax.specs.declared.types.Effect.{Effect}
+use Rattle.pddl_syntax.specs.declared.types.Head.{Head}
+use Rattle.pddl_syntax.specs.declared.types.Named.{Named}
+use Rattle.pddl_syntax.specs.declared.types.Problem.{Problem}
+use Rattle.pddl_syntax.specs.Holds.{is_derived}
+use Rattle.pddl_syntax.specs.Words.{Name, is_same}
+use Rattle.pddl_syntax.proofs.ConditionCases as c
+use Rattle.pddl_syntax.proofs.ConditionCases.{Each, condition_by_cases}
+use Rattle.pddl_syntax.proofs.EffectCases as e
+use Rattle.pddl_syntax.proofs.EffectCases.{effect_by_cases}
 use Rattle.std.proofs.lemmas.Bool.{or_from}
 use Rattle.lists.proofs.Items.{any_append, same_any, same_map}
 use Rattle.std.proofs.lemmas.List.{length-take-le}

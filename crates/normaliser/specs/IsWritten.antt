@@ -1,8 +1,8 @@
 -- The predicates that an effect is on.
 use Rattle.std.specs.Prelude.{Bool, false}
 use Rattle.std.specs.List.{list_any}
-use Rattle.pddl_parser.specs.declared.types.Effect.{Effect, Effect-F, fold-Effect}
-use Rattle.pddl_parser.specs.Words.{Name, is_same}
+use Rattle.pddl_syntax.specs.declared.types.Effect.{Effect, Effect-F, fold-Effect}
+use Rattle.pddl_syntax.specs.Words.{Name, is_same}
 
 -- One layer of an effect, with the answers of the effects inside in place of them.
 abbrev pub is_written_step : Effect-F (Name → Bool) → Name → Bool

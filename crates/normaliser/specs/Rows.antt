@@ -1,8 +1,8 @@
 -- The rows of declared predicates.
 use Rattle.std.specs.Prelude.{List, not, ◌&&◌, length}
 use Rattle.std.specs.List.{list_any}
-use Rattle.pddl_parser.specs.declared.types.Head.{Head}
-use Rattle.pddl_parser.specs.Words.{Name, is_same}
+use Rattle.pddl_syntax.specs.declared.types.Head.{Head}
+use Rattle.pddl_syntax.specs.Words.{Name, is_same}
 use Rattle.normal_task.specs.declared.task.PredicateRow.{PredicateRow}
 
 -- the row of a declared predicate, beside the names of derived predicates and of those that effects are on

@@ -10,7 +10,7 @@ use lists::{List, checked_sum};
 use normal_rows::{Made, Scope, made_behind, nothing_made, push_axioms, scope_of};
 use normal_task::{AxiomRow, Fresh, Part};
 use numbering::Numbering;
-use pddl_parser::{Derived, Head};
+use pddl_syntax::{Derived, Head};
 use std::alloc::{AllocError, Global};
 
 /// The number of a new predicate.

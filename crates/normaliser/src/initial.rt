@@ -1,7 +1,7 @@
 // The initial state and the values of a normal task.
 ghost use Rattle.std.specs.Prelude.{◌≡◌, ◌++◌, ◌∷◌, [], List as Items, map, codes, IfOk, OnOk, if◌then◌else◌};
 ghost use Rattle.std.specs.List.{list_any, flat_map};
-ghost use Rattle.pddl_parser.specs.Holds as pddl;
+ghost use Rattle.pddl_syntax.specs.Holds as pddl;
 ghost use Rattle.names.specs.Names.{is_same};
 ghost use Rattle.normal_task.specs.declared.task.GroundAtom as atom_type;
 ghost use Rattle.normal_task.specs.declared.task.ValueRow as row_type;
@@ -15,7 +15,7 @@ use lists::List;
 use normal_task::{GroundAtom, ValueRow};
 use number_lists::{NumberLists, key_of};
 use numbering::Numbering;
-use pddl_parser::{Atom, Init, Term};
+use pddl_syntax::{Atom, Init, Term};
 use std::alloc::{AllocError, Global};
 
 /// Adds the item, if its key is new.

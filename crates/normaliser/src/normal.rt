@@ -1,6 +1,6 @@
 // The normal task of a checked pair.
 ghost use Rattle.std.specs.Prelude.{◌≡◌, ◌++◌, [], map, true, IfOk, OnOk};
-ghost use Rattle.pddl_parser.specs.Objects.{objects};
+ghost use Rattle.pddl_syntax.specs.Objects.{objects};
 ghost use Rattle.normaliser.specs.WholeTask.{IsMadeAll, goal_from};
 ghost use Rattle.normal_rows.specs.MadeThings.{IsMadeOf};
 ghost use Rattle.normal_task.specs.Lawful.{IsLawful};
@@ -17,7 +17,7 @@ use normal_rows::{Made, Scope, joined_lists};
 use normal_task::laws::lawful;
 use normal_task::{AxiomRow, Fresh, Literal, Normal, Schema};
 use numbering::Numbering;
-use pddl_parser::Typed;
+use pddl_syntax::Typed;
 use std::alloc::{AllocError, Global};
 use type_checker::Checked;
 

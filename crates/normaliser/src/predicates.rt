@@ -1,9 +1,9 @@
 // The predicates of a normal task: the declared ones, and then the new ones.
 ghost use Rattle.std.specs.Prelude.{◌≡◌, ◌++◌, ◌∷◌, ◌||◌, [], codes, decimal, map, length, true, false, IfOk, OnOk};
 ghost use Rattle.std.specs.List.{list_any, flat_map};
-ghost use Rattle.pddl_parser.specs.declared.types.Domain.{Domain};
-ghost use Rattle.pddl_parser.specs.declared.types.Problem.{Problem};
-ghost use Rattle.pddl_parser.specs.Words.{Name, is_same};
+ghost use Rattle.pddl_syntax.specs.declared.types.Domain.{Domain};
+ghost use Rattle.pddl_syntax.specs.declared.types.Problem.{Problem};
+ghost use Rattle.pddl_syntax.specs.Words.{Name, is_same};
 ghost use Rattle.fault_positions.specs.Arguments.{AreThose};
 ghost use Rattle.normaliser.specs.Rows.{row_of};
 ghost use Rattle.normaliser.specs.IsWritten.{is_written};
@@ -12,7 +12,7 @@ ghost use Rattle.normal_task.specs.Normalised as spec;
 use lists::{List, Text};
 use names::Names;
 use normal_task::{Fresh, PredicateRow};
-use pddl_parser::{Action, Derived, Domain, Effect, Head};
+use pddl_syntax::{Action, Derived, Domain, Effect, Head};
 use std::alloc::{AllocError, Global};
 
 /// The name of a new predicate.

@@ -5,7 +5,7 @@ ghost use Rattle.declarations.specs.Asked.{variable_types};
 ghost use Rattle.declarations.specs.Below.{has, has_type_among, one_type as alone, range_of_types};
 ghost use Rattle.normal_task.specs.Numbers as spec;
 ghost use Rattle.numbering.specs.Known.{AreKnown};
-ghost use Rattle.pddl_parser.specs.declared.types.Named.{Named as TypeName};
+ghost use Rattle.pddl_syntax.specs.declared.types.Named.{Named as TypeName};
 
 use declarations::{
     Hierarchy, asked_types, has_some, is_any, names_of, names_of_objects, one_type,
@@ -13,7 +13,7 @@ use declarations::{
 use lists::List;
 use names::Names;
 use normal_task::ObjectRange;
-use pddl_parser::{Domain, Named, Problem, Typed};
+use pddl_syntax::{Domain, Named, Problem, Typed};
 use std::alloc::{AllocError, Global};
 use std::marker::Model;
 use type_checker::Checked;
@@ -37,8 +37,8 @@ struct ObjectTables<'a> {
 impl<'a> Model for ObjectTables<'a> {
     ghost use Rattle.std.specs.Prelude.{◌≡◌};
     ghost use Rattle.std.specs.Coded.{codes};
-    ghost use Rattle.pddl_parser.specs.contracts.types.Condition as condition;
-    ghost use Rattle.pddl_parser.specs.contracts.types.Effect as effect;
+    ghost use Rattle.pddl_syntax.specs.contracts.types.Condition as condition;
+    ghost use Rattle.pddl_syntax.specs.contracts.types.Effect as effect;
     ghost use Rattle.type_checker.specs.Checked.{FilePair};
     ghost use Rattle.normal_task.specs.Numbers.{object_names};
 
@@ -167,8 +167,8 @@ pub struct Numbering<'a> {
 impl<'a> Model for Numbering<'a> {
     ghost use Rattle.std.specs.Prelude.{◌≡◌};
     ghost use Rattle.std.specs.Coded.{codes};
-    ghost use Rattle.pddl_parser.specs.contracts.types.Condition as condition;
-    ghost use Rattle.pddl_parser.specs.contracts.types.Effect as effect;
+    ghost use Rattle.pddl_syntax.specs.contracts.types.Condition as condition;
+    ghost use Rattle.pddl_syntax.specs.contracts.types.Effect as effect;
     ghost use Rattle.type_checker.specs.Checked.{FilePair};
     ghost use Rattle.declarations.specs.Asked.{variable_types};
     ghost use Rattle.normal_task.specs.Numbers.{head_names};

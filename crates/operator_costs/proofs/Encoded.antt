@@ -5,20 +5,20 @@ use Rattle.std.specs.List.{Contains, flat_map}
 use Rattle.std.proofs.lemmas.Bool.{and_parts}
 use Rattle.std.proofs.lemmas.List.Sorted.{Contains-permutation, IsPermutation-sym}
 use Rattle.lists.proofs.Members.{map_member, member_map, filter_member, flat_map_member, member_flat_map, zip_source}
-use Rattle.pddl_parser.specs.Words.{Name}
+use Rattle.pddl_syntax.specs.Words.{Name}
 use Rattle.normal_task.specs.declared.task.GroundAtom.{GroundAtom}
 use Rattle.normal_task.specs.declared.task.Normal.{Normal}
 use Rattle.normal_task.specs.Meaning.{Step, normal_task, name_of, value_of, steps_of, choices}
 use Rattle.normal_task.specs.TellCosts.{NamesTellCosts as StepsTellCosts}
-use Rattle.static_matcher.specs.declared.types.Ground.{Ground}
-use Rattle.static_matcher.specs.GroundTask.{ground_task}
-use Rattle.static_matcher.specs.Instances.{instance_task, is_instance, action_of, actions_of, all_fit, static_settling, IsGroundTask}
-use Rattle.static_matcher.specs.Literals.{ActionRow}
-use Rattle.static_matcher.specs.Settled.{Settling, is_open, kept_action, kept_actions}
-use Rattle.relaxed_reach.specs.declared.types.Reached.{Reached}
-use Rattle.relaxed_reach.specs.declared.types.ReachedAction.{ReachedAction}
-use Rattle.relaxed_reach.specs.ReachedTask.{reached_task, action_row}
-use Rattle.relaxed_reach.specs.Reachable.{IsReachedTask, numbering}
+use Rattle.ground_task.specs.declared.types.Ground.{Ground}
+use Rattle.ground_task.specs.GroundTask.{ground_task}
+use Rattle.ground_task.specs.Instances.{instance_task, is_instance, action_of, actions_of, all_fit, static_settling, IsGroundTask}
+use Rattle.ground_task.specs.Literals.{ActionRow}
+use Rattle.ground_task.specs.Settled.{Settling, is_open, kept_action, kept_actions}
+use Rattle.reached_task.specs.declared.types.Reached.{Reached}
+use Rattle.reached_task.specs.declared.types.ReachedAction.{ReachedAction}
+use Rattle.reached_task.specs.ReachedTask.{reached_task, action_row}
+use Rattle.reached_task.specs.Reachable.{IsReachedTask, numbering}
 use Rattle.fdr_effects.specs.Places.{Cover}
 use Rattle.fdr_effects.specs.Split.{split}
 use Rattle.fdr_effects.specs.Effects.{effects_of}

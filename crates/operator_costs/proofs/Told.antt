@@ -1,7 +1,7 @@
 -- Where the names of some things tell their costs, those of things that come from them do too.
 use Rattle.std.proofs.Common.{◌≡◌, List, sym, ◌∙◌}
 use Rattle.std.specs.List.{Contains}
-use Rattle.pddl_parser.specs.Words.{Name}
+use Rattle.pddl_syntax.specs.Words.{Name}
 
 -- things of one name have one cost
 abbrev pub Tells : {A C : Type 0} → (A → Name) → (A → C) → List A → Type 0

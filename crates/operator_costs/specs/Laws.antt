@@ -3,10 +3,10 @@ use Rattle.std.specs.Prelude.{ℕ, List}
 use Rattle.normal_task.specs.declared.task.Normal.{Normal}
 use Rattle.normal_task.specs.Meaning.{normal_task}
 use Rattle.normal_task.specs.TellCosts.{NamesTellCosts as StepsTellCosts}
-use Rattle.static_matcher.specs.declared.types.Ground.{Ground}
-use Rattle.static_matcher.specs.Instances.{IsGroundTask}
-use Rattle.relaxed_reach.specs.declared.types.Reached.{Reached}
-use Rattle.relaxed_reach.specs.Reachable.{IsReachedTask}
+use Rattle.ground_task.specs.declared.types.Ground.{Ground}
+use Rattle.ground_task.specs.Instances.{IsGroundTask}
+use Rattle.reached_task.specs.declared.types.Reached.{Reached}
+use Rattle.reached_task.specs.Reachable.{IsReachedTask}
 use Rattle.fdr_effects.specs.Places.{Cover}
 use Rattle.fdr_encoder.specs.Encoding.{IsEncoding}
 use Rattle.sas_task.specs.Task.{Task}

@@ -3,10 +3,10 @@ use Rattle.std.proofs.Common.{◌≡◌, ℕ, true, false, List, [], ◌∷◌, 
 use Rattle.std.specs.Prelude.{◌||◌, ◌&&◌}
 use Rattle.pddl_lexer.specs.Members.{Members, NoMore, WordThen, ListThen, is_empty, is_list, inside, rest}
 use Rattle.pddl_lexer.specs.declared.fault.Fault.{Fault}
-use Rattle.pddl_parser.specs.Outcome.{Reading, Reads, Faults, own, with_last, first}
-use Rattle.pddl_parser.specs.Words.{is_word}
-use Rattle.pddl_parser.proofs.Readings.{◌>>=◌}
-use Rattle.pddl_parser.proofs.Rows.{none_left, word_then, list_then}
+use Rattle.pddl_syntax.specs.Outcome.{Reading, Reads, Faults, own, with_last, first}
+use Rattle.pddl_syntax.specs.Words.{is_word}
+use Rattle.pddl_syntax.proofs.Readings.{◌>>=◌}
+use Rattle.pddl_syntax.proofs.Rows.{none_left, word_then, list_then}
 use Rattle.problem_parser.specs.Reading.{has_list, has_section, check_list}
 
 pub list_none : (m : Members) → is_empty m ≡ true → has_list m ≡ false

@@ -5,21 +5,21 @@ use Rattle.std.proofs.lemmas.List.Elements.{All-nil}
 use Rattle.pddl_lexer.specs.declared.position.At.{At}
 use Rattle.pddl_lexer.specs.Members.{Members, position, inside, rest}
 use Rattle.pddl_lexer.specs.declared.fault.ShapePlace.TheVariants as places
-use Rattle.pddl_parser.specs.declared.expected.Expected.TheVariants as expected
-use Rattle.pddl_parser.specs.declared.types.Init.{Init}
-use Rattle.pddl_parser.specs.declared.types.Init.TheVariants.{Holds, HoldsNot, Value}
-use Rattle.pddl_parser.specs.declared.types.Problem.{Problem}
-use Rattle.pddl_parser.specs.declared.types.Typed.{Typed}
-use Rattle.pddl_parser.specs.Conditions.{condition}
-use Rattle.pddl_parser.specs.Outcome.{Outcome, Reads, made, both, own, refused, every, first, Gives}
-use Rattle.pddl_parser.specs.Shapes.{unsupported, check_all, check_exact}
-use Rattle.pddl_parser.specs.Spelled.{IsSpelled, HasSmallValue, IsWellSpelledProblem}
-use Rattle.pddl_parser.specs.Values.{number, names}
-use Rattle.pddl_parser.specs.Words.{Name, is_word}
-use Rattle.pddl_parser.proofs.Given.{own_reads, made_reads, both_reads, with_last_reads, refused_never, every_has, fold_has, given_has}
-use Rattle.pddl_parser.proofs.Numbers.{number_small}
-use Rattle.pddl_parser.proofs.Sections.{section_has, sections_have}
-use Rattle.pddl_parser.proofs.Spelling.{names_spelled, without_types}
+use Rattle.pddl_syntax.specs.declared.expected.Expected.TheVariants as expected
+use Rattle.pddl_syntax.specs.declared.types.Init.{Init}
+use Rattle.pddl_syntax.specs.declared.types.Init.TheVariants.{Holds, HoldsNot, Value}
+use Rattle.pddl_syntax.specs.declared.types.Problem.{Problem}
+use Rattle.pddl_syntax.specs.declared.types.Typed.{Typed}
+use Rattle.pddl_syntax.specs.Conditions.{condition}
+use Rattle.pddl_syntax.specs.Outcome.{Outcome, Reads, made, both, own, refused, every, first, Gives}
+use Rattle.pddl_syntax.specs.Shapes.{unsupported, check_all, check_exact}
+use Rattle.pddl_syntax.specs.Spelled.{IsSpelled, HasSmallValue, IsWellSpelledProblem}
+use Rattle.pddl_syntax.specs.Values.{number, names}
+use Rattle.pddl_syntax.specs.Words.{Name, is_word}
+use Rattle.pddl_syntax.proofs.Given.{own_reads, made_reads, both_reads, with_last_reads, refused_never, every_has, fold_has, given_has}
+use Rattle.pddl_syntax.proofs.Numbers.{number_small}
+use Rattle.pddl_syntax.proofs.Sections.{section_has, sections_have}
+use Rattle.pddl_syntax.proofs.Spelling.{names_spelled, without_types}
 use Rattle.problem_parser.specs.declared.problem.ProblemKey.TheVariants as problem_keys
 use Rattle.problem_parser.specs.declared.problem.ProblemSection.TheVariants as problem
 use Rattle.problem_parser.specs.Reading.{has_list, ground_atom, init, ProblemKey, ProblemSection, check_file, title, sections, problem_key, is_total_cost, problem_section_of, problem_section, missing_sections, with_problem_section, no_problem, problem_reading}

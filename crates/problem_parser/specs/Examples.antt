@@ -4,8 +4,8 @@ use Rattle.pddl_lexer.specs.declared.fault.Kind.TheVariants.{Shape, BadName, Mis
 use Rattle.pddl_lexer.specs.declared.fault.ShapePlace.TheVariants.{NameList, Condition, Term, InitEntry}
 use Rattle.pddl_lexer.specs.Examples.{then_line, fault}
 use Rattle.pddl_lexer.specs.Nested.{tree}
-use Rattle.pddl_parser.specs.declared.types.Problem.{Problem}
-use Rattle.pddl_parser.specs.Outcome.{Reading, Faults}
+use Rattle.pddl_syntax.specs.declared.types.Problem.{Problem}
+use Rattle.pddl_syntax.specs.Outcome.{Reading, Faults}
 use Rattle.problem_parser.specs.Reading.{problem_reading}
 
 -- what a text without tree faults is read as

@@ -2,7 +2,7 @@
 -- those of its members from left to right; missing sections last.
 pub use Rattle.problem_parser.specs.declared.problem.ProblemKey.{ProblemKey}
 pub use Rattle.problem_parser.specs.declared.problem.ProblemSection.{ProblemSection}
-pub use Rattle.pddl_parser.specs.Reading.{check_file, title, section, sections}
+pub use Rattle.pddl_syntax.specs.Reading.{check_file, title, section, sections}
 use Rattle.std.specs.Prelude.{ℕ, Bool, true, false, ◌&&◌, ◌||◌, List, [], ◌∷◌, ◌++◌, Option, Some, None, Err, codes, if◌then◌else◌}
 use Rattle.std.specs.List.{fold}
 use Rattle.pddl_lexer.specs.declared.position.At.{At}
@@ -10,17 +10,17 @@ use Rattle.pddl_lexer.specs.Members.{Members, NoMore, WordThen, ListThen, is_emp
 use Rattle.pddl_lexer.specs.declared.fault.Fault.{Fault}
 use Rattle.pddl_lexer.specs.declared.fault.Kind.TheVariants.{MissingSection}
 use Rattle.pddl_lexer.specs.declared.fault.ShapePlace.TheVariants as places
-use Rattle.pddl_parser.specs.declared.expected.Expected.TheVariants as expected
-use Rattle.pddl_parser.specs.declared.types.Atom.{Atom}
-use Rattle.pddl_parser.specs.declared.types.Condition.TheVariants.{True}
-use Rattle.pddl_parser.specs.declared.types.Init.{Init}
-use Rattle.pddl_parser.specs.declared.types.Init.TheVariants.{Holds, HoldsNot, Value}
-use Rattle.pddl_parser.specs.declared.types.Problem.{Problem}
-use Rattle.pddl_parser.specs.Conditions.{condition}
-use Rattle.pddl_parser.specs.Outcome.{Reading, Reads, made, both, own, refused, with_last, every}
-use Rattle.pddl_parser.specs.Shapes.{Check, passes, fault, unsupported, check_all, check_exact}
-use Rattle.pddl_parser.specs.Values.{atom, number, names}
-use Rattle.pddl_parser.specs.Words.{Name, spells, is_word}
+use Rattle.pddl_syntax.specs.declared.expected.Expected.TheVariants as expected
+use Rattle.pddl_syntax.specs.declared.types.Atom.{Atom}
+use Rattle.pddl_syntax.specs.declared.types.Condition.TheVariants.{True}
+use Rattle.pddl_syntax.specs.declared.types.Init.{Init}
+use Rattle.pddl_syntax.specs.declared.types.Init.TheVariants.{Holds, HoldsNot, Value}
+use Rattle.pddl_syntax.specs.declared.types.Problem.{Problem}
+use Rattle.pddl_syntax.specs.Conditions.{condition}
+use Rattle.pddl_syntax.specs.Outcome.{Reading, Reads, made, both, own, refused, with_last, every}
+use Rattle.pddl_syntax.specs.Shapes.{Check, passes, fault, unsupported, check_all, check_exact}
+use Rattle.pddl_syntax.specs.Values.{atom, number, names}
+use Rattle.pddl_syntax.specs.Words.{Name, spells, is_word}
 use Rattle.problem_parser.specs.declared.problem.ProblemKey.TheVariants as problem_keys
 use Rattle.problem_parser.specs.declared.problem.ProblemSection.TheVariants as problem
 

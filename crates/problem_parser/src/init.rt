@@ -1,21 +1,21 @@
 // Entries of `:init`.
 ghost use Rattle.std.specs.Prelude.{◌≡◌};
 ghost use Rattle.pddl_lexer.specs.declared.fault.ShapePlace.TheVariants as places;
-ghost use Rattle.pddl_parser.specs.declared.expected.Expected.TheVariants as expected;
+ghost use Rattle.pddl_syntax.specs.declared.expected.Expected.TheVariants as expected;
 ghost use Rattle.problem_parser.specs.Reading as spec;
-ghost use Rattle.pddl_parser.specs.Outcome.{every, first, own, Gives};
-ghost use Rattle.pddl_parser.specs.Shapes.{check_all};
+ghost use Rattle.pddl_syntax.specs.Outcome.{every, first, own, Gives};
+ghost use Rattle.pddl_syntax.specs.Shapes.{check_all};
 
 use lists::List;
 use pddl_lexer::ShapePlace;
-use pddl_parser::values::{atom, number};
-use pddl_parser::{Atom, Cursor, Expected, Init, ParseEnd, check_all, check_exact, unsupported};
+use pddl_syntax::values::{atom, number};
+use pddl_syntax::{Atom, Cursor, Expected, Init, ParseEnd, check_all, check_exact, unsupported};
 use std::alloc::Global;
 
 pub(crate) const ENTRY: Expected = Expected::List(ShapePlace::InitEntry);
 
 /// Whether a list stands among the members.
-#[tactic(auto, using(crate::proofs::Missing::list_none, crate::proofs::Missing::list_here, crate::proofs::Missing::list_after, pddl_parser::proofs::Rows::fewer))]
+#[tactic(auto, using(crate::proofs::Missing::list_none, crate::proofs::Missing::list_here, crate::proofs::Missing::list_after, pddl_syntax::proofs::Rows::fewer))]
 pub(crate) fn has_list(members: &Cursor<'_>) -> bool
     ensures { result ≡ spec.has_list members.now }
 {
@@ -62,7 +62,7 @@ fn init(alloc: Global, cursor: &Cursor<'_>) -> Result<Init, ParseEnd>
 }
 
 /// The entries.
-#[tactic(auto, using(pddl_parser::proofs::Rows::turn, pddl_parser::proofs::Rows::fails, pddl_parser::proofs::Rows::ended, pddl_parser::proofs::Rows::begun, pddl_parser::proofs::Rows::fewer))]
+#[tactic(auto, using(pddl_syntax::proofs::Rows::turn, pddl_syntax::proofs::Rows::fails, pddl_syntax::proofs::Rows::ended, pddl_syntax::proofs::Rows::begun, pddl_syntax::proofs::Rows::fewer))]
 pub(crate) fn inits(alloc: Global, members: &Cursor<'_>) -> Result<List<Init>, ParseEnd>
     ensures { Gives result (first (own (check_all (expected.List places.InitEntry) members.now) (every spec.init members.now))) }
 {

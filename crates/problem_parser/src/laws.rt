@@ -2,9 +2,9 @@
 
 ghost use Rattle.std.specs.Prelude.{◌≡◌};
 ghost use Rattle.pddl_lexer.specs.Members.{Members};
-ghost use Rattle.pddl_parser.specs.Outcome.{Reads};
-ghost use Rattle.pddl_parser.specs.Spelled.{IsWellSpelledProblem};
-ghost use Rattle.pddl_parser.specs.declared.types.Problem.{Problem};
+ghost use Rattle.pddl_syntax.specs.Outcome.{Reads};
+ghost use Rattle.pddl_syntax.specs.Spelled.{IsWellSpelledProblem};
+ghost use Rattle.pddl_syntax.specs.declared.types.Problem.{Problem};
 ghost use Rattle.problem_parser.specs.Examples.{FaultExamples};
 ghost use Rattle.problem_parser.specs.Reading.{problem_reading};
 

@@ -1,16 +1,16 @@
 // Problem files.
 ghost use Rattle.std.specs.Prelude.{◌≡◌, [], map, IfOk};
 ghost use Rattle.std.specs.List.{fold};
-ghost use Rattle.pddl_parser.specs.Outcome.{first, with_last, Gives};
+ghost use Rattle.pddl_syntax.specs.Outcome.{first, with_last, Gives};
 ghost use Rattle.problem_parser.specs.Reading as spec;
-ghost use Rattle.pddl_parser.specs.Spelled.{IsWellSpelledProblem};
+ghost use Rattle.pddl_syntax.specs.Spelled.{IsWellSpelledProblem};
 
 use crate::init::inits;
 use lists::List;
 use pddl_lexer::{At, Fault, Kind, ShapePlace, Tree};
-use pddl_parser::condition::condition;
-use pddl_parser::values::names;
-use pddl_parser::{
+use pddl_syntax::condition::condition;
+use pddl_syntax::values::names;
+use pddl_syntax::{
     Condition, Cursor, Expected, Init, ParseEnd, Problem, Typed, begins_with_colon, check_all,
     check_exact, check_file, check_title, is_repeated, malformed, repeated, spells, unsupported,
 };
@@ -71,7 +71,7 @@ pub(crate) fn is_total_cost(members: &Cursor<'_>) -> bool
 }
 
 /// The section of this sort, by the members after its first. It stands at this position.
-#[tactic(auto, using(pddl_parser::proofs::Readings::first_made), unfolding(crate::specs::Reading::problem_section_of))]
+#[tactic(auto, using(pddl_syntax::proofs::Readings::first_made), unfolding(crate::specs::Reading::problem_section_of))]
 fn section_of(
     alloc: Global,
     key: ProblemKey,
@@ -124,7 +124,7 @@ fn problem_section(
 }
 
 /// The sections among the members.
-#[tactic(auto, using(pddl_parser::proofs::Rows::begun, pddl_parser::proofs::Rows::fewer))]
+#[tactic(auto, using(pddl_syntax::proofs::Rows::begun, pddl_syntax::proofs::Rows::fewer))]
 fn sections(alloc: Global, members: &Cursor<'_>) -> Result<List<ProblemSection>, ParseEnd>
     ensures { Gives result (first (spec.sections spec.problem_section [] members.now)) }
 {
@@ -173,7 +173,7 @@ fn of_sections(alloc: Global, at: At, sections: List<ProblemSection>) -> Problem
 }
 
 /// Whether a section with this keyword stands among the members.
-#[tactic(auto, using(crate::proofs::Missing::has_none, crate::proofs::Missing::has_first, pddl_parser::proofs::Rows::fewer))]
+#[tactic(auto, using(crate::proofs::Missing::has_none, crate::proofs::Missing::has_first, pddl_syntax::proofs::Rows::fewer))]
 fn has_section(keyword: &[u8], members: &Cursor<'_>) -> bool
     ensures { result ≡ spec.has_section keyword.now members.now }
 {
@@ -228,7 +228,7 @@ pub fn parse_problem(alloc: Global, tree: &Tree<'_>) -> Result<Problem, ParseEnd
     read(alloc, tree)
 }
 
-#[tactic(auto, using(pddl_parser::proofs::Readings::first_made, pddl_parser::proofs::Readings::first_titled, crate::proofs::Missing::first_with_last), unfolding(crate::specs::Reading::problem_reading))]
+#[tactic(auto, using(pddl_syntax::proofs::Readings::first_made, pddl_syntax::proofs::Readings::first_titled, crate::proofs::Missing::first_with_last), unfolding(crate::specs::Reading::problem_reading))]
 fn read(alloc: Global, tree: &Tree<'_>) -> Result<Problem, ParseEnd>
     ensures { Gives result (first (spec.problem_reading tree.now)) }
 {

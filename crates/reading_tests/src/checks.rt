@@ -1,6 +1,6 @@
 //! The first check fault of two files.
 
-ghost use Rattle.pddl_parser.specs.Spelled.{IsWellSpelled, IsWellSpelledProblem};
+ghost use Rattle.pddl_syntax.specs.Spelled.{IsWellSpelled, IsWellSpelledProblem};
 
 use crate::reading::{domain_of, problem_of};
 use pddl_lexer::Kind::{
@@ -9,7 +9,7 @@ use pddl_lexer::Kind::{
     ValueConflict, WrongArity,
 };
 use pddl_lexer::{At, Fault};
-use pddl_parser::{Domain, Problem};
+use pddl_syntax::{Domain, Problem};
 use std::alloc::Global;
 use std::process::Abort;
 use std::test::*;

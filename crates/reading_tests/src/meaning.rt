@@ -2,8 +2,8 @@
 
 use crate::reading::{domain_of, problem_of};
 use lists::{List, Text};
-use pddl_parser::{Condition, Domain, Problem};
 use pddl_plain::{Bound, GroundAtom, Step, action_cost, holds, initial, is_given, take_step};
+use pddl_syntax::{Condition, Domain, Problem};
 use std::alloc::{AllocError, Global};
 use std::process::Abort;
 use std::test::*;

@@ -2,7 +2,7 @@
 
 use crate::reading::{domain_of, problem_of};
 use pddl_lexer::At;
-use pddl_parser::{Action, Condition, Derived, Domain, Effect, Head, Init, Named, Problem, Typed};
+use pddl_syntax::{Action, Condition, Derived, Domain, Effect, Head, Init, Named, Problem, Typed};
 use std::test::*;
 
 const DOMAIN: &str = "(define (domain switch) ; a lamp

@@ -1,11 +1,11 @@
 //! Texts that are read.
 
 ghost use Rattle.std.specs.Prelude.{IfOk};
-ghost use Rattle.pddl_parser.specs.Spelled.{IsWellSpelled, IsWellSpelledProblem};
+ghost use Rattle.pddl_syntax.specs.Spelled.{IsWellSpelled, IsWellSpelledProblem};
 
 use domain_parser::parse_domain;
 use pddl_lexer::{Fault, read_tree};
-use pddl_parser::{Domain, ParseEnd, Problem};
+use pddl_syntax::{Domain, ParseEnd, Problem};
 use problem_parser::parse_problem;
 use std::alloc::Global;
 

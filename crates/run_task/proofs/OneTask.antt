@@ -5,14 +5,14 @@ use Rattle.normal_task.specs.declared.task.Normal.{Normal}
 use Rattle.normal_task.specs.Normalised.{normal}
 use Rattle.invariant_guess.specs.declared.types.Found.{Found}
 use Rattle.invariant_guess.specs.Trial.{IsFound}
-use Rattle.static_matcher.specs.declared.types.Ground.{Ground}
-use Rattle.static_matcher.specs.Alike.{AreAlike as AreAlikeGround}
-use Rattle.static_matcher.specs.Instances.{IsGroundTask}
-use Rattle.relaxed_reach.specs.declared.types.Fact.{Fact}
-use Rattle.relaxed_reach.specs.declared.types.Reached.{Reached}
-use Rattle.relaxed_reach.specs.Reachable.{IsReachedTask}
-use Rattle.relaxed_reach.specs.Layers.{AreLayers}
-use Rattle.relaxed_reach.specs.Alike.{AreAlike as AreAlikeReached}
+use Rattle.ground_task.specs.declared.types.Ground.{Ground}
+use Rattle.ground_task.specs.Alike.{AreAlike as AreAlikeGround}
+use Rattle.ground_task.specs.Instances.{IsGroundTask}
+use Rattle.reached_task.specs.declared.types.Fact.{Fact}
+use Rattle.reached_task.specs.declared.types.Reached.{Reached}
+use Rattle.reached_task.specs.Reachable.{IsReachedTask}
+use Rattle.reached_task.specs.Layers.{AreLayers}
+use Rattle.reached_task.specs.Alike.{AreAlike as AreAlikeReached}
 use Rattle.mutex_groups.specs.Laws.{OneSetOfGroups}
 use Rattle.group_cover.specs.Cover.{IsCover}
 use Rattle.group_cover.specs.Laws.{OneCoverOfSame}

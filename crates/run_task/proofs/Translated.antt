@@ -10,22 +10,22 @@ use Rattle.planning.specs.Plan.{LeavesPlan, system as plans}
 use Rattle.planning.specs.Same.{MeansTheSame}
 use Rattle.planning.proofs.IdleSteps.{left_plan}
 use Rattle.planning.proofs.SameRuns.{means_through}
-use Rattle.pddl_parser.specs.declared.types.Domain.{Domain}
-use Rattle.pddl_parser.specs.declared.types.Problem.{Problem}
-use Rattle.pddl_parser.specs.Words.{Name}
-use Rattle.pddl_parser.specs.Holds.{GroundAtom}
-use Rattle.pddl_parser.specs.Plan.{pddl_task, HasPlan, HasBusyPlan}
+use Rattle.pddl_syntax.specs.declared.types.Domain.{Domain}
+use Rattle.pddl_syntax.specs.declared.types.Problem.{Problem}
+use Rattle.pddl_syntax.specs.Words.{Name}
+use Rattle.pddl_syntax.specs.Holds.{GroundAtom}
+use Rattle.pddl_syntax.specs.Plan.{pddl_task, HasPlan, HasBusyPlan}
 use Rattle.normal_task.specs.declared.task.Normal.{Normal}
 use Rattle.contradictions.specs.declared.types.Candidate.{Candidate}
 use Rattle.invariant_check.specs.WellFormed.{is_well_formed}
 use Rattle.invariant_guess.specs.declared.types.Found.{Found}
-use Rattle.static_matcher.specs.declared.types.Ground.{Ground}
+use Rattle.ground_task.specs.declared.types.Ground.{Ground}
 use Rattle.reachable_instances.specs.Parts.{LeavesOut, HoldsReachable}
-use Rattle.static_matcher.specs.Literals.{meaning}
-use Rattle.relaxed_reach.specs.declared.types.Reached.{Reached}
-use Rattle.relaxed_reach.specs.ReachedTask.{is_derived, reached_task}
-use Rattle.relaxed_reach.specs.Reachable.{IsReachedTask}
-use Rattle.relaxed_reach.specs.Layers.{AreLayers}
+use Rattle.ground_task.specs.Literals.{meaning}
+use Rattle.reached_task.specs.declared.types.Reached.{Reached}
+use Rattle.reached_task.specs.ReachedTask.{is_derived, reached_task}
+use Rattle.reached_task.specs.Reachable.{IsReachedTask}
+use Rattle.reached_task.specs.Layers.{AreLayers}
 use Rattle.mutex_groups.specs.Groups.{IsMutexGroup, AreGroups}
 use Rattle.mutex_groups.specs.Laws.{IsReachedOf, GroupsAreSorted, GroupsAreFacts, GroupsAreBasic}
 use Rattle.group_cover.specs.Cover.{IsCover}

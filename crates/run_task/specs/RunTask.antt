@@ -6,8 +6,8 @@ use Rattle.normal_task.specs.declared.task.Normal.{Normal}
 use Rattle.normal_task.specs.Normalised.{normal}
 use Rattle.invariant_guess.specs.declared.types.Found.{Found}
 use Rattle.invariant_guess.specs.Trial.{IsFound}
-use Rattle.relaxed_reach.specs.declared.types.Reached.{Reached}
-use Rattle.relaxed_reach.specs.Layers.{AreLayers}
+use Rattle.reached_task.specs.declared.types.Reached.{Reached}
+use Rattle.reached_task.specs.Layers.{AreLayers}
 use Rattle.mutex_groups.specs.Groups.{AreGroups}
 use Rattle.mutex_groups.specs.Laws.{IsReachedOf}
 use Rattle.group_cover.specs.Cover.{IsCover}

@@ -12,15 +12,15 @@ ghost use Rattle.run_task.specs.RunTask.{IsRunTask};
 ghost use Rattle.run_task.specs.Theorem.{TranslatesPair, TasksTranslate, PassedTasksStand};
 
 use fdr_encoder::laws::{covers, exclusive_covers, simulation, validity};
+use ground_task::laws::one_ground_task;
 use group_cover::laws::one_cover_of_same;
 use invariant_guess::laws::finds;
 use mutex_groups::laws::{groups_are_exclusive, groups_of_facts, one_set_of_groups};
 use normal_task::laws::{names_tell_costs, same_task};
 use operator_costs::laws::operators_tell_costs;
 use pass_book::laws::passes_keep;
-use pddl_parser::laws::idle_steps;
+use pddl_syntax::laws::idle_steps;
 use plan_backmap::solutions_cost_the_total;
-use static_matcher::laws::one_ground_task;
 use task_simplifier::laws::{orders_forgotten, projection_keeps};
 
 /// The task that a run without passes makes of a pair without faults is valid, and translates the pair.
@@ -31,13 +31,13 @@ fn run_task_translates()
     idle_steps();
     same_task();
     normal_task::laws::lawful();
-    static_matcher::laws::lawful();
-    relaxed_reach::laws::lawful();
-    static_matcher::laws::same_meaning();
-    static_matcher::laws::statics_kept();
-    static_matcher::laws::instances_ranked();
-    static_matcher::laws::no_recursion();
-    relaxed_reach::laws::same_meaning();
+    ground_task::laws::lawful();
+    reached_task::laws::lawful();
+    ground_task::laws::same_meaning();
+    ground_task::laws::statics_kept();
+    ground_task::laws::instances_ranked();
+    ground_task::laws::no_recursion();
+    reached_task::laws::same_meaning();
     finds();
     groups_are_exclusive();
     groups_of_facts();
@@ -76,7 +76,7 @@ pub fn one_task_of_a_run()
 {
     finds();
     one_ground_task();
-    relaxed_reach::laws::one_but_for_order();
+    reached_task::laws::one_but_for_order();
     one_set_of_groups();
     one_cover_of_same();
     fdr_encoder::laws::one_but_for_order();

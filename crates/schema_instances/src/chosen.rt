@@ -2,19 +2,19 @@
 ghost use Rattle.std.specs.Prelude.{◌≡◌, IfOk, All as Each, map};
 ghost use Rattle.std.specs.List.{flat_map};
 ghost use Rattle.std.specs.Option.{option_to_list};
-ghost use Rattle.static_matcher.specs.GroundTask.{action_row};
-ghost use Rattle.static_matcher.specs.Instances.{actions_of, static_settling};
-ghost use Rattle.static_matcher.specs.Settled.{kept_actions};
+ghost use Rattle.ground_task.specs.GroundTask.{action_row};
+ghost use Rattle.ground_task.specs.Instances.{actions_of, static_settling};
+ghost use Rattle.ground_task.specs.Settled.{kept_actions};
 ghost use Rattle.schema_instances.specs.Candidates.{candidate, rows_of, IsCandidate};
 ghost use Rattle.schema_instances.specs.Partial.{HasRisingRanges, RisingSchemas};
 
 use crate::grounding::{effects, name};
 use crate::matching::matches;
 use crate::partial::Room;
+use ground_task::GroundAction;
 use lists::List;
 use normal_task::Schema;
 use settled_literals::{Tables, condition, cost, shown_objects};
-use static_matcher::GroundAction;
 use std::alloc::{AllocError, Global};
 
 /// A schema with an object for each parameter, of which an instance may be made.

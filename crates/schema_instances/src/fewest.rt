@@ -1,7 +1,7 @@
 // The static literal with the fewest matches.
 ghost use Rattle.std.specs.Prelude.{◌≡◌, ◌⊎◌, ◌∷◌, ◌<◌, [], true, ℕ, List as Items, length, get_or, IfSome};
 ghost use Rattle.normal_task.specs.Meaning.{initial, atom_of, object_at, objects_at};
-ghost use Rattle.static_matcher.specs.Index.{IsAmong};
+ghost use Rattle.ground_task.specs.Index.{IsAmong};
 ghost use Rattle.schema_instances.specs.Matching.{may_match};
 ghost use Rattle.schema_instances.specs.Partial.{Completes, IsNamed};
 

@@ -1,9 +1,9 @@
 // The initial atoms in buckets, by what stands in them.
 ghost use Rattle.std.specs.Prelude.{◌≡◌, ◌∷◌, [], ℕ, ◌<◌, length, IfOk, OnOk};
-ghost use Rattle.static_matcher.specs.Index.{Grows, IsListedAt, IsListed, IsIndexed};
+ghost use Rattle.ground_task.specs.Index.{Grows, IsListedAt, IsListed, IsIndexed};
 
+use ground_task::Buckets;
 use normal_task::GroundAtom;
-use static_matcher::Buckets;
 use std::alloc::{AllocError, Global};
 
 /// The key of the atoms of a predicate.

@@ -2,14 +2,14 @@
 ghost use Rattle.std.specs.Prelude.{◌≡◌, ◌++◌, filter, IfOk, OnOk};
 ghost use Rattle.std.specs.List.{list_all};
 ghost use Rattle.normal_task.specs.Meaning.{value_of};
-ghost use Rattle.static_matcher.specs.Instances.{condition_of, signed_atom, signed_atoms, static_settling};
-ghost use Rattle.static_matcher.specs.Rows.{literal_can_hold};
-ghost use Rattle.static_matcher.specs.Settled.{kept_condition};
+ghost use Rattle.ground_task.specs.Instances.{condition_of, signed_atom, signed_atoms, static_settling};
+ghost use Rattle.ground_task.specs.Rows.{literal_can_hold};
+ghost use Rattle.ground_task.specs.Settled.{kept_condition};
 
 use crate::tables::Tables;
+use ground_task::{Cond, answers, atom, object_at, set_key};
 use lists::List;
 use normal_task::{CostRow, GroundAtom, Literal};
-use static_matcher::{Cond, answers, atom, object_at, set_key};
 use std::alloc::{AllocError, Global};
 
 /// Whether the literal is on an atom that isn't static, or true. The key's room is taken for a look-up.

@@ -1,15 +1,15 @@
 // A normal task with tables for its look-ups.
 ghost use Rattle.std.specs.Prelude.{◌≡◌, ◌<◌, ℕ, List as Items, true, map, length, get_or, IfOk};
 ghost use Rattle.normal_task.specs.Meaning.{initial, atom_of};
-ghost use Rattle.static_matcher.specs.GroundTask.{is_fixed};
-ghost use Rattle.static_matcher.specs.Index.{IsAmong};
+ghost use Rattle.ground_task.specs.GroundTask.{is_fixed};
+ghost use Rattle.ground_task.specs.Index.{IsAmong};
 ghost use Rattle.settled_literals.specs.Tables.{HoldsAtoms, HoldsValues, has_atom, value_at};
 
 use crate::index::index;
+use ground_task::Buckets;
 use indexmap::IndexMap;
 use normal_task::{GroundAtom, Normal, ValueRow};
 use number_lists::{NumberLists, key_of};
-use static_matcher::Buckets;
 use std::alloc::{AllocError, Global};
 use std::marker::Model;
 
@@ -26,7 +26,7 @@ pub struct Tables<'a> {
 impl<'a> Model for Tables<'a> {
     ghost use Rattle.std.specs.Prelude.{map};
     ghost use Rattle.normal_task.specs.declared.task.Normal.{Normal as NormalTask};
-    ghost use Rattle.static_matcher.specs.Index.{IsIndexed};
+    ghost use Rattle.ground_task.specs.Index.{IsIndexed};
     ghost use Rattle.settled_literals.specs.Tables.{HoldsAtoms, HoldsValues};
 
     ghost Value = { NormalTask };

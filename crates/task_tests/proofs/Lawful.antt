@@ -7,10 +7,10 @@ use Rattle.std.proofs.lemmas.List.Sums.{list_all-from_AllPass}
 use Rattle.normal_task.specs.declared.task.GroundAtom.{GroundAtom}
 use Rattle.normal_task.specs.declared.task.PredicateRow.{PredicateRow}
 use Rattle.normal_task.specs.Lawful.{is_word}
-use Rattle.static_matcher.specs.declared.types.Ground.{Ground}
-use Rattle.static_matcher.specs.declared.types.GroundAction.{GroundAction}
-use Rattle.static_matcher.specs.declared.types.GoalRow.TheVariants.{All}
-use Rattle.static_matcher.specs.Lawful.{is_object, is_atom, is_basic_atom, is_action, IsLawful}
+use Rattle.ground_task.specs.declared.types.Ground.{Ground}
+use Rattle.ground_task.specs.declared.types.GroundAction.{GroundAction}
+use Rattle.ground_task.specs.declared.types.GoalRow.TheVariants.{All}
+use Rattle.ground_task.specs.Lawful.{is_object, is_atom, is_basic_atom, is_action, IsLawful}
 use Rattle.task_tests.specs.Moves.{atom_at, row_of, IsMove, IsStart, AreStarts}
 
 module _ (count : ℕ) (init : List GroundAtom) (moves : List GroundAction) where

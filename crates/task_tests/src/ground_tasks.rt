@@ -1,19 +1,19 @@
 //! Ground tasks, reached tasks and layers, worked by hand.
 
 ghost use Rattle.std.specs.Prelude.{IfOk};
-ghost use Rattle.static_matcher.specs.Lawful.{IsLawful as IsLawfulGround};
-ghost use Rattle.relaxed_reach.specs.Lawful.{IsLawful};
+ghost use Rattle.ground_task.specs.Lawful.{IsLawful as IsLawfulGround};
+ghost use Rattle.reached_task.specs.Lawful.{IsLawful};
 
 use crate::grounds::reached_of;
 use crate::lines::{Names, are_in_order, are_shown, is_shown};
 use crate::tasks::{Asked, Row, assert_answers};
 use crate::texts::{CHAIN, CIRCLE, ENDS, HALF, LAYERS, LOW, ROADS, START};
 use axiom_layers::layers;
+use ground_task::Ground;
 use normal_task::Normal;
 use reachable_instances::reachable;
-use relaxed_reach::{Fact, Reached};
+use reached_task::{Fact, Reached};
 use schema_instances::instances;
-use static_matcher::Ground;
 use std::alloc::{AllocError, Global};
 use std::test::*;
 

@@ -2,14 +2,14 @@
 
 ghost use Rattle.std.specs.Prelude.{◌≡◌, ◌<◌, IfOk};
 ghost use Rattle.normal_task.specs.Lawful.{IsLawful as IsLawfulNormal};
-ghost use Rattle.static_matcher.specs.Lawful.{IsLawful as IsLawfulGround};
-ghost use Rattle.relaxed_reach.specs.Lawful.{IsLawful};
+ghost use Rattle.ground_task.specs.Lawful.{IsLawful as IsLawfulGround};
+ghost use Rattle.reached_task.specs.Lawful.{IsLawful};
 
+use ground_task::Ground;
 use normal_task::Normal;
-use reachable_facts::reach;
-use relaxed_reach::{Reached, Steps};
+use reached_task::{Reached, Steps};
+use relaxed_reach::reach;
 use schema_instances::instances;
-use static_matcher::Ground;
 use std::alloc::{AllocError, Global};
 use std::marker::Brand;
 use std::sync::ledger::{Blank, Ledger};

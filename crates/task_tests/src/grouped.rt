@@ -11,7 +11,7 @@ use invariant_guess::laws::finds;
 use invariant_guess::{Found, find};
 use mutex_groups::groups;
 use normal_task::Normal;
-use relaxed_reach::Reached;
+use reached_task::Reached;
 use std::alloc::{AllocError, Global};
 
 /// A reached task, and groups of its facts.

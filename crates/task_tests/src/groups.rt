@@ -6,7 +6,7 @@ use crate::texts::{BACK, BALLS, BELL, BLOCKS, BOTH, GRIPPER, ONE, RUNG, SWITCH, 
 use greedy_cover::cover;
 use lists::List;
 use normal_task::Normal;
-use relaxed_reach::Fact;
+use reached_task::Fact;
 use std::alloc::Global;
 use std::test::*;
 

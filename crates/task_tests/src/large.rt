@@ -1,18 +1,18 @@
 //! Large tasks, in which a body that searches where it could look up doesn't come to its end in time.
 
-ghost use Rattle.static_matcher.specs.Lawful.{IsLawful};
-ghost use Rattle.relaxed_reach.specs.Lawful.{IsLawful as IsLawfulReached};
+ghost use Rattle.ground_task.specs.Lawful.{IsLawful};
+ghost use Rattle.reached_task.specs.Lawful.{IsLawful as IsLawfulReached};
 
 use crate::grounds::{reached_of, reached_task};
 use crate::made::{Part, made};
 use crate::moves::{line_task, ring_task};
 use crate::tasks::{Asked, is_answered};
 use axiom_layers::layers;
+use ground_task::{Ground, GroundAction};
 use normal_task::{Normal, ObjectRange};
 use reachable_instances::reachable;
-use relaxed_reach::Reached;
+use reached_task::Reached;
 use schema_instances::instances;
-use static_matcher::{Ground, GroundAction};
 use std::alloc::{AllocError, Global};
 use std::test::*;
 

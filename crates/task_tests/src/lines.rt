@@ -1,10 +1,10 @@
 //! Tasks as lines. `go a | at(a) !open(a) | +at(b) road(a, b) | -at(a)` is the action `go a`, which asks that at(a) is true
 //! and open(a) false; one effect adds at(b) where road(a, b) is true, and one deletes at(a).
 
+use ground_task::{Cond, GoalRow, Ground, GroundAction, GroundAxiom};
 use itoa::Buffer;
 use normal_task::GroundAtom;
-use relaxed_reach::{Fact, ReachedAction, ReachedAxiom};
-use static_matcher::{Cond, GoalRow, Ground, GroundAction, GroundAxiom};
+use reached_task::{Fact, ReachedAction, ReachedAxiom};
 
 /// The names of predicates and objects, and the facts that numbers stand for.
 #[derive(Drop)]

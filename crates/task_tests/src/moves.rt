@@ -1,13 +1,13 @@
 //! Ground tasks whose actions lead from one object to another.
 
 ghost use Rattle.std.specs.Prelude.{◌≡◌, ◌<◌, ◌≤◌, true, [], ◌∷◌, All, IfOk, OnOk, codes, replicate};
-ghost use Rattle.static_matcher.specs.Lawful.{IsLawful};
+ghost use Rattle.ground_task.specs.Lawful.{IsLawful};
 ghost use Rattle.task_tests.specs.Moves.{atom_at, row_of, move_of, IsMove, AreStarts};
 
 use atom_objects::Objects;
+use ground_task::{Cond, GoalRow, Ground, GroundAction, GroundEffect};
 use lists::{List, Text};
 use normal_task::{GroundAtom, PredicateRow};
-use static_matcher::{Cond, GoalRow, Ground, GroundAction, GroundEffect};
 use std::alloc::{AllocError, Global};
 
 fn text(alloc: Global, bytes: &[u8]) -> Result<Text, AllocError>

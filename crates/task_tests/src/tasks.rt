@@ -1,7 +1,7 @@
 //! The checked pair and the normal task of two texts, and what is asked of that task.
 
 ghost use Rattle.std.specs.Prelude.{IfOk, IfSome};
-ghost use Rattle.pddl_parser.specs.Spelled.{IsWellSpelled, IsWellSpelledProblem};
+ghost use Rattle.pddl_syntax.specs.Spelled.{IsWellSpelled, IsWellSpelledProblem};
 ghost use Rattle.type_checker.specs.Checked.{IsChecked};
 ghost use Rattle.normal_task.specs.Lawful.{IsLawful};
 
@@ -9,7 +9,7 @@ use domain_parser::parse_domain;
 use normal_task::Normal;
 use normaliser::normalise;
 use pddl_lexer::read_tree;
-use pddl_parser::{Domain, Problem};
+use pddl_syntax::{Domain, Problem};
 use problem_parser::parse_problem;
 use std::alloc::Global;
 use std::process::Abort;

@@ -11,10 +11,10 @@ use Rattle.tl_device.proofs.Grown.{holds_grown}
 use Rattle.command_line.specs.Accepted.{Source, Files, Made, WrittenTask}
 use Rattle.command_line.specs.declared.accepted.Settings.{Settings}
 use Rattle.pddl_lexer.specs.Members.{Members}
-use Rattle.pddl_parser.specs.Outcome.{Reads}
-use Rattle.pddl_parser.specs.Spelled.{IsWellSpelled, IsWellSpelledProblem}
-use Rattle.pddl_parser.specs.declared.types.Domain.{Domain}
-use Rattle.pddl_parser.specs.declared.types.Problem.{Problem}
+use Rattle.pddl_syntax.specs.Outcome.{Reads}
+use Rattle.pddl_syntax.specs.Spelled.{IsWellSpelled, IsWellSpelledProblem}
+use Rattle.pddl_syntax.specs.declared.types.Domain.{Domain}
+use Rattle.pddl_syntax.specs.declared.types.Problem.{Problem}
 use Rattle.domain_parser.specs.Reading.{domain_reading}
 use Rattle.problem_parser.specs.Reading.{problem_reading}
 use Rattle.type_checker.specs.Checked.{FilePair, IsChecked}

@@ -8,14 +8,14 @@ use Rattle.pddl_lexer.specs.Faults.{tree_faults, IfFault, IsFirst}
 use Rattle.pddl_lexer.specs.declared.fault.TreeEnd.{TreeEnd}
 use Rattle.pddl_lexer.specs.declared.fault.TreeEnd.TheVariants as tree_ends
 use Rattle.pddl_lexer.specs.declared.fault.Fault.{Fault}
-use Rattle.pddl_parser.specs.declared.types.Domain.{Domain}
-use Rattle.pddl_parser.specs.declared.types.Problem.{Problem}
-use Rattle.pddl_parser.specs.declared.end.ParseEnd.{ParseEnd}
-use Rattle.pddl_parser.specs.declared.end.ParseEnd.TheVariants as parse_ends
-use Rattle.pddl_parser.specs.Outcome.{Reading, Reads, Faults, first}
+use Rattle.pddl_syntax.specs.declared.types.Domain.{Domain}
+use Rattle.pddl_syntax.specs.declared.types.Problem.{Problem}
+use Rattle.pddl_syntax.specs.declared.end.ParseEnd.{ParseEnd}
+use Rattle.pddl_syntax.specs.declared.end.ParseEnd.TheVariants as parse_ends
+use Rattle.pddl_syntax.specs.Outcome.{Reading, Reads, Faults, first}
 use Rattle.domain_parser.specs.Reading.{domain_reading}
 use Rattle.problem_parser.specs.Reading.{problem_reading}
-use Rattle.pddl_parser.specs.Spelled.{IsWellSpelled, IsWellSpelledProblem}
+use Rattle.pddl_syntax.specs.Spelled.{IsWellSpelled, IsWellSpelledProblem}
 use Rattle.type_checker.specs.Checked.{FilePair, IsChecked, ChecksTo}
 use Rattle.type_checker.specs.Faults.{SidedFault, check_faults}
 use Rattle.type_checker.specs.declared.end.Side.TheVariants as sides

@@ -3,7 +3,7 @@
 ghost use Rattle.std.specs.Prelude.{[], IfOk, IfErr};
 ghost use Rattle.domain_parser.specs.Reading.{domain_reading};
 ghost use Rattle.problem_parser.specs.Reading.{problem_reading};
-ghost use Rattle.pddl_parser.specs.Spelled.{IsWellSpelled, IsWellSpelledProblem};
+ghost use Rattle.pddl_syntax.specs.Spelled.{IsWellSpelled, IsWellSpelledProblem};
 ghost use Rattle.type_checker.specs.Checked.{IsChecked};
 ghost use Rattle.type_checker.specs.Faults.{check_faults};
 ghost use Rattle.translator.specs.Run as run;
@@ -13,7 +13,7 @@ use command_line::Settings;
 use domain_parser::parse_domain;
 use messages::{End, Message};
 use pddl_lexer::{Tree, TreeEnd, read_tree};
-use pddl_parser::{Domain, ParseEnd, Problem};
+use pddl_syntax::{Domain, ParseEnd, Problem};
 use problem_parser::parse_problem;
 use run_task::{Made, task_of_pair};
 use std::alloc::Global;

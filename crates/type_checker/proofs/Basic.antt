@@ -1,9 +1,9 @@
 -- In a pair without check faults no derived predicate is written, neither by an effect nor by `:init`.
 use Rattle.std.proofs.Common.{◌≡◌, true, not, List, [], inl, inr, refl}
 use Rattle.std.specs.List.{list_all, flat_map}
-use Rattle.pddl_parser.specs.declared.types.Domain.{Domain}
-use Rattle.pddl_parser.specs.declared.types.Problem.{Problem}
-use Rattle.pddl_parser.specs.Holds.{is_derived}
+use Rattle.pddl_syntax.specs.declared.types.Domain.{Domain}
+use Rattle.pddl_syntax.specs.declared.types.Problem.{Problem}
+use Rattle.pddl_syntax.specs.Holds.{is_derived}
 use Rattle.fault_positions.specs.Mentions.{Mention, written_predicates, in_domain, in_problem}
 use Rattle.fault_positions.specs.Names.{written_derived}
 use Rattle.type_checker.specs.Faultless.{mentions, is_basic}

@@ -1,11 +1,11 @@
 -- In a pair without check faults no variable is unbound.
 use Rattle.std.proofs.Common.{◌≡◌, [], inl, inr, refl}
 use Rattle.std.specs.List.{flat_map}
-use Rattle.pddl_parser.specs.declared.types.Action.{Action}
-use Rattle.pddl_parser.specs.declared.types.Derived.{Derived}
-use Rattle.pddl_parser.specs.declared.types.Domain.{Domain}
-use Rattle.pddl_parser.specs.declared.types.Init.{Init}
-use Rattle.pddl_parser.specs.declared.types.Problem.{Problem}
+use Rattle.pddl_syntax.specs.declared.types.Action.{Action}
+use Rattle.pddl_syntax.specs.declared.types.Derived.{Derived}
+use Rattle.pddl_syntax.specs.declared.types.Domain.{Domain}
+use Rattle.pddl_syntax.specs.declared.types.Init.{Init}
+use Rattle.pddl_syntax.specs.declared.types.Problem.{Problem}
 use Rattle.lists.proofs.Items.{Among}
 use Rattle.fault_positions.specs.Scopes.{in_condition, in_action, in_axiom, in_domain, in_init, in_problem}
 use Rattle.type_checker.specs.Faults.{check_faults}

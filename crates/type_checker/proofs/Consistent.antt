@@ -6,14 +6,14 @@ use Rattle.std.specs.List.{list_any, list_all}
 use Rattle.std.specs.Option.{option_or}
 use Rattle.std.proofs.lemmas.Bool.{and_from, not-false, not_from_false}
 use Rattle.std.proofs.lemmas.Cmp.{nat_eq_equiv, nat_list_eq_equiv, lists_equiv}
-use Rattle.pddl_parser.specs.declared.types.Domain.{Domain}
-use Rattle.pddl_parser.specs.declared.types.Init.{Init}
-use Rattle.pddl_parser.specs.declared.types.Init.TheVariants.{Holds, HoldsNot, Value}
-use Rattle.pddl_parser.specs.declared.types.Problem.{Problem}
-use Rattle.pddl_parser.specs.Words.{is_same}
-use Rattle.pddl_parser.specs.Holds.{GroundAtom, is_same_atom, ground}
-use Rattle.pddl_parser.specs.Plan.{is_stated}
-use Rattle.pddl_parser.specs.Step.{value_in}
+use Rattle.pddl_syntax.specs.declared.types.Domain.{Domain}
+use Rattle.pddl_syntax.specs.declared.types.Init.{Init}
+use Rattle.pddl_syntax.specs.declared.types.Init.TheVariants.{Holds, HoldsNot, Value}
+use Rattle.pddl_syntax.specs.declared.types.Problem.{Problem}
+use Rattle.pddl_syntax.specs.Words.{is_same}
+use Rattle.pddl_syntax.specs.Holds.{GroundAtom, is_same_atom, ground}
+use Rattle.pddl_syntax.specs.Plan.{is_stated}
+use Rattle.pddl_syntax.specs.Step.{value_in}
 use Rattle.lists.proofs.Items.{each_passes}
 use Rattle.fault_positions.specs.Initial.{denied_position, is_another, revalued_position, revalued_after}
 use Rattle.fault_positions.proofs.InitialEntries.{value_then}

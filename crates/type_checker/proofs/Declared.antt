@@ -4,13 +4,13 @@ use Rattle.std.specs.List.{list_all, list_any, filter, flat_map}
 use Rattle.std.proofs.lemmas.Bool.{and_parts}
 use Rattle.std.proofs.lemmas.Cmp.{nat_list_eq_equiv}
 use Rattle.pddl_lexer.specs.declared.position.At.{At}
-use Rattle.pddl_parser.specs.declared.types.Domain.{Domain}
-use Rattle.pddl_parser.specs.declared.types.Head.{Head}
-use Rattle.pddl_parser.specs.declared.types.Problem.{Problem}
-use Rattle.pddl_parser.specs.declared.types.Term.{Term}
-use Rattle.pddl_parser.specs.declared.types.Term.TheVariants.{Variable, Object}
-use Rattle.pddl_parser.specs.declared.types.Typed.{Typed}
-use Rattle.pddl_parser.specs.Words.{Name, is_same}
+use Rattle.pddl_syntax.specs.declared.types.Domain.{Domain}
+use Rattle.pddl_syntax.specs.declared.types.Head.{Head}
+use Rattle.pddl_syntax.specs.declared.types.Problem.{Problem}
+use Rattle.pddl_syntax.specs.declared.types.Term.{Term}
+use Rattle.pddl_syntax.specs.declared.types.Term.TheVariants.{Variable, Object}
+use Rattle.pddl_syntax.specs.declared.types.Typed.{Typed}
+use Rattle.pddl_syntax.specs.Words.{Name, is_same}
 use Rattle.fault_positions.specs.Mentions.{Mention, Use, predicate_uses, function_uses, arguments, in_domain, in_problem}
 use Rattle.fault_positions.specs.Names.{has_arity, is_declared, is_well_used, use_positions, total_cost_heads, wrong_uses, unknown_object, unknown_objects}
 use Rattle.type_checker.specs.Faultless.{mentions, has_predicate, has_function, is_known, has_objects}

@@ -1,11 +1,11 @@
 -- What all mentions of the two files are, the mentions of each part are.
 use Rattle.std.proofs.Common.{◌≡◌, Bool, true, List, ◌++◌}
 use Rattle.std.specs.List.{list_all, flat_map}
-use Rattle.pddl_parser.specs.declared.types.Action.{Action}
-use Rattle.pddl_parser.specs.declared.types.Derived.{Derived}
-use Rattle.pddl_parser.specs.declared.types.Domain.{Domain}
-use Rattle.pddl_parser.specs.declared.types.Init.{Init}
-use Rattle.pddl_parser.specs.declared.types.Problem.{Problem}
+use Rattle.pddl_syntax.specs.declared.types.Action.{Action}
+use Rattle.pddl_syntax.specs.declared.types.Derived.{Derived}
+use Rattle.pddl_syntax.specs.declared.types.Domain.{Domain}
+use Rattle.pddl_syntax.specs.declared.types.Init.{Init}
+use Rattle.pddl_syntax.specs.declared.types.Problem.{Problem}
 use Rattle.lists.proofs.Items.{Among, all_passes, each_passes, among_left, among_right, among_flat_map}
 use Rattle.fault_positions.specs.Mentions.{Mention, in_head, in_condition, in_action, in_axiom, in_domain, in_init, in_problem}
 use Rattle.type_checker.specs.Faultless.{mentions}

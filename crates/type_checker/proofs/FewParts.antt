@@ -1,8 +1,8 @@
 -- In a pair without check faults no condition is cut into too many parts.
 use Rattle.std.proofs.Common.{◌≡◌, true, [], ◌++◌, inl, inr, refl}
 use Rattle.std.specs.List.{list_all}
-use Rattle.pddl_parser.specs.declared.types.Domain.{Domain}
-use Rattle.pddl_parser.specs.declared.types.Problem.{Problem}
+use Rattle.pddl_syntax.specs.declared.types.Domain.{Domain}
+use Rattle.pddl_syntax.specs.declared.types.Problem.{Problem}
 use Rattle.lists.proofs.Items.{all_both}
 use Rattle.fault_positions.specs.Sizes.{domain_cuts, problem_cuts}
 use Rattle.type_checker.specs.Faultless.{has_few_parts}

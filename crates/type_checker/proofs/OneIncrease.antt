@@ -5,15 +5,15 @@ use Rattle.std.specs.List.{list_all, flat_map}
 use Rattle.std.proofs.lemmas.Bool.{and_parts, and_from, not-true, false≢true}
 use Rattle.std.proofs.lemmas.List.{length-append}
 use Rattle.pddl_lexer.specs.declared.position.At.{At}
-use Rattle.pddl_parser.specs.declared.types.Action.{Action}
-use Rattle.pddl_parser.specs.declared.types.Atom.{Atom}
-use Rattle.pddl_parser.specs.declared.types.Cost.{Cost}
-use Rattle.pddl_parser.specs.declared.types.Cost.TheVariants.{Number, Term}
-use Rattle.pddl_parser.specs.declared.types.Domain.{Domain}
-use Rattle.pddl_parser.specs.declared.types.Effect.{Effect, Effect-F}
-use Rattle.pddl_parser.specs.declared.types.Problem.{Problem}
-use Rattle.pddl_parser.specs.Step as step
-use Rattle.pddl_parser.specs.Words.{is_same}
+use Rattle.pddl_syntax.specs.declared.types.Action.{Action}
+use Rattle.pddl_syntax.specs.declared.types.Atom.{Atom}
+use Rattle.pddl_syntax.specs.declared.types.Cost.{Cost}
+use Rattle.pddl_syntax.specs.declared.types.Cost.TheVariants.{Number, Term}
+use Rattle.pddl_syntax.specs.declared.types.Domain.{Domain}
+use Rattle.pddl_syntax.specs.declared.types.Effect.{Effect, Effect-F}
+use Rattle.pddl_syntax.specs.declared.types.Problem.{Problem}
+use Rattle.pddl_syntax.specs.Step as step
+use Rattle.pddl_syntax.specs.Words.{is_same}
 use Rattle.lists.proofs.Items.{Among, Each, each_both, all_passes, each_passes, all_left, all_right}
 use Rattle.fault_positions.specs.Increases.{Depth, Outermost, Inner, Increase, total_cost, joined_depth, may_stand, is_proper, is_total_cost_term, increases_step, increases, ill_formed}
 use Rattle.fault_positions.specs.Mentions.{Mention, Variables, Function, use_of, in_condition, in_effect, in_action, effect_step}

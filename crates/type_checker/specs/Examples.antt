@@ -2,12 +2,12 @@
 use Rattle.std.specs.Prelude.{ℕ, false, List, [], ◌∷◌, codes}
 use Rattle.pddl_lexer.specs.declared.fault.Kind.TheVariants.{UnknownType}
 use Rattle.pddl_lexer.specs.Examples.{place, fault}
-use Rattle.pddl_parser.specs.declared.types.Condition.TheVariants.{True}
-use Rattle.pddl_parser.specs.declared.types.Domain.{Domain}
-use Rattle.pddl_parser.specs.declared.types.Named.{Named}
-use Rattle.pddl_parser.specs.declared.types.Problem.{Problem}
-use Rattle.pddl_parser.specs.declared.types.Typed.{Typed}
-use Rattle.pddl_parser.specs.Words.{Name}
+use Rattle.pddl_syntax.specs.declared.types.Condition.TheVariants.{True}
+use Rattle.pddl_syntax.specs.declared.types.Domain.{Domain}
+use Rattle.pddl_syntax.specs.declared.types.Named.{Named}
+use Rattle.pddl_syntax.specs.declared.types.Problem.{Problem}
+use Rattle.pddl_syntax.specs.declared.types.Typed.{Typed}
+use Rattle.pddl_syntax.specs.Words.{Name}
 use Rattle.type_checker.specs.declared.end.Side.TheVariants as sides
 use Rattle.type_checker.specs.Faults.{SidedFault}
 

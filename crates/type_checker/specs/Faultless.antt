@@ -1,17 +1,17 @@
 -- What a domain and a problem without check faults have.
 use Rattle.std.specs.Prelude.{ℕ, Bool, true, false, not, ◌==◌, nat_le, List, [], ◌∷◌, ◌++◌, Option, Some, None}
 use Rattle.std.specs.List.{list_any, list_all}
-use Rattle.pddl_parser.specs.declared.types.Domain.{Domain}
-use Rattle.pddl_parser.specs.declared.types.Init.{Init}
-use Rattle.pddl_parser.specs.declared.types.Init.TheVariants.{Holds, HoldsNot, Value}
-use Rattle.pddl_parser.specs.declared.types.Problem.{Problem}
-use Rattle.pddl_parser.specs.declared.types.Term.{Term}
-use Rattle.pddl_parser.specs.declared.types.Term.TheVariants.{Variable, Object}
-use Rattle.pddl_parser.specs.Words.{is_same}
-use Rattle.pddl_parser.specs.Objects.{objects}
-use Rattle.pddl_parser.specs.Holds.{ground, is_derived}
-use Rattle.pddl_parser.specs.Plan.{is_stated}
-use Rattle.pddl_parser.specs.Step.{value_in}
+use Rattle.pddl_syntax.specs.declared.types.Domain.{Domain}
+use Rattle.pddl_syntax.specs.declared.types.Init.{Init}
+use Rattle.pddl_syntax.specs.declared.types.Init.TheVariants.{Holds, HoldsNot, Value}
+use Rattle.pddl_syntax.specs.declared.types.Problem.{Problem}
+use Rattle.pddl_syntax.specs.declared.types.Term.{Term}
+use Rattle.pddl_syntax.specs.declared.types.Term.TheVariants.{Variable, Object}
+use Rattle.pddl_syntax.specs.Words.{is_same}
+use Rattle.pddl_syntax.specs.Objects.{objects}
+use Rattle.pddl_syntax.specs.Holds.{ground, is_derived}
+use Rattle.pddl_syntax.specs.Plan.{is_stated}
+use Rattle.pddl_syntax.specs.Step.{value_in}
 use Rattle.fault_positions.specs.Increases.{Increase}
 use Rattle.fault_positions.specs.Mentions.{Mention, predicate_uses, function_uses, written_predicates, arguments, in_domain, in_problem}
 use Rattle.fault_positions.specs.Names.{has_arity, is_well_used}

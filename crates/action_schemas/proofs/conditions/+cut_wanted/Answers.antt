@@ -1,7 +1,7 @@
 use Rattle.std.proofs.Common.{not, List, [], ◌∷◌, ◌+◌, map, take, length, ap, subst, ◌∙◌}
 use Rattle.std.specs.Prelude.{IfOk}
 use Rattle.std.proofs.lemmas.Result.{IfOk-weaker}
-use Rattle.pddl_parser.specs.declared.types.Condition.{Condition}
+use Rattle.pddl_syntax.specs.declared.types.Condition.{Condition}
 use Rattle.normal_task.specs.declared.parts.Fresh.{Fresh}
 use Rattle.normal_task.specs.declared.parts.Part.{Part}
 use Rattle.normal_task.specs.Parts.{Made, Known, known, parts}

@@ -1,6 +1,6 @@
 use Rattle.std.proofs.Common.{List, [], ap, subst, ◌∙◌}
 use Rattle.std.specs.Prelude.{IfOk}
-use Rattle.pddl_parser.specs.declared.types.Typed.{Typed}
+use Rattle.pddl_syntax.specs.declared.types.Typed.{Typed}
 use Rattle.normal_task.specs.Parts.{Scope, scope_inside}
 use Rattle.normal_rows.specs.MadeThings.{IsMadeOf}
 use Rattle.action_schemas.specs.SchemaRows.{schemas_in_scope}

@@ -1,6 +1,6 @@
 use Rattle.std.proofs.Common.{◌≡◌, ◌++◌, map, take}
 use Rattle.std.specs.Prelude.{filter}
-use Rattle.relaxed_reach.specs.ReachedTask.{is_derived}
+use Rattle.reached_task.specs.ReachedTask.{is_derived}
 use Rattle.axiom_layers.specs.Arcs.{arc_to}
 use Rattle.axiom_layers.proofs.arcs.push_arcs.Given as goal
 

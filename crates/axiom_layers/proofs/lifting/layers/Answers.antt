@@ -2,10 +2,10 @@ use Rattle.std.proofs.Common.{◌≡◌, ◌<◌, ◌^◌, ℕ, List, ◌++◌, 
 use Rattle.std.specs.List.{All}
 use Rattle.std.proofs.Math.Seq.{take-append_seam}
 use Rattle.std.proofs.lemmas.List.Elements.{All-from_get_or}
-use Rattle.relaxed_reach.specs.declared.types.Fact.{Fact}
-use Rattle.relaxed_reach.specs.declared.types.Reached.{Reached}
-use Rattle.relaxed_reach.specs.Lawful.{IsLawful}
-use Rattle.relaxed_reach.specs.Layers.{AreLayers}
+use Rattle.reached_task.specs.declared.types.Fact.{Fact}
+use Rattle.reached_task.specs.declared.types.Reached.{Reached}
+use Rattle.reached_task.specs.Lawful.{IsLawful}
+use Rattle.reached_task.specs.Layers.{AreLayers}
 use Rattle.names.specs.declared.arcs.Arc.{Arc}
 use Rattle.axiom_layers.specs.Arcs.{arcs_of, AreSound, IsAbove, AreHeld}
 use Rattle.axiom_layers.proofs.Found.{sound, are_layers}

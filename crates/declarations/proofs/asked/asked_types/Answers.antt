@@ -1,5 +1,5 @@
 use Rattle.std.proofs.Common.{List, map, ap, Bor}
-use Rattle.pddl_parser.specs.declared.types.Named.{Named}
+use Rattle.pddl_syntax.specs.declared.types.Named.{Named}
 use Rattle.declarations.proofs.AskedTypes.{heads_within, all_asked}
 use Rattle.declarations.proofs.asked.asked_types.Goals as goal
 

@@ -1,6 +1,6 @@
 use Rattle.std.proofs.Common.{◌≡◌, take}
 use Rattle.std.specs.List.{list_any}
-use Rattle.pddl_parser.specs.Words.{Name, is_same}
+use Rattle.pddl_syntax.specs.Words.{Name, is_same}
 use Rattle.declarations.specs.Below.{has}
 use Rattle.declarations.proofs.below.listed_names.Given as goal
 

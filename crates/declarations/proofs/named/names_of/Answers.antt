@@ -1,7 +1,7 @@
 use Rattle.std.proofs.Common.{[], ap, ◌∙◌}
 use Rattle.std.specs.List.{list_any}
 use Rattle.names.specs.Names.{Name, is_same}
-use Rattle.pddl_parser.specs.declared.types.Head.{Head}
+use Rattle.pddl_syntax.specs.declared.types.Head.{Head}
 use Rattle.declarations.proofs.NewNames.{is_new}
 use Rattle.declarations.proofs.named.names_of.Goals as goal
 

@@ -1,8 +1,8 @@
 use Rattle.std.proofs.Common.{◌≡◌}
 use Rattle.pddl_lexer.specs.Members.{count}
 use Rattle.domain_parser.specs.Reading.{action_parts}
-use Rattle.pddl_parser.specs.Outcome.{first}
-use Rattle.pddl_parser.proofs.Rows.{after}
+use Rattle.pddl_syntax.specs.Outcome.{first}
+use Rattle.pddl_syntax.proofs.Rows.{after}
 use Rattle.domain_parser.proofs.action.parts.Given as goal
 
 abbrev pub invariant-loop-cursor : goal.invariant-loop-cursor

@@ -3,7 +3,7 @@ use Rattle.std.specs.Prelude.{map}
 use Rattle.std.proofs.lemmas.List.{map-append}
 use Rattle.pddl_lexer.specs.Members.{is_empty, is_list}
 use Rattle.domain_parser.specs.Reading.{domain_section}
-use Rattle.pddl_parser.proofs.Sections.{turn, fails, past_word, ended}
+use Rattle.pddl_syntax.proofs.Sections.{turn, fails, past_word, ended}
 use Rattle.domain_parser.proofs.domain.sections.Goals.{then-is_list+in_ok-domain_section+in_ok-push+in_ok-push-2, else-is_list}
 use Rattle.domain_parser.proofs.domain.sections.Goals as goal
 

@@ -1,8 +1,8 @@
 use Rattle.std.proofs.Common.{◌≡◌}
 use Rattle.pddl_lexer.specs.Members.{count}
-use Rattle.pddl_parser.specs.Outcome.{every, first}
-use Rattle.pddl_parser.specs.Values.{head}
-use Rattle.pddl_parser.proofs.Rows.{after}
+use Rattle.pddl_syntax.specs.Outcome.{every, first}
+use Rattle.pddl_syntax.specs.Values.{head}
+use Rattle.pddl_syntax.proofs.Rows.{after}
 use Rattle.domain_parser.proofs.function.predicates.Given as goal
 
 abbrev pub invariant-loop-cursor : goal.invariant-loop-cursor

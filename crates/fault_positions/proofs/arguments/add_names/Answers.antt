@@ -1,5 +1,5 @@
 use Rattle.std.specs.List.{list_any}
-use Rattle.pddl_parser.specs.Words.{is_same}
+use Rattle.pddl_syntax.specs.Words.{is_same}
 use Rattle.fault_positions.proofs.NameTests.{names_turn}
 use Rattle.fault_positions.proofs.arguments.add_names.Goals as goal
 

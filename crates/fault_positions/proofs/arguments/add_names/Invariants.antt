@@ -1,6 +1,6 @@
 use Rattle.std.specs.List.{list_any}
 use Rattle.std.proofs.Common.{take}
-use Rattle.pddl_parser.specs.Words.{is_same}
+use Rattle.pddl_syntax.specs.Words.{is_same}
 use Rattle.fault_positions.specs.Arguments.{AreThose}
 use Rattle.fault_positions.proofs.NameTests.{is_named}
 use Rattle.fault_positions.proofs.arguments.add_names.Given as goal

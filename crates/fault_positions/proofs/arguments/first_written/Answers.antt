@@ -1,6 +1,6 @@
 use Rattle.std.proofs.Common.{rules, refl, ap, ◌∙◌}
-use Rattle.pddl_parser.specs.declared.types.Named.{Named}
-use Rattle.pddl_parser.specs.Holds.{is_derived}
+use Rattle.pddl_syntax.specs.declared.types.Named.{Named}
+use Rattle.pddl_syntax.specs.Holds.{is_derived}
 use Rattle.fault_positions.specs.declared.mentions.Mention.{Mention}
 use Rattle.fault_positions.specs.Positions.{earliest, positions_where}
 use Rattle.fault_positions.specs.Mentions.{written_predicates}

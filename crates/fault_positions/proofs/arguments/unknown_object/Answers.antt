@@ -1,6 +1,6 @@
 use Rattle.std.proofs.Common.{Bool, [], ◌∷◌, sym, ap, ◌∙◌}
 use Rattle.std.specs.Prelude.{if◌then◌else◌}
-use Rattle.pddl_parser.specs.Objects.{objects}
+use Rattle.pddl_syntax.specs.Objects.{objects}
 use Rattle.fault_positions.specs.Arguments.{is_listed}
 use Rattle.fault_positions.specs.Positions.{earliest}
 use Rattle.fault_positions.proofs.arguments.unknown_object.Goals as goal

@@ -1,6 +1,6 @@
 use Rattle.std.proofs.Common.{map, ap, ◌∙◌}
 use Rattle.std.specs.List.{filter}
-use Rattle.pddl_parser.specs.declared.types.Typed.{Typed}
+use Rattle.pddl_syntax.specs.declared.types.Typed.{Typed}
 use Rattle.names.specs.Links.{is_on_cycle}
 use Rattle.fault_positions.specs.Positions.{earliest}
 use Rattle.fault_positions.specs.Links.{type_links}

@@ -1,5 +1,5 @@
 use Rattle.std.proofs.Common.{◌∷◌, [], ◌++◌, sym, subst}
-use Rattle.pddl_parser.specs.declared.types.Init.{Init}
+use Rattle.pddl_syntax.specs.declared.types.Init.{Init}
 use Rattle.fault_positions.specs.AtomTables.{HasStated}
 use Rattle.fault_positions.proofs.AtomKeys.{stated_more}
 use Rattle.fault_positions.proofs.initial.add_stated.Goals as goal

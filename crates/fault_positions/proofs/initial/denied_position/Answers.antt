@@ -1,6 +1,6 @@
 use Rattle.std.proofs.Common.{sym, ap, ◌∙◌}
 use Rattle.std.specs.Bool.{then_some}
-use Rattle.pddl_parser.specs.declared.types.Init.{Init}
+use Rattle.pddl_syntax.specs.declared.types.Init.{Init}
 use Rattle.fault_positions.specs.Initial.{denied_position}
 use Rattle.fault_positions.specs.Positions.{earliest}
 use Rattle.fault_positions.proofs.AtomKeys.{denied_if}

@@ -1,6 +1,6 @@
 use Rattle.std.proofs.Common.{◌≡◌, rules, List, subst}
 use Rattle.std.specs.Prelude.{IfOk}
-use Rattle.pddl_parser.specs.declared.types.Init.{Init}
+use Rattle.pddl_syntax.specs.declared.types.Init.{Init}
 use Rattle.fault_positions.specs.Initial.{denied_position, denied_positions}
 use Rattle.fault_positions.specs.Positions.{earliest}
 use Rattle.fault_positions.proofs.initial.first_denied.Goals as goal

@@ -1,6 +1,6 @@
 use Rattle.std.proofs.Common.{◌≡◌, ◌+◌, List, ◌∷◌, [], ◌++◌, take, take_all, get_or, sym, ap, subst, ◌∙◌}
 use Rattle.std.proofs.lemmas.List.{take_more}
-use Rattle.pddl_parser.specs.declared.types.Init.{Init}
+use Rattle.pddl_syntax.specs.declared.types.Init.{Init}
 use Rattle.fault_positions.specs.AtomTables.{HasValues}
 use Rattle.fault_positions.specs.Initial.{revalued_after, revalued_position}
 use Rattle.fault_positions.specs.Positions.{earlier, earliest}

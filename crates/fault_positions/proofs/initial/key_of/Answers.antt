@@ -1,7 +1,7 @@
 use Rattle.std.proofs.Common.{Bor, ◌∷◌, [], ◌++◌, map, take_all, ap, ◌∙◌}
 use Rattle.std.proofs.lemmas.List.{map-append}
-use Rattle.pddl_parser.specs.Holds.{object_of}
-use Rattle.pddl_parser.specs.Words.{Name}
+use Rattle.pddl_syntax.specs.Holds.{object_of}
+use Rattle.pddl_syntax.specs.Words.{Name}
 use Rattle.fault_positions.specs.AtomTables.{names_in}
 use Rattle.lists.proofs.LoopSteps.{map_turn}
 use Rattle.fault_positions.proofs.initial.key_of.Goals as goal

@@ -1,5 +1,5 @@
 use Rattle.std.proofs.Common.{◌≡◌, ◌∷◌, [], map, take}
-use Rattle.pddl_parser.specs.Holds.{object_of}
+use Rattle.pddl_syntax.specs.Holds.{object_of}
 use Rattle.fault_positions.specs.AtomTables.{names_in}
 use Rattle.fault_positions.proofs.initial.key_of.Given as goal
 

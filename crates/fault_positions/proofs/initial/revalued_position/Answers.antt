@@ -1,8 +1,8 @@
 use Rattle.std.proofs.Common.{◌≡◌, ◌==◌, ◌∷◌, [], ◌++◌, None, Some, not, if◌then◌else◌, refl, sym, ap, subst, ◌∙◌}
-use Rattle.pddl_parser.specs.declared.types.Init.{Init}
-use Rattle.pddl_parser.specs.declared.types.Init.TheVariants.{Holds, HoldsNot}
-use Rattle.pddl_parser.specs.Holds.{ground}
-use Rattle.pddl_parser.specs.Step.{value_in}
+use Rattle.pddl_syntax.specs.declared.types.Init.{Init}
+use Rattle.pddl_syntax.specs.declared.types.Init.TheVariants.{Holds, HoldsNot}
+use Rattle.pddl_syntax.specs.Holds.{ground}
+use Rattle.pddl_syntax.specs.Step.{value_in}
 use Rattle.fault_positions.specs.AtomTables.{HasValues}
 use Rattle.fault_positions.specs.Initial.{is_another, revalued_position}
 use Rattle.fault_positions.specs.Positions.{earliest}

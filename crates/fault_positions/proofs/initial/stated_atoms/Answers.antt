@@ -1,6 +1,6 @@
 use Rattle.std.proofs.Common.{List, ◌∷◌, [], ◌++◌, take, sym, ap, subst, ◌∙◌}
 use Rattle.std.proofs.lemmas.List.{take_more}
-use Rattle.pddl_parser.specs.declared.types.Init.{Init}
+use Rattle.pddl_syntax.specs.declared.types.Init.{Init}
 use Rattle.fault_positions.specs.AtomTables.{HasStated}
 use Rattle.fault_positions.proofs.initial.stated_atoms.Goals as goal
 

@@ -1,9 +1,9 @@
 use Rattle.std.proofs.Common.{◌≡◌, List, [], ◌∷◌, ◌++◌, ◌⊎◌, inl, inr, sym, ap, ◌∙◌}
 use Rattle.pddl_lexer.specs.declared.position.At.{At}
-use Rattle.pddl_parser.specs.declared.types.Condition.{Condition}
-use Rattle.pddl_parser.specs.declared.types.Condition.TheVariants.{Forall, Exists}
-use Rattle.pddl_parser.specs.declared.types.Typed.{Typed}
-use Rattle.pddl_parser.proofs.ConditionCases.{fold-Imply, fold-Forall, fold-Exists}
+use Rattle.pddl_syntax.specs.declared.types.Condition.{Condition}
+use Rattle.pddl_syntax.specs.declared.types.Condition.TheVariants.{Forall, Exists}
+use Rattle.pddl_syntax.specs.declared.types.Typed.{Typed}
+use Rattle.pddl_syntax.proofs.ConditionCases.{fold-Imply, fold-Forall, fold-Exists}
 use Rattle.fault_positions.specs.Mentions.{Mention, Variables, condition_step, in_condition}
 use Rattle.fault_positions.specs.Seen.{all_seen}
 use Rattle.fault_positions.proofs.Pieces.{made_turn, two_pieces}

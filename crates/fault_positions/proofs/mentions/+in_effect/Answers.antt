@@ -1,6 +1,6 @@
 use Rattle.std.proofs.Common.{List, [], ◌∷◌, ◌++◌, sym, ap, ◌∙◌}
-use Rattle.pddl_parser.specs.declared.types.Typed.{Typed}
-use Rattle.pddl_parser.proofs.EffectCases.{fold-When, fold-Forall, fold-Increase}
+use Rattle.pddl_syntax.specs.declared.types.Typed.{Typed}
+use Rattle.pddl_syntax.proofs.EffectCases.{fold-When, fold-Forall, fold-Increase}
 use Rattle.fault_positions.specs.Mentions.{Mention, Variables, Function, in_condition, in_cost, effect_step, in_effect}
 use Rattle.fault_positions.specs.Seen.{all_seen}
 use Rattle.fault_positions.proofs.Pieces.{made_turn, two_pieces}

@@ -1,5 +1,5 @@
 use Rattle.std.proofs.Common.{List, [], ◌∷◌, ◌++◌, ap, ◌∙◌}
-use Rattle.pddl_parser.specs.declared.types.Typed.{Typed}
+use Rattle.pddl_syntax.specs.declared.types.Typed.{Typed}
 use Rattle.fault_positions.specs.Mentions.{Variables, in_head}
 use Rattle.fault_positions.specs.Seen.{all_seen}
 use Rattle.lists.proofs.LoopSteps.{flat_map_turn}

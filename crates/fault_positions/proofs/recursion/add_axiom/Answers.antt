@@ -1,6 +1,6 @@
 use Rattle.std.proofs.Common.{◌≡◌, ◌++◌, List, OnOk, map, ap, subst, ◌∙◌}
 use Rattle.std.specs.List.{flat_map}
-use Rattle.pddl_parser.specs.Words.{Name}
+use Rattle.pddl_syntax.specs.Words.{Name}
 use Rattle.names.specs.Links.{link}
 use Rattle.fault_positions.specs.Mentions.{Mention, asked_predicates}
 use Rattle.fault_positions.specs.Seen.{all_seen}

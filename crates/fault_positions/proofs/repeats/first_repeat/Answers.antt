@@ -1,8 +1,8 @@
 use Rattle.std.proofs.Common.{◌||◌, ◌∷◌, [], map, refl, ap, ◌∙◌}
 use Rattle.std.specs.Prelude.{if◌then◌else◌}
 use Rattle.std.specs.List.{list_any}
-use Rattle.pddl_parser.specs.declared.types.Named.{Named}
-use Rattle.pddl_parser.specs.Words.{is_same}
+use Rattle.pddl_syntax.specs.declared.types.Named.{Named}
+use Rattle.pddl_syntax.specs.Words.{is_same}
 use Rattle.fault_positions.specs.Positions.{earliest}
 use Rattle.fault_positions.specs.Names.{repeats_after}
 use Rattle.fault_positions.proofs.RepeatedNames.{repeat_turn}

@@ -1,6 +1,6 @@
 use Rattle.std.proofs.Common.{◌≡◌, Bor, map, drop}
 use Rattle.std.specs.Fn.{FnReturnsAt}
-use Rattle.pddl_parser.specs.declared.types.Named.{Named}
+use Rattle.pddl_syntax.specs.declared.types.Named.{Named}
 use Rattle.fault_positions.specs.Positions.{earlier, earliest}
 use Rattle.fault_positions.specs.Names.{repeats_after}
 use Rattle.fault_positions.proofs.repeats.first_repeat.Given as goal

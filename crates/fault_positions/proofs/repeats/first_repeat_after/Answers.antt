@@ -1,5 +1,5 @@
 use Rattle.std.proofs.Common.{rules}
-use Rattle.pddl_parser.specs.declared.types.Typed.{Typed}
+use Rattle.pddl_syntax.specs.declared.types.Typed.{Typed}
 use Rattle.fault_positions.proofs.repeats.first_repeat_after.Goals as goal
 
 pub returns : goal.returns

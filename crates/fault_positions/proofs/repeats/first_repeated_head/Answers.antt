@@ -1,6 +1,6 @@
 use Rattle.std.proofs.Common.{◌≡◌, rules, List, map, IfOk, subst}
-use Rattle.pddl_parser.specs.declared.types.Head.{Head}
-use Rattle.pddl_parser.specs.Words.{Name}
+use Rattle.pddl_syntax.specs.declared.types.Head.{Head}
+use Rattle.pddl_syntax.specs.Words.{Name}
 use Rattle.fault_positions.specs.Positions.{earliest}
 use Rattle.fault_positions.specs.Names.{repeats_after}
 use Rattle.fault_positions.proofs.repeats.first_repeated_head.Goals as goal

@@ -1,5 +1,5 @@
 use Rattle.std.proofs.Common.{rules, refl, ap, ◌∙◌}
-use Rattle.pddl_parser.specs.declared.types.Derived.{Derived}
+use Rattle.pddl_syntax.specs.declared.types.Derived.{Derived}
 use Rattle.fault_positions.specs.Positions.{earliest}
 use Rattle.fault_positions.specs.Sizes.{too_large, axiom_cuts}
 use Rattle.fault_positions.proofs.Capping.{too_large_append}

@@ -1,6 +1,6 @@
 use Rattle.std.proofs.Common.{◌≡◌, ◌||◌, take}
 use Rattle.std.specs.List.{list_any}
-use Rattle.pddl_parser.specs.Words.{Name, is_same}
+use Rattle.pddl_syntax.specs.Words.{Name, is_same}
 use Rattle.fault_positions.proofs.types.add_types.Given as goal
 
 abbrev pub invariant-loop-type_name : goal.invariant-loop-type_name

@@ -1,8 +1,8 @@
 use Rattle.std.proofs.Common.{rules, refl, not, ap, ◌∙◌}
 use Rattle.std.specs.List.{list_any}
-use Rattle.pddl_parser.specs.declared.types.Named.{Named}
-use Rattle.pddl_parser.specs.declared.types.Typed.{Typed}
-use Rattle.pddl_parser.specs.Words.{is_same}
+use Rattle.pddl_syntax.specs.declared.types.Named.{Named}
+use Rattle.pddl_syntax.specs.declared.types.Typed.{Typed}
+use Rattle.pddl_syntax.specs.Words.{is_same}
 use Rattle.fault_positions.specs.Positions.{earliest, positions_where}
 use Rattle.fault_positions.proofs.MentionPositions.{positions_where_join, of_pieces}
 use Rattle.fault_positions.proofs.types.first_in_list.Goals as goal

@@ -1,7 +1,7 @@
 use Rattle.std.proofs.Common.{rules, refl, not, ap, ◌∙◌}
 use Rattle.std.specs.List.{list_any}
-use Rattle.pddl_parser.specs.declared.types.Named.{Named}
-use Rattle.pddl_parser.specs.Words.{is_same}
+use Rattle.pddl_syntax.specs.declared.types.Named.{Named}
+use Rattle.pddl_syntax.specs.Words.{is_same}
 use Rattle.fault_positions.specs.declared.mentions.Mention.{Mention}
 use Rattle.fault_positions.specs.Positions.{earliest, positions_where}
 use Rattle.fault_positions.specs.Mentions.{listed_variables}

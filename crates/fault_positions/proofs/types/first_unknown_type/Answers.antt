@@ -1,8 +1,8 @@
 use Rattle.std.proofs.Common.{◌++◌, not, sym, ap, ◌∙◌, List}
 use Rattle.std.specs.List.{list_any, flat_map}
 use Rattle.std.proofs.lemmas.List.Folds.{flat_map-map}
-use Rattle.pddl_parser.specs.declared.types.Named.{Named}
-use Rattle.pddl_parser.specs.Words.{is_same}
+use Rattle.pddl_syntax.specs.declared.types.Named.{Named}
+use Rattle.pddl_syntax.specs.Words.{is_same}
 use Rattle.fault_positions.specs.declared.mentions.Mention as code
 use Rattle.fault_positions.specs.Positions.{positions_where, earliest}
 use Rattle.fault_positions.specs.Mentions.{Mention, listed_variables}

@@ -1,6 +1,6 @@
 use Rattle.std.proofs.Common.{◌++◌, not, ◌∙◌}
 use Rattle.std.specs.List.{flat_map}
-use Rattle.pddl_parser.specs.declared.types.Named.{Named}
+use Rattle.pddl_syntax.specs.declared.types.Named.{Named}
 use Rattle.fault_positions.specs.Positions.{positions_where, earliest}
 use Rattle.fault_positions.specs.Mentions.{Mention, listed_variables}
 use Rattle.fault_positions.specs.Names.{types_of}

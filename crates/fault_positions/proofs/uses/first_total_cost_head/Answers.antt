@@ -1,6 +1,6 @@
 use Rattle.std.proofs.Common.{rules, refl, List, ◌∷◌, [], ap, ◌∙◌}
 use Rattle.std.specs.List.{flat_map}
-use Rattle.pddl_parser.specs.declared.types.Head.{Head}
+use Rattle.pddl_syntax.specs.declared.types.Head.{Head}
 use Rattle.fault_positions.specs.Positions.{earliest}
 use Rattle.fault_positions.specs.Mentions.{head_use}
 use Rattle.fault_positions.specs.Uses.{overfull_totals}

@@ -6,7 +6,7 @@ use Rattle.std.proofs.lemmas.Iterator.Consumers.{YieldsList-end}
 use Rattle.std.proofs.lemmas.List.Concat.{flat_map-append}
 use Rattle.std.proofs.lemmas.List.Elements.{filter-append}
 use Rattle.lists.proofs.Items.{map_itself}
-use Rattle.static_matcher.specs.declared.types.Cond.{Cond}
+use Rattle.ground_task.specs.declared.types.Cond.{Cond}
 use Rattle.fdr_effects.specs.declared.literals.Literal.{Literal}
 use Rattle.fdr_effects.specs.Effects.{both, negations}
 use Rattle.fdr_effects.specs.Standing.{alone, can_stand, standing}

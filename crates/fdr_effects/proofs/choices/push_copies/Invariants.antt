@@ -1,5 +1,5 @@
 use Rattle.std.proofs.Common.{◌≡◌, ℕ, ◌++◌, map, take}
-use Rattle.static_matcher.specs.declared.types.Cond.{Cond}
+use Rattle.ground_task.specs.declared.types.Cond.{Cond}
 use Rattle.fdr_effects.specs.Effects.{both}
 use Rattle.fdr_effects.specs.Standing.{alone, standing}
 use Rattle.fdr_effects.proofs.choices.push_copies.Given as goal

@@ -1,6 +1,6 @@
 use Rattle.std.proofs.Common.{◌≡◌, ◌++◌, cond, take, List}
 use Rattle.std.specs.List.{flat_map}
-use Rattle.relaxed_reach.specs.declared.types.ReachedEffect.{ReachedEffect}
+use Rattle.reached_task.specs.declared.types.ReachedEffect.{ReachedEffect}
 use Rattle.fdr_effects.specs.Effects.{sets_where, deletes_in}
 use Rattle.fdr_effects.specs.Rivals.{AreRivals}
 use Rattle.fdr_effects.proofs.effects.push_effect.Given as goal

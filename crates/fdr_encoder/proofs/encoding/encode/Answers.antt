@@ -2,7 +2,7 @@
 use Rattle.std.proofs.Common.{◌<◌, List, length, sym, ap, ◌∙◌, subst}
 use Rattle.std.specs.List.{All}
 use Rattle.std.specs.List.Sorted.{IsStrictlyIncreasing}
-use Rattle.relaxed_reach.specs.declared.types.Fact.{Fact}
+use Rattle.reached_task.specs.declared.types.Fact.{Fact}
 use Rattle.fdr_encoder.specs.Covers.{MakesVariables, IsBasicGroup}
 use Rattle.fdr_encoder.proofs.Covers.{covered_by_groups, sets_apart, sets_of_facts}
 use Rattle.fdr_encoder.proofs.encoding.encode.Goals as goal

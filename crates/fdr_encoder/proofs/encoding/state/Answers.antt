@@ -3,9 +3,9 @@ use Rattle.std.proofs.Common.{◌≡◌, [], ◌++◌, ◌==◌, ◌<◌, Bool, 
 use Rattle.std.specs.List.{list_any, position_or_len}
 use Rattle.std.proofs.lemmas.List.{get_or-map, length-map}
 use Rattle.std.proofs.lemmas.List.FromFn.{fill_by_all}
-use Rattle.static_matcher.specs.Literals.{initial}
-use Rattle.relaxed_reach.specs.declared.types.Fact.{Fact}
-use Rattle.relaxed_reach.specs.ReachedTask.{reached_task}
+use Rattle.ground_task.specs.Literals.{initial}
+use Rattle.reached_task.specs.declared.types.Fact.{Fact}
+use Rattle.reached_task.specs.ReachedTask.{reached_task}
 use Rattle.fdr_effects.specs.Places.{value_in}
 use Rattle.fdr_encoder.specs.GoalForms.{goal_part_in}
 use Rattle.fdr_encoder.proofs.encoding.state.Goals as goal

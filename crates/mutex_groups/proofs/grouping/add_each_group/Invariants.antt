@@ -1,7 +1,7 @@
 use Rattle.std.proofs.Common.{◌≡◌, ◌||◌, ℕ, List, take}
 use Rattle.std.specs.List.{list_any}
 use Rattle.names.specs.Names.{is_same}
-use Rattle.relaxed_reach.specs.declared.types.Fact.{Fact}
+use Rattle.reached_task.specs.declared.types.Fact.{Fact}
 use Rattle.mutex_groups.specs.Found.{HoldsNumbers, HoldsWeights, gives}
 use Rattle.mutex_groups.proofs.grouping.add_each_group.Given as goal
 

@@ -2,7 +2,7 @@ use Rattle.std.proofs.Common.{◌∙◌, List, ap}
 use Rattle.std.specs.List.{list_any}
 use Rattle.names.specs.Names.{is_same}
 use Rattle.normal_task.specs.declared.task.GroundAtom.{GroundAtom}
-use Rattle.relaxed_reach.specs.declared.types.Fact.{Fact}
+use Rattle.reached_task.specs.declared.types.Fact.{Fact}
 use Rattle.mutex_groups.specs.Found.{has_group}
 use Rattle.mutex_groups.proofs.Exclusive.{groups_are_exclusive}
 use Rattle.mutex_groups.proofs.Giving.{all-differ, all-groups}

@@ -2,7 +2,7 @@ use Rattle.std.proofs.Common.{◌≡◌, ◌∙◌, ◌++◌, ◌∷◌, [], ℕ
 use Rattle.std.specs.Option.{option_map}
 use Rattle.std.proofs.lemmas.Result.{on_ok_weaker}
 use Rattle.names.specs.Names.{is_same}
-use Rattle.static_matcher.specs.Buckets.{numbers_in}
+use Rattle.ground_task.specs.Buckets.{numbers_in}
 use Rattle.mutex_groups.proofs.Covered.{covers-some, covers-none}
 use Rattle.mutex_groups.proofs.instances.add_fact.Goals as goal
 

@@ -1,7 +1,7 @@
 use Rattle.std.proofs.Common.{◌≡◌, ℕ, List, filter}
 use Rattle.std.specs.List.{range_with_len}
 use Rattle.mutex_groups.specs.Groups.{covers_fact}
-use Rattle.static_matcher.specs.Buckets.{numbers_in}
+use Rattle.ground_task.specs.Buckets.{numbers_in}
 use Rattle.mutex_groups.proofs.instances.members.Given as goal
 
 abbrev pub invariant-loop-number : goal.invariant-loop-number

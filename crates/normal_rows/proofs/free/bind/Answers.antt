@@ -1,8 +1,8 @@
 use Rattle.std.proofs.Common.{Bool, ◌||◌, take, sym, ap, ◌∙◌}
 use Rattle.std.specs.List.{list_any}
 use Rattle.lists.proofs.LoopSteps.{any_next}
-use Rattle.pddl_parser.specs.Words.{Name, is_same}
-use Rattle.pddl_parser.specs.declared.types.Typed.{Typed}
+use Rattle.pddl_syntax.specs.Words.{Name, is_same}
+use Rattle.pddl_syntax.specs.declared.types.Typed.{Typed}
 use Rattle.normal_task.specs.Parts.{is_listed}
 use Rattle.normal_rows.proofs.FreeNames.{goes-further, one-more, same-swap}
 use Rattle.normal_rows.proofs.free.bind.Goals as goal

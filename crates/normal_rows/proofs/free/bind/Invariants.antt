@@ -1,6 +1,6 @@
 use Rattle.std.proofs.Common.{◌≡◌, ◌||◌, take}
 use Rattle.std.specs.List.{list_any}
-use Rattle.pddl_parser.specs.Words.{Name, is_same}
+use Rattle.pddl_syntax.specs.Words.{Name, is_same}
 use Rattle.normal_task.specs.Parts.{is_listed}
 use Rattle.normal_rows.proofs.FreeNames.{GoesOn}
 use Rattle.normal_rows.proofs.free.bind.Given as goal

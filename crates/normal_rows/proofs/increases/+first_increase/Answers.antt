@@ -1,4 +1,4 @@
-use Rattle.pddl_parser.specs.Step.{increases}
+use Rattle.pddl_syntax.specs.Step.{increases}
 use Rattle.normal_rows.proofs.FirstItems.{first-found}
 use Rattle.normal_rows.proofs.increases.+first_increase.Goals as goal
 

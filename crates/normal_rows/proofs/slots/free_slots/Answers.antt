@@ -2,7 +2,7 @@ use Rattle.std.proofs.Common.{◌≡◌, List, [], ◌∙◌, subst}
 use Rattle.std.specs.Prelude.{IfOk}
 use Rattle.std.proofs.Math.Bool.{and-true}
 use Rattle.std.specs.List.{list_any}
-use Rattle.pddl_parser.specs.Words.{is_same}
+use Rattle.pddl_syntax.specs.Words.{is_same}
 use Rattle.normal_rows.specs.Asked.{asks}
 use Rattle.normal_rows.specs.Free.{is_wanted}
 use Rattle.normal_task.specs.Parts.{Slot}

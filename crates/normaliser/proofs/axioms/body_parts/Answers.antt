@@ -1,6 +1,6 @@
 use Rattle.std.proofs.Common.{List, [], true, length, ap, subst, ◌∙◌}
 use Rattle.std.specs.Prelude.{IfOk}
-use Rattle.pddl_parser.specs.declared.types.Typed.{Typed}
+use Rattle.pddl_syntax.specs.declared.types.Typed.{Typed}
 use Rattle.normal_task.specs.Parts.{Scope, parts, scope_inside}
 use Rattle.normal_rows.specs.MadeThings.{IsMadeOf}
 use Rattle.normaliser.proofs.axioms.body_parts.Goals as goal

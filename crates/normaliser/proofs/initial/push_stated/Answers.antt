@@ -1,6 +1,6 @@
 use Rattle.std.proofs.Common.{◌≡◌, [], ◌∷◌, ◌++◌, refl, sym, ap, ◌∙◌}
 use Rattle.std.proofs.lemmas.Result.{on_ok_weaker}
-use Rattle.pddl_parser.specs.declared.types.Init.{Init}
+use Rattle.pddl_syntax.specs.declared.types.Init.{Init}
 use Rattle.normal_task.specs.Keys.{atom_key}
 use Rattle.normal_task.specs.Meaning.{is_same_atom}
 use Rattle.normal_task.specs.Normalised.{once_after, stated}

@@ -1,5 +1,5 @@
 use Rattle.std.proofs.Common.{◌≡◌, [], map, take}
-use Rattle.pddl_parser.specs.Holds as pddl
+use Rattle.pddl_syntax.specs.Holds as pddl
 use Rattle.normal_task.specs.Numbers.{object_number}
 use Rattle.normaliser.proofs.initial.stated_objects.Given as goal
 

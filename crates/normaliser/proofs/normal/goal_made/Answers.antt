@@ -1,6 +1,6 @@
 use Rattle.std.proofs.Common.{[], true, ap, subst, ◌∙◌}
 use Rattle.std.specs.Prelude.{IfOk}
-use Rattle.pddl_parser.specs.declared.types.Problem.{Problem}
+use Rattle.pddl_syntax.specs.declared.types.Problem.{Problem}
 use Rattle.normal_task.specs.declared.parts.Part.{Part}
 use Rattle.normal_task.specs.Normalised.{goal_of}
 use Rattle.normal_task.specs.Parts.{Made, Scope, parts}

@@ -1,5 +1,5 @@
 use Rattle.std.proofs.Common.{List, ◌+◌, length, ap, ◌∙◌}
-use Rattle.pddl_parser.specs.declared.types.Domain.{Domain}
+use Rattle.pddl_syntax.specs.declared.types.Domain.{Domain}
 use Rattle.normal_task.specs.declared.parts.Fresh.{Fresh}
 use Rattle.normaliser.proofs.WholeTask.{made-all}
 use Rattle.normaliser.proofs.normal.make_all.Goals as goal

@@ -1,6 +1,6 @@
 use Rattle.std.proofs.Common.{◌++◌, map, ap, ◌∙◌}
-use Rattle.pddl_parser.specs.declared.types.Domain.{Domain}
-use Rattle.pddl_parser.specs.declared.types.Problem.{Problem}
+use Rattle.pddl_syntax.specs.declared.types.Domain.{Domain}
+use Rattle.pddl_syntax.specs.declared.types.Problem.{Problem}
 use Rattle.normal_task.specs.Normalised.{declared_row, fresh_predicates}
 use Rattle.normaliser.proofs.WholeTask.{normal-is}
 use Rattle.normaliser.proofs.normal.normal_of.Goals as goal

@@ -1,7 +1,7 @@
 use Rattle.std.proofs.Common.{[], ◌∷◌, ◌++◌, List, ap, ◌∙◌, arith}
 use Rattle.lists.proofs.LoopSteps.{map_turn}
-use Rattle.pddl_parser.specs.Objects.{Binding, bound}
-use Rattle.pddl_parser.specs.Words.{Name}
+use Rattle.pddl_syntax.specs.Objects.{Binding, bound}
+use Rattle.pddl_syntax.specs.Words.{Name}
 use Rattle.pddl_plain.proofs.binding.bindings.Goals as goal
 
 pub loop-names-preserved : goal.loop-names-preserved

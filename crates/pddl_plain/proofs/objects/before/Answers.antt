@@ -1,6 +1,6 @@
 use Rattle.std.proofs.Common.{[], ◌∷◌, ◌++◌, List, sym, ap, ◌∙◌, arith}
 use Rattle.lists.proofs.LoopSteps.{take_next}
-use Rattle.pddl_parser.specs.Words.{Name}
+use Rattle.pddl_syntax.specs.Words.{Name}
 use Rattle.pddl_plain.proofs.objects.before.Goals as goal
 
 pub loop-name-preserved : goal.loop-name-preserved

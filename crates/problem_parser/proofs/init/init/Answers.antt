@@ -1,6 +1,6 @@
 use Rattle.std.proofs.Common.{arith}
 use Rattle.problem_parser.specs.Reading.{init}
-use Rattle.pddl_parser.proofs.Readings.{first_made, first_both}
+use Rattle.pddl_syntax.proofs.Readings.{first_made, first_both}
 use Rattle.problem_parser.proofs.init.init.Goals as goal
 
 pub returns-in_err-check_exact : goal.returns-in_err-check_exact

@@ -1,8 +1,8 @@
 use Rattle.std.proofs.Common.{◌≡◌}
 use Rattle.pddl_lexer.specs.Members.{count}
 use Rattle.problem_parser.specs.Reading.{init}
-use Rattle.pddl_parser.specs.Outcome.{every, first}
-use Rattle.pddl_parser.proofs.Rows.{after}
+use Rattle.pddl_syntax.specs.Outcome.{every, first}
+use Rattle.pddl_syntax.proofs.Rows.{after}
 use Rattle.problem_parser.proofs.init.inits.Given as goal
 
 abbrev pub invariant-loop-cursor : goal.invariant-loop-cursor

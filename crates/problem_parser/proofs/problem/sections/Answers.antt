@@ -3,7 +3,7 @@ use Rattle.std.specs.Prelude.{map}
 use Rattle.std.proofs.lemmas.List.{map-append}
 use Rattle.pddl_lexer.specs.Members.{is_empty, is_list}
 use Rattle.problem_parser.specs.Reading.{problem_section}
-use Rattle.pddl_parser.proofs.Sections.{turn, fails, past_word, ended}
+use Rattle.pddl_syntax.proofs.Sections.{turn, fails, past_word, ended}
 use Rattle.problem_parser.proofs.problem.sections.Goals.{then-is_list+in_ok-problem_section+in_ok-push+in_ok-push-2, else-is_list}
 use Rattle.problem_parser.proofs.problem.sections.Goals as goal
 

@@ -1,9 +1,9 @@
 use Rattle.std.proofs.Common.{◌≡◌}
 use Rattle.std.specs.Prelude.{[], map}
 use Rattle.pddl_lexer.specs.Members.{count}
-use Rattle.pddl_parser.specs.Outcome.{first}
+use Rattle.pddl_syntax.specs.Outcome.{first}
 use Rattle.problem_parser.specs.Reading.{sections, problem_section}
-use Rattle.pddl_parser.proofs.Rows.{after}
+use Rattle.pddl_syntax.proofs.Rows.{after}
 use Rattle.problem_parser.proofs.problem.sections.Given as goal
 
 abbrev pub invariant-loop-cursor : goal.invariant-loop-cursor

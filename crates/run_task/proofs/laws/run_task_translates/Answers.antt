@@ -1,11 +1,11 @@
 use Rattle.lists.proofs.Members.{all_from_members}
-use Rattle.pddl_parser.specs.Plan.{pddl_task}
+use Rattle.pddl_syntax.specs.Plan.{pddl_task}
 use Rattle.normal_task.specs.Meaning.{normal_task}
 use Rattle.normal_task.specs.Normalised.{normal}
-use Rattle.static_matcher.specs.GroundTask.{ground_task}
-use Rattle.static_matcher.specs.Literals.{meaning}
-use Rattle.relaxed_reach.specs.Exclusive.{IsExclusive}
-use Rattle.relaxed_reach.specs.ReachedTask.{reached_task}
+use Rattle.ground_task.specs.GroundTask.{ground_task}
+use Rattle.ground_task.specs.Literals.{meaning}
+use Rattle.reached_task.specs.Exclusive.{IsExclusive}
+use Rattle.reached_task.specs.ReachedTask.{reached_task}
 use Rattle.run_task.proofs.Translated.{sorted_groups, in_turn, translates}
 use Rattle.run_task.proofs.laws.run_task_translates.Goals as goal
 

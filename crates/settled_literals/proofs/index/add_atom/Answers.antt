@@ -1,6 +1,6 @@
 -- The buckets of the predicate and of the objects.
 use Rattle.std.proofs.Common.{ℕ, ◌<◌, ◌∷◌, [], List, length, subst}
-use Rattle.static_matcher.specs.Index.{IsListedAt}
+use Rattle.ground_task.specs.Index.{IsListedAt}
 use Rattle.settled_literals.proofs.Indexed.{grows, is_added}
 use Rattle.settled_literals.proofs.index.add_atom.Goals as goal
 

@@ -1,7 +1,7 @@
 -- One object more.
 use Rattle.std.proofs.Common.{◌∷◌, [], get_or}
 use borrow.Author.Count.{below_more}
-use Rattle.static_matcher.specs.Index.{IsListedAt}
+use Rattle.ground_task.specs.Index.{IsListedAt}
 use Rattle.settled_literals.proofs.Indexed.{grows, is_added}
 use Rattle.settled_literals.proofs.index.add_objects.Goals as goal
 

@@ -1,5 +1,5 @@
 use Rattle.std.proofs.Common.{ℕ, ◌<◌}
-use Rattle.static_matcher.specs.Index.{Grows, IsListedAt}
+use Rattle.ground_task.specs.Index.{Grows, IsListedAt}
 use Rattle.settled_literals.proofs.index.add_objects.Given as goal
 
 abbrev pub invariant-loop-position : goal.invariant-loop-position

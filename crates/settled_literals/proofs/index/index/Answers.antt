@@ -3,7 +3,7 @@ use Rattle.std.proofs.Common.{ℕ, get_or, subst, ◌∙◌}
 use Rattle.std.proofs.lemmas.List.{get_or_default}
 use borrow.Author.Count.{below_more}
 use Rattle.normal_task.specs.declared.task.GroundAtom.{GroundAtom}
-use Rattle.static_matcher.specs.Index.{IsListed}
+use Rattle.ground_task.specs.Index.{IsListed}
 use Rattle.settled_literals.proofs.Indexed.{listed-grows}
 use Rattle.settled_literals.proofs.index.index.Goals as goal
 

@@ -1,6 +1,6 @@
 use Rattle.std.proofs.Common.{ℕ, ◌<◌, get_or}
 use Rattle.normal_task.specs.declared.task.GroundAtom.{GroundAtom}
-use Rattle.static_matcher.specs.Index.{IsListed}
+use Rattle.ground_task.specs.Index.{IsListed}
 use Rattle.settled_literals.proofs.index.index.Given as goal
 
 abbrev pub invariant-loop-number : goal.invariant-loop-number

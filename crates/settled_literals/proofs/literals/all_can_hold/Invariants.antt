@@ -1,6 +1,6 @@
 use Rattle.std.proofs.Common.{◌≡◌, drop}
 use Rattle.std.specs.List.{list_all}
-use Rattle.static_matcher.specs.Rows.{literal_can_hold}
+use Rattle.ground_task.specs.Rows.{literal_can_hold}
 use Rattle.settled_literals.proofs.literals.all_can_hold.Given as goal
 
 abbrev pub invariant-loop-literal : goal.invariant-loop-literal

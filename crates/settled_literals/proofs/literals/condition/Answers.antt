@@ -5,8 +5,8 @@ use Rattle.normal_task.specs.declared.task.GroundAtom.{GroundAtom}
 use Rattle.normal_task.specs.declared.task.Literal.{Literal}
 use Rattle.normal_task.specs.declared.task.Normal.{Normal}
 use Rattle.normal_task.specs.Meaning.{Binding}
-use Rattle.static_matcher.specs.Instances.{signed_atoms, condition_of, static_settling}
-use Rattle.static_matcher.specs.Settled.{kept_condition}
+use Rattle.ground_task.specs.Instances.{signed_atoms, condition_of, static_settling}
+use Rattle.ground_task.specs.Settled.{kept_condition}
 use Rattle.settled_literals.proofs.literals.condition.Goals as goal
 
 -- the atoms that are left make what is left of the condition

@@ -1,6 +1,6 @@
 use Rattle.std.proofs.Common.{◌≡◌, take}
 use Rattle.std.specs.Prelude.{filter}
-use Rattle.static_matcher.specs.Instances.{signed_atoms, static_settling}
+use Rattle.ground_task.specs.Instances.{signed_atoms, static_settling}
 use Rattle.settled_literals.proofs.literals.kept_atoms.Given as goal
 
 abbrev pub invariant-loop-literal : goal.invariant-loop-literal

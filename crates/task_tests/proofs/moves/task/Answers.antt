@@ -1,6 +1,6 @@
 use Rattle.std.proofs.Common.{◌≡◌, sym, ◌∙◌, subst, false}
-use Rattle.static_matcher.specs.declared.types.GoalRow.TheVariants.{All}
-use Rattle.static_matcher.specs.Lawful.{IsLawful}
+use Rattle.ground_task.specs.declared.types.GoalRow.TheVariants.{All}
+use Rattle.ground_task.specs.Lawful.{IsLawful}
 use Rattle.task_tests.proofs.Lawful.{task_of, lawful}
 use Rattle.task_tests.proofs.moves.task.Goals as goal
 

@@ -2,7 +2,7 @@ use Rattle.std.proofs.Common.{List, ◌∷◌, ◌++◌, ap}
 use Rattle.std.specs.List.{flat_map}
 use Rattle.pddl_lexer.specs.declared.fault.Kind.TheVariants.{UnknownType}
 use Rattle.pddl_lexer.specs.Examples.{place, fault}
-use Rattle.pddl_parser.proofs.ConditionCases.{fold-True}
+use Rattle.pddl_syntax.proofs.ConditionCases.{fold-True}
 use Rattle.fault_positions.specs.Mentions.{Mention, condition_step, listed_variables}
 use Rattle.fault_positions.specs.Names.{types_of}
 use Rattle.fault_positions.specs.Names as names

@@ -1,5 +1,5 @@
 use Rattle.std.proofs.Common.{ap, ◌∙◌}
-use Rattle.pddl_parser.specs.declared.types.Domain.{Domain}
+use Rattle.pddl_syntax.specs.declared.types.Domain.{Domain}
 use Rattle.declarations.proofs.NewNames.{predicates_new, functions_new}
 use Rattle.numbering.proofs.numbering.Numbering.of.Goals as goal
 

@@ -1,6 +1,6 @@
 use Rattle.std.proofs.Common.{List, sym, subst}
 use Rattle.lists.proofs.LoopSteps.{map_next}
-use Rattle.pddl_parser.specs.declared.types.Named.{Named}
+use Rattle.pddl_syntax.specs.declared.types.Named.{Named}
 use Rattle.numbering.specs.Known.{AreKnown}
 use Rattle.numbering.proofs.numbering.ObjectTables.known_of.Goals as goal
 

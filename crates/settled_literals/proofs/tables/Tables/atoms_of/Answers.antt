@@ -1,7 +1,7 @@
 use Rattle.std.proofs.Common.{ap, subst, ◌∙◌}
 use Rattle.normal_task.specs.declared.task.Normal.{Normal}
-use Rattle.static_matcher.specs.Buckets.{numbers_in}
-use Rattle.static_matcher.specs.Index.{IsIndexed}
+use Rattle.ground_task.specs.Buckets.{numbers_in}
+use Rattle.ground_task.specs.Index.{IsIndexed}
 use Rattle.settled_literals.proofs.Indexed.{by-predicate}
 use Rattle.settled_literals.proofs.tables.Tables.atoms_of.Goals as goal
 

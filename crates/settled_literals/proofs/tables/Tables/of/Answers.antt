@@ -2,7 +2,7 @@
 use Rattle.std.proofs.Common.{List, map, subst}
 use Rattle.normal_task.specs.declared.task.GroundAtom.{GroundAtom}
 use Rattle.normal_task.specs.declared.task.ValueRow.{ValueRow}
-use Rattle.static_matcher.specs.Index.{IsIndexed}
+use Rattle.ground_task.specs.Index.{IsIndexed}
 use Rattle.settled_literals.specs.Tables.{HoldsAtoms, HoldsValues}
 use Rattle.settled_literals.proofs.tables.Tables.of.Goals as goal
 

@@ -1,0 +1,6 @@
+use Rattle.std.proofs.Common.{◌≡◌, ◌∷◌, map, take}
+use Rattle.normal_task.specs.Meaning.{object_at}
+use Rattle.ground_task.proofs.places.set_key.Given as goal
+
+abbrev pub invariant-loop-place : goal.invariant-loop-place
+invariant-loop-place l = l.key.items ≡ l.number ∷ map (object_at l.binding) (take l.place-index l.places)

@@ -1,7 +1,0 @@
-use Rattle.std.proofs.Common.{◌≡◌, map, take}
-use Rattle.std.specs.Prelude.{filter}
-use Rattle.relaxed_reach.specs.Reachable.{is_among, number_of}
-use Rattle.reachable_facts.proofs.numbered.numbers.Given as goal
-
-abbrev pub invariant-loop-atom : goal.invariant-loop-atom
-invariant-loop-atom l = l.numbers.items ≡ map (number_of l.facts) (filter (is_among l.facts) (take l.atom-index l.atoms))

@@ -1,0 +1,11 @@
+pub mod ReachedTask
+pub mod Reachable
+pub mod Rules
+pub mod Gates
+pub mod Steps
+pub mod AtomKeys
+pub mod Layers
+pub mod Lawful
+pub mod Examples
+pub mod Exclusive
+pub mod Alike
