@@ -14,10 +14,10 @@ use Rattle.lists.specs.Members.{is_among}
 use Rattle.sas_task.specs.declared.parts.Pair.{Pair}
 use Rattle.sas_task.specs.Orders.{pair_cmp}
 use Rattle.sas_task.specs.Valid.{ComesBefore}
-use Rattle.sas_task.proofs.Orders.{pair_total}
-use Rattle.sas_orders.specs.InOrder.{sorted}
+use Rattle.sas_task.specs.TotalOrders.{pair_total}
+use Rattle.sas_task.specs.InOrder.{sorted}
 use Rattle.lists.proofs.Ordered.{same_ordered}
-use Rattle.sas_orders.proofs.Sorted.{sorted_member, member_sorted, sorted_ordered}
+use Rattle.sas_task.proofs.Sorted.{sorted_member, member_sorted, sorted_ordered}
 use Rattle.lists.proofs.Members.{no_member, member_first, member_later, member_cases, member_flat_map, flat_map_member, member_range, range_member, member_map, map_member, member_filter, filter_member}
 use Rattle.sas_task.specs.Pairs.{pair}
 use Rattle.fdr_effects.specs.Places.{Cover, set_of, places, first_place, last_value}

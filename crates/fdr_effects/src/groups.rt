@@ -6,8 +6,7 @@ ghost use Rattle.fdr_effects.specs.Groups as parts;
 
 use crate::index::Index;
 use lists::List;
-use sas_orders::arrange;
-use sas_task::Group;
+use sas_task::{Group, arrange};
 use std::alloc::{AllocError, Global};
 
 /// The group's facts, each by its first place.

@@ -23,7 +23,7 @@ use Rattle.normal_task.specs.declared.task.Schema.{Schema}
 use Rattle.contradictions.specs.declared.types.Candidate.{Candidate}
 use Rattle.contradictions.specs.declared.types.Part.{Part}
 use Rattle.contradictions.specs.Contradictory.{is_same_place}
-use Rattle.candidate_parts.specs.Extensions.{is_changing, changing, has_predicate, parts_of, put_in, renamed, rising_places, in_form, with_part}
+use Rattle.invariant_check.specs.Extensions.{is_changing, changing, has_predicate, parts_of, put_in, renamed, rising_places, in_form, with_part}
 use Rattle.invariant_check.specs.declared.types.AddPlace.{AddPlace}
 use Rattle.invariant_check.specs.Accepted.{instance_of, required, is_same_literal, is_listed, fittings, row_with, never_restores, apart_from, balances, has_balance}
 use Rattle.invariant_check.specs.Repairs.{balances_row, balances_add, repairs_at}

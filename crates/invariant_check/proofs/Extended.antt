@@ -12,7 +12,7 @@ use Rattle.normal_task.specs.declared.task.Normal.{Normal}
 use Rattle.normal_task.specs.Lawful.{is_rising}
 use Rattle.contradictions.specs.declared.types.Candidate.{Candidate}
 use Rattle.contradictions.specs.declared.types.Part.{Part}
-use Rattle.candidate_parts.specs.Extensions.{changing, part_at, parts_of, put_in, renamed, rising_places, in_form, with_part, has_predicate, extensions}
+use Rattle.invariant_check.specs.Extensions.{changing, part_at, parts_of, put_in, renamed, rising_places, in_form, with_part, has_predicate, extensions}
 use Rattle.invariant_check.specs.WellFormed.{is_well_formed}
 use Rattle.normal_task.proofs.RisingLists.{rises_from, rises_behind, below_rising, once_rising}
 use Rattle.invariant_check.proofs.FormedParts.{IsPartFor, AreFormed, predicates, formed_facts, formed_test}

@@ -10,7 +10,7 @@ use Rattle.normal_task.specs.declared.task.Normal.{Normal}
 use Rattle.normal_task.specs.Lawful.{differ, is_rising}
 use Rattle.contradictions.specs.declared.types.Candidate.{Candidate}
 use Rattle.contradictions.specs.declared.types.Part.{Part}
-use Rattle.candidate_parts.specs.Extensions.{is_changing, arity_of}
+use Rattle.invariant_check.specs.Extensions.{is_changing, arity_of}
 use Rattle.invariant_check.specs.WellFormed.{used_places, is_part_for, is_named_by_first, is_well_formed}
 use Rattle.normal_task.proofs.RisingLists.{differ_once, once_differ}
 

@@ -2,11 +2,12 @@
 pub mod FormedParts
 pub mod OnePredicate
 pub mod Extended
-mod Listed
 pub mod Sound
 pub mod Weights
 pub mod Verdicts
 -- lemmas of this crate
+mod Countings
+mod Listed
 mod PartsOf
 mod NamedAnew
 mod Bindings

@@ -14,7 +14,7 @@ use Rattle.normal_task.specs.Lawful.{is_rising}
 use Rattle.contradictions.specs.declared.types.Candidate.{Candidate}
 use Rattle.contradictions.specs.declared.types.Part.{Part}
 use Rattle.contradictions.specs.Candidates.{at_positions}
-use Rattle.candidate_parts.specs.Extensions.{part_at, put_in, renamed, rising_places, in_form, with_part, one_predicate, extensions}
+use Rattle.invariant_check.specs.Extensions.{part_at, put_in, renamed, rising_places, in_form, with_part, one_predicate, extensions}
 use Rattle.invariant_check.specs.Names.{of_parts, IsNaming, named, HasOneMore, OnePredicateIsAll, ExtensionsAreAll, SameAreEqual}
 use Rattle.invariant_check.specs.WellFormed.{is_named_by_first, is_well_formed}
 use Rattle.normal_task.proofs.RisingLists.{differ_once, once_differ, same_rising}

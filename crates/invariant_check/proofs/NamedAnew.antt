@@ -11,7 +11,7 @@ use Rattle.lists.proofs.NoRepeats.{Once, once_append, once_filter, once_map, onc
 use Rattle.normal_task.specs.declared.task.Normal.{Normal}
 use Rattle.normal_task.specs.Lawful.{is_rising}
 use Rattle.contradictions.specs.declared.types.Part.{Part}
-use Rattle.candidate_parts.specs.Extensions.{arity_of, renamed, rising_places}
+use Rattle.invariant_check.specs.Extensions.{arity_of, renamed, rising_places}
 use Rattle.normal_task.proofs.RisingLists.{among_if, rising_filter, rising_range}
 use Rattle.invariant_check.proofs.FormedParts.{IsPartFor}
 

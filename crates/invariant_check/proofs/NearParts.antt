@@ -18,7 +18,7 @@ use Rattle.contradictions.specs.declared.types.Candidate.{Candidate}
 use Rattle.contradictions.specs.declared.types.Part.{Part}
 use Rattle.contradictions.specs.Candidates.{at_positions}
 use Rattle.contradictions.specs.Contradictory.{is_same_place, in_one_class, all_pairs, standing, are_same_terms, is_denied_by, parts_a_class, has_no_object, are_two_objects, is_of_part, is_of_instance, are_two_of_instance, has_contradiction, is_contradictory}
-use Rattle.candidate_parts.specs.Extensions.{put_in, renamed, rising_places, in_form, with_part}
+use Rattle.invariant_check.specs.Extensions.{put_in, renamed, rising_places, in_form, with_part}
 use Rattle.invariant_check.specs.declared.types.AddPlace.{AddPlace}
 use Rattle.invariant_check.specs.Accepted.{instance_of, denied, required, is_listed, fittings, row_with, ranges_with, added_beside, apart_from, never_restores, balances, has_balance}
 use Rattle.invariant_check.specs.Repairs.{balances_row, balances_add}

@@ -12,7 +12,7 @@ use Rattle.normal_task.specs.Lawful.{is_rising}
 use Rattle.contradictions.specs.declared.types.Candidate.{Candidate}
 use Rattle.contradictions.specs.declared.types.Part.{Part}
 use Rattle.invariant_check.specs.Names.{of_parts}
-use Rattle.candidate_parts.specs.Extensions.{is_changing, arity_of, changing, left_by, countings, part_at, with_one, one_predicate}
+use Rattle.invariant_check.specs.Extensions.{is_changing, arity_of, changing, left_by, countings, part_at, with_one, one_predicate}
 use Rattle.invariant_check.specs.WellFormed.{is_part_for, is_well_formed}
 use Rattle.invariant_check.proofs.FormedParts.{AreFormed, predicates, part_test, formed_facts}
 use Rattle.invariant_check.proofs.PartsOf.{IsCounting, counting_part, once_left, rising_left, once_countings, counting_is, all_left}

@@ -18,7 +18,7 @@ use Rattle.itertools.specs.Odometer.{ways, numbers}
 use Rattle.itertools.specs.declared.combinations.Permutations.{Permutations}
 use Rattle.itertools.specs.Pool.{unranked, permutation_left, ClonesAt}
 use Rattle.contradictions.specs.declared.types.Part.{Part}
-use Rattle.candidate_parts.specs.Extensions.{left_by, without, orders, part_at, put_in}
+use Rattle.invariant_check.specs.Extensions.{left_by, without, orders, part_at, put_in}
 use Rattle.invariant_check.proofs.PartsOf.{once_left}
 use Rattle.std.proofs.Math.Seq.{get_or-append_seam}
 

@@ -13,7 +13,7 @@ use Rattle.lists.proofs.NoRepeats.{Once, once_append, once_filter, once_map, onc
 use Rattle.normal_task.specs.declared.task.Normal.{Normal}
 use Rattle.normal_task.specs.Lawful.{is_rising}
 use Rattle.contradictions.specs.declared.types.Part.{Part}
-use Rattle.candidate_parts.specs.Extensions.{is_changing, arity_of, is_counted, left_by, countings, without, orders, part_at, parts_counting, parts_of}
+use Rattle.invariant_check.specs.Extensions.{is_changing, arity_of, is_counted, left_by, countings, without, orders, part_at, parts_counting, parts_of}
 use Rattle.invariant_check.specs.WellFormed.{used_places}
 use Rattle.normal_task.proofs.RisingLists.{rising_filter, rising_range, same_rising}
 use Rattle.invariant_check.proofs.FormedParts.{IsPartFor}

@@ -19,7 +19,7 @@ use Rattle.normal_task.specs.declared.task.Schema.{Schema}
 use Rattle.normal_task.proofs.Anys.{any-same, any-and_right}
 use Rattle.contradictions.specs.declared.types.Candidate.{Candidate}
 use Rattle.contradictions.specs.declared.types.Part.{Part}
-use Rattle.candidate_parts.specs.Extensions.{has_predicate}
+use Rattle.invariant_check.specs.Extensions.{has_predicate}
 use Rattle.invariant_check.specs.declared.types.AddOf.{AddOf}
 use Rattle.invariant_check.specs.declared.types.AddPlace.{AddPlace}
 use Rattle.invariant_check.specs.Accepted.{part_passes, add_passes, is_light_add, is_light_in, is_light, is_balanced_at}

@@ -9,7 +9,7 @@ use Rattle.normal_task.specs.declared.task.Normal.{Normal}
 use Rattle.normal_task.specs.declared.task.Schema.{Schema}
 use Rattle.contradictions.specs.declared.types.Candidate.{Candidate}
 use Rattle.contradictions.specs.declared.types.Part.{Part}
-use Rattle.candidate_parts.specs.Extensions.{changing, has_predicate, parts_of, with_part}
+use Rattle.invariant_check.specs.Extensions.{changing, has_predicate, parts_of, with_part}
 use Rattle.invariant_check.specs.declared.types.AddPlace.{AddPlace}
 use Rattle.invariant_check.specs.Repairs.{balances_add}
 

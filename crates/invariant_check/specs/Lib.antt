@@ -1,3 +1,4 @@
+pub mod Extensions
 pub mod Accepted
 pub mod WellFormed
 pub mod Names

@@ -6,7 +6,7 @@ use Rattle.normal_task.specs.Lawful.{differ}
 use Rattle.contradictions.specs.declared.types.Candidate.{Candidate}
 use Rattle.contradictions.specs.declared.types.Part.{Part}
 use Rattle.contradictions.specs.Candidates.{at_positions}
-use Rattle.candidate_parts.specs.Extensions.{part_at, has_predicate, one_predicate, extensions}
+use Rattle.invariant_check.specs.Extensions.{part_at, has_predicate, one_predicate, extensions}
 use Rattle.invariant_check.specs.WellFormed.{is_part_for, is_well_formed}
 
 abbrev pub of_parts : ℕ → List Part → Candidate

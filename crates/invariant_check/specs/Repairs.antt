@@ -10,7 +10,7 @@ use Rattle.invariant_check.specs.declared.types.AddPlace.{AddPlace}
 use Rattle.invariant_check.specs.declared.types.Verdict.{Verdict}
 use Rattle.invariant_check.specs.declared.types.Verdict.TheVariants.{Accepted, Dropped, Unbalanced}
 use Rattle.invariant_check.specs.Accepted.{is_light, is_balanced_at, has_balance}
-use Rattle.candidate_parts.specs.Extensions.{extensions}
+use Rattle.invariant_check.specs.Extensions.{extensions}
 
 -- ---- repairs
 

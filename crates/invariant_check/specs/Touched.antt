@@ -6,7 +6,7 @@ use Rattle.normal_task.specs.declared.task.EffectRow.{EffectRow}
 use Rattle.normal_task.specs.declared.task.Normal.{Normal}
 use Rattle.normal_task.specs.declared.task.Schema.{Schema}
 use Rattle.contradictions.specs.declared.types.Candidate.{Candidate}
-use Rattle.candidate_parts.specs.Extensions.{has_predicate}
+use Rattle.invariant_check.specs.Extensions.{has_predicate}
 use Rattle.invariant_check.specs.declared.types.AddOf.{AddOf}
 use Rattle.invariant_check.specs.declared.types.AddPlace.{AddPlace}
 use Rattle.invariant_check.specs.Accepted.{is_light_in}

@@ -6,7 +6,7 @@ use Rattle.normal_task.specs.declared.task.Normal.{Normal}
 use Rattle.normal_task.specs.Lawful.{is_rising, differ}
 use Rattle.contradictions.specs.declared.types.Candidate.{Candidate}
 use Rattle.contradictions.specs.declared.types.Part.{Part}
-use Rattle.candidate_parts.specs.Extensions.{is_changing, arity_of}
+use Rattle.invariant_check.specs.Extensions.{is_changing, arity_of}
 
 -- the places of the parameters, and the counted one
 abbrev pub used_places : Part → List ℕ

@@ -13,8 +13,8 @@ ghost use Rattle.invariant_check.specs.Attempts as words;
 
 use crate::extensions::has_predicate;
 use crate::light::{apart, push_kept, ranges_of, required};
+use crate::parts::is_add_of;
 use crate::tried::{are_fitting, tried};
-use candidate_parts::is_add_of;
 use contradictions::{
     Candidate, Case, Part, Ranges, Renamed, Renaming, are_same, copy, is_contradictory,
     is_same_place, push_denied, renamed_row, terms_at, zipped,

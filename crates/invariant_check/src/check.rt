@@ -1,7 +1,7 @@
 // The check of a candidate, and its repairs.
 ghost use Rattle.std.specs.Prelude.{◌≡◌, ◌++◌, ◌∷◌, [], not, nat_eq, length, map, filter, Some, IfOk, OnOk};
 ghost use Rattle.std.specs.List.{list_any, position_from};
-ghost use Rattle.candidate_parts.specs.Extensions.{with_part};
+ghost use Rattle.invariant_check.specs.Extensions.{with_part};
 ghost use Rattle.invariant_check.specs.Beside as beside;
 ghost use Rattle.invariant_check.specs.Repairs as spec;
 ghost use Rattle.invariant_check.specs.Touched as touched;

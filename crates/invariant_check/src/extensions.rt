@@ -4,10 +4,10 @@ ghost use Rattle.std.specs.List.{IsDistinct, filter, list_any, flat_map, range_w
 ghost use Rattle.std.specs.Vec.{vec_len};
 ghost use Rattle.itertools.specs.Odometer.{ways};
 ghost use Rattle.itertools.specs.Pool.{permutation_can, permutation_left};
-ghost use Rattle.candidate_parts.specs.Extensions as spec;
+ghost use Rattle.invariant_check.specs.Extensions as spec;
 ghost use Rattle.invariant_check.specs.Beside as beside;
 
-use candidate_parts::{arity_of, first_above, left_by, push_candidates};
+use crate::parts::{arity_of, first_above, left_by, push_candidates};
 use contradictions::{Candidate, Part, copies};
 use itertools::{Itertools, Permutations};
 use lists::List;

@@ -1,4 +1,4 @@
-//! Invariants of normal tasks: candidates that are light and balanced (Helmert 2009, section 5).
+//! Invariants of normal tasks: what candidates are made of, and which are light and balanced (Helmert 2009, section 5).
 #![tactic(auto)]
 
 mod adds;
@@ -8,6 +8,7 @@ mod extensions;
 pub mod laws;
 mod light;
 mod near;
+mod parts;
 mod tried;
 mod types;
 

@@ -11,7 +11,7 @@ ghost use Rattle.invariant_check.specs.Accepted as spec;
 ghost use Rattle.invariant_check.specs.Attempts as words;
 ghost use Rattle.invariant_check.specs.Touched as touched;
 
-use candidate_parts::{AddedAtom, are_one};
+use crate::parts::{AddedAtom, are_one};
 use contradictions::{
     Candidate, Case, Part, Ranges, Renamed, Renaming, classes, contradicts, is_same_place,
     push_denied, push_renamed, renamed_row, term_at, terms_at, zipped,

@@ -13,7 +13,7 @@ use Rattle.normal_task.specs.declared.task.Normal.{Normal}
 use Rattle.normal_task.specs.Lawful.{differ}
 use Rattle.contradictions.specs.declared.types.Candidate.{Candidate}
 use Rattle.invariant_check.specs.Accepted.{is_accepted}
-use Rattle.candidate_parts.specs.Extensions.{one_predicate, extensions}
+use Rattle.invariant_check.specs.Extensions.{one_predicate, extensions}
 use Rattle.invariant_check.specs.WellFormed.{is_well_formed}
 use Rattle.invariant_check.proofs.OnePredicate.{one_predicate_formed, once_one_predicate, one_part}
 use Rattle.invariant_check.proofs.Extended.{one_part_more, few_parts}

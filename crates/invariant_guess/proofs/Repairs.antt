@@ -7,7 +7,7 @@ use Rattle.normal_task.specs.declared.task.Normal.{Normal}
 use Rattle.contradictions.specs.declared.types.Candidate.{Candidate}
 use Rattle.invariant_check.specs.declared.types.AddPlace.{AddPlace}
 use Rattle.invariant_check.specs.Accepted.{is_light}
-use Rattle.candidate_parts.specs.Extensions.{extensions}
+use Rattle.invariant_check.specs.Extensions.{extensions}
 use Rattle.invariant_check.specs.Repairs.{first_unbalanced, balances_add}
 use Rattle.invariant_check.specs.WellFormed.{is_well_formed}
 use Rattle.invariant_check.proofs.Extended.{extension_formed, once_extensions}

@@ -9,7 +9,7 @@ use Rattle.contradictions.specs.declared.types.Candidate.{Candidate}
 use Rattle.contradictions.specs.declared.types.Part.{Part}
 use Rattle.contradictions.specs.contracts.types.PartPartialEq.TheImpl.{eq-value as equality}
 use Rattle.invariant_check.specs.Names.{of_parts}
-use Rattle.candidate_parts.specs.Extensions.{part_at}
+use Rattle.invariant_check.specs.Extensions.{part_at}
 use Rattle.invariant_guess.specs.Trial.{is_same}
 use Rattle.lists.proofs.Exact.{same_option}
 

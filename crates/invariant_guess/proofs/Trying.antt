@@ -19,7 +19,7 @@ use Rattle.invariant_check.specs.declared.types.Verdict.{Verdict}
 use Rattle.invariant_check.specs.declared.types.Verdict.TheVariants.{Accepted, Dropped, Unbalanced}
 use Rattle.invariant_check.specs.Accepted.{is_light, is_accepted}
 use Rattle.invariant_check.specs.Repairs.{first_unbalanced, repairs_at, verdict_by, verdict, is_accepted_verdict}
-use Rattle.candidate_parts.specs.Extensions.{one_predicate}
+use Rattle.invariant_check.specs.Extensions.{one_predicate}
 use Rattle.invariant_check.proofs.OnePredicate.{once_one_predicate}
 use Rattle.invariant_check.proofs.Verdicts.{accepted_exactly}
 use Rattle.invariant_guess.specs.Trial.{repairs_of, repairs, is_same, after_trial, turn, IsFound}

@@ -7,7 +7,7 @@ use Rattle.contradictions.specs.contracts.types.CandidatePartialEq.TheImpl.{eq-v
 use Rattle.invariant_check.specs.declared.types.AddPlace.{AddPlace}
 use Rattle.invariant_check.specs.Accepted.{is_light, is_accepted}
 use Rattle.invariant_check.specs.Repairs.{first_unbalanced, repairs_at}
-use Rattle.candidate_parts.specs.Extensions.{one_predicate}
+use Rattle.invariant_check.specs.Extensions.{one_predicate}
 use Rattle.invariant_guess.specs.declared.types.Found.{Found}
 
 -- those that balance the first add that isn't balanced, where the candidate is light

@@ -7,7 +7,7 @@ ghost use Rattle.normal_task.specs.Lawful.{differ};
 ghost use Rattle.contradictions.specs.declared.types.Candidate.{Candidate};
 ghost use Rattle.invariant_check.specs.Accepted.{is_accepted};
 ghost use Rattle.invariant_check.specs.Examples.{switch, back};
-ghost use Rattle.candidate_parts.specs.Extensions.{one_predicate};
+ghost use Rattle.invariant_check.specs.Extensions.{one_predicate};
 ghost use Rattle.invariant_check.specs.WellFormed.{is_well_formed};
 ghost use Rattle.invariant_guess.specs.declared.types.Found.{Found};
 ghost use Rattle.invariant_guess.specs.Examples.{found, on, off, on_and_off, one_q, bell, one_place, blocks, hand, below_block, above_block};

@@ -2,7 +2,7 @@
 use Rattle.std.specs.Prelude.{ℕ, List, ◌++◌, codes, decimal}
 use Rattle.pddl_lexer.specs.Kinds.{text}
 use Rattle.pddl_lexer.specs.declared.position.At.{At}
-use Rattle.sas_lines.specs.Places.{text as place_text}
+use Rattle.sas_reader.specs.Places.{text as place_text}
 use Rattle.messages.specs.declared.outcome.Summary.{Summary}
 use Rattle.messages.specs.declared.outcome.Message.{Message}
 use Rattle.messages.specs.declared.outcome.Message.TheVariants as messages

@@ -31,7 +31,7 @@ use Rattle.contradictions.specs.declared.types.Part.{Part}
 use Rattle.contradictions.specs.Candidates.{part_covers, covers}
 use Rattle.invariant_check.specs.Accepted.{is_accepted}
 use Rattle.invariant_check.specs.Soundness.{is_basic}
-use Rattle.candidate_parts.specs.Extensions.{is_changing}
+use Rattle.invariant_check.specs.Extensions.{is_changing}
 use Rattle.invariant_check.specs.WellFormed.{is_well_formed}
 use Rattle.invariant_check.proofs.FormedParts.{formed_facts}
 use Rattle.invariant_check.proofs.Sound.{invariants_are_sound}

@@ -19,7 +19,7 @@ use Rattle.reached_task.specs.declared.types.Fact.{Fact}
 use Rattle.reached_task.specs.declared.types.Reached.{Reached}
 use Rattle.contradictions.specs.declared.types.Candidate.{Candidate}
 use Rattle.contradictions.specs.Candidates.{covers}
-use Rattle.candidate_parts.specs.Extensions.{arity_of}
+use Rattle.invariant_check.specs.Extensions.{arity_of}
 use Rattle.mutex_groups.specs.declared.tables.Weight.{Weight}
 use Rattle.invariant_check.specs.WellFormed.{is_well_formed}
 use Rattle.mutex_groups.specs.Groups.{covered_facts, IsInstance, IsMutexGroup, AreGroups}

@@ -12,7 +12,7 @@ use Rattle.pddl_syntax.specs.declared.types.Named.{Named}
 use Rattle.pddl_syntax.specs.declared.types.Problem.{Problem}
 use Rattle.pddl_syntax.specs.Words.{Name, is_same}
 use Rattle.names.proofs.SameNames.{same_name}
-use Rattle.declarations.specs.Below.{has, one_type, objects_of_type}
+use Rattle.numbering.specs.Below.{has, one_type, objects_of_type}
 use Rattle.numbering.specs.Known.{AreKnown}
 
 one_more : (asked : List (List Named)) (listed : List Named) (name : Name) →

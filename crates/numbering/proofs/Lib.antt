@@ -1,4 +1,7 @@
--- Lemmas of this crate.
+-- lemmas of this crate
+mod NewNames
+mod FoundTypes
+mod AskedTypes
 mod Ranges
 mod TypeRanges
 mod KnownTypes

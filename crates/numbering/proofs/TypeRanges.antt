@@ -9,7 +9,7 @@ use Rattle.pddl_syntax.specs.declared.types.Problem.{Problem}
 use Rattle.pddl_syntax.specs.declared.types.Typed.{Typed}
 use Rattle.pddl_syntax.specs.Words.{Name, is_same}
 use Rattle.pddl_syntax.specs.Objects.{root, leads, has_type, has_listed_type}
-use Rattle.declarations.specs.Below.{has, leads_to, has_type_among, is_any, range_of_types}
+use Rattle.numbering.specs.Below.{has, leads_to, has_type_among, is_any, range_of_types}
 use Rattle.normal_task.specs.Numbers.{object_number}
 use Rattle.numbering.proofs.Ranges.{ranged}
 

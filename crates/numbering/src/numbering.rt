@@ -1,15 +1,15 @@
 // The numbers of objects, predicates and functions.
 ghost use Rattle.std.specs.Prelude.{◌≡◌, ◌++◌, false, [], ◌∷◌, List as Items, map, length, IfNone, IfOk, IfSome, OnOk};
 ghost use Rattle.std.specs.List.{filter, flat_map, list_any};
-ghost use Rattle.declarations.specs.Asked.{variable_types};
-ghost use Rattle.declarations.specs.Below.{has, has_type_among, one_type as alone, range_of_types};
+ghost use Rattle.numbering.specs.Asked.{variable_types};
+ghost use Rattle.numbering.specs.Below.{has, has_type_among, one_type as alone, range_of_types};
 ghost use Rattle.normal_task.specs.Numbers as spec;
 ghost use Rattle.numbering.specs.Known.{AreKnown};
 ghost use Rattle.pddl_syntax.specs.declared.types.Named.{Named as TypeName};
 
-use declarations::{
-    Hierarchy, asked_types, has_some, is_any, names_of, names_of_objects, one_type,
-};
+use crate::asked::asked_types;
+use crate::below::{Hierarchy, has_some, is_any, one_type};
+use crate::named::{names_of, names_of_objects};
 use lists::List;
 use names::Names;
 use normal_task::ObjectRange;
@@ -170,7 +170,7 @@ impl<'a> Model for Numbering<'a> {
     ghost use Rattle.pddl_syntax.specs.contracts.types.Condition as condition;
     ghost use Rattle.pddl_syntax.specs.contracts.types.Effect as effect;
     ghost use Rattle.type_checker.specs.Checked.{FilePair};
-    ghost use Rattle.declarations.specs.Asked.{variable_types};
+    ghost use Rattle.numbering.specs.Asked.{variable_types};
     ghost use Rattle.normal_task.specs.Numbers.{head_names};
     ghost use Rattle.numbering.specs.Known.{AreKnown};
 

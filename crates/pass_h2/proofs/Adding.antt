@@ -5,8 +5,8 @@ use Rattle.std.proofs.lemmas.Bool.{cases_eq, cases_lt, eq-eqb, ne_eqb, false≢t
 use Rattle.std.proofs.lemmas.List.{length-set, get_or-set_same, get_or-set_other, get_or_past, get_or_default}
 use Rattle.lists.proofs.Members.{no_member, member_first, member_later, member_cases}
 use Rattle.sas_task.specs.declared.parts.Pair.{Pair}
-use Rattle.fact_pairs.specs.Facts.{number}
-use Rattle.fact_pairs.specs.Finds.{Finds, number_in, marked_or, found, with_place, with_mark, is_touched}
+use Rattle.pass_h2.specs.Facts.{number}
+use Rattle.pass_h2.specs.Finds.{Finds, number_in, marked_or, found, with_place, with_mark, is_touched}
 use Rattle.pass_h2.specs.Search.{with_pair, with_each, with_chosen, with_all}
 use Rattle.pass_h2.proofs.Rows.{same_pair, open_in, has_place, marked_here, marked_there, same_count, row_lengths, no_more_open, fewer_open}
 

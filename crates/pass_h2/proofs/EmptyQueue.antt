@@ -12,9 +12,9 @@ use Rattle.sas_task.specs.Task.{Task}
 use Rattle.sas_task.specs.Pairs.{pair}
 use Rattle.sas_task.specs.Valid.{IsValid, IsValue, IsFact}
 use Rattle.pass_possible.specs.Possible.{all_pairs, is_possible, is_mixed, IsInitial, ArePossible}
-use Rattle.fact_pairs.specs.Finds.{Finds, number_in, numbers, marked_or, found, settled, is_touched, is_woken, is_woken_at, nothing}
+use Rattle.pass_h2.specs.Finds.{Finds, number_in, numbers, marked_or, found, settled, is_touched, is_woken, is_woken_at, nothing}
 use Rattle.pass_h2.specs.Search.{looked, looked_at, woken, turned, initial_pairs}
-use Rattle.fact_pairs.specs.Facts.{all_facts, starts, initial_facts}
+use Rattle.pass_h2.specs.Facts.{all_facts, starts, initial_facts}
 use Rattle.pass_h2.proofs.Numbers.{has_number, one_number}
 use Rattle.pass_h2.proofs.Adding.{Shaped, Adds, Any, nothing_more, both, chosen_adds, all_found, found_turned, some_touched, open_count}
 use Rattle.pass_h2.proofs.Searching.{Searched, Answered, answered_within, looks}

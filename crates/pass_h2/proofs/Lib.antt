@@ -1,3 +1,7 @@
+mod OneBit
+mod Bits
+mod MarkLists
+mod Ranges
 mod Numbers
 mod Rows
 mod Adding

@@ -15,7 +15,7 @@ use Rattle.sas_task.specs.Valid.{IsFact}
 use Rattle.sas_task.proofs.States.{is_variable}
 use Rattle.sas_restriction.specs.Choice.{variable_at}
 use Rattle.sas_restriction.proofs.AllValues.{value_member}
-use Rattle.fact_pairs.specs.Facts.{facts_at, facts_below, all_facts, starts, is_at, number}
+use Rattle.pass_h2.specs.Facts.{facts_at, facts_below, all_facts, starts, is_at, number}
 use Rattle.sas_task.proofs.RisingPairs.{pair_is}
 
 -- ---- the fact at a place

@@ -4,7 +4,7 @@ use Rattle.std.specs.List.{sum_by}
 use Rattle.std.proofs.lemmas.Bool.{cases_eq, cases_lt}
 use Rattle.std.proofs.lemmas.List.{length-set, get_or-set_same, get_or-set_other, get_or_past}
 use Rattle.std.proofs.lemmas.List.Sums.{sum_by-set}
-use Rattle.fact_pairs.specs.Finds.{mark_or, with_place}
+use Rattle.pass_h2.specs.Finds.{mark_or, with_place}
 
 -- whether two numbers are these two
 pub same_pair : (i j a b : ℕ) → ((a ≡ i) × (b ≡ j)) ⊎ ((a ≡ i) → (b ≡ j) → ⊥)

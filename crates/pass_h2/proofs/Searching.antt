@@ -13,10 +13,10 @@ use Rattle.sas_task.specs.Valid.{IsValid, IsFact}
 use Rattle.sas_task.proofs.ValidParts.{effect_law}
 use Rattle.sas_task.specs.Effects.{changes, fact_of}
 use Rattle.pass_possible.specs.Possible.{is_mixed, Pairs, all_pairs, is_possible, HasPossible}
-use Rattle.fact_pairs.specs.Facts.{all_facts, starts, number}
-use Rattle.fact_pairs.specs.Finds.{Finds, number_in, numbers, row, marked_or, found}
-use Rattle.fact_pairs.specs.MarkLists.{without, places}
-use Rattle.fact_pairs.proofs.MarkLists.{without_at, marked_place, place_marked, common_of_all}
+use Rattle.pass_h2.specs.Facts.{all_facts, starts, number}
+use Rattle.pass_h2.specs.Finds.{Finds, number_in, numbers, row, marked_or, found}
+use Rattle.pass_h2.specs.MarkLists.{without, places}
+use Rattle.pass_h2.proofs.MarkLists.{without_at, marked_place, place_marked, common_of_all}
 use Rattle.pass_h2.specs.Search.{with_all, changes_fact, beside, new_beside, made, led_to, looked}
 use Rattle.pass_h2.proofs.Numbers.{has_number, numbered, one_number}
 use Rattle.pass_h2.proofs.Adding.{Shaped, Adds, Any, any_pair, same_number, nothing_more, both, chosen_adds, chosen_found, all_found, found_low}

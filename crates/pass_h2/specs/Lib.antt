@@ -1,1 +1,5 @@
+pub mod Bits
+pub mod Facts
+pub mod Finds
+pub mod MarkLists
 pub mod Search

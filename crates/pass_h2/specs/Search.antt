@@ -6,9 +6,9 @@ use Rattle.sas_task.specs.declared.parts.Operator.{Operator}
 use Rattle.sas_task.specs.Task.{Task}
 use Rattle.sas_task.specs.Effects.{changes, fact_of}
 use Rattle.pass_possible.specs.Possible.{is_possible}
-use Rattle.fact_pairs.specs.Facts.{initial_facts}
-use Rattle.fact_pairs.specs.MarkLists.{common, without, places}
-use Rattle.fact_pairs.specs.Finds.{Finds, numbers, row, marked_or, found, with_mark, nothing, settled, is_woken_at}
+use Rattle.pass_h2.specs.Facts.{initial_facts}
+use Rattle.pass_h2.specs.MarkLists.{common, without, places}
+use Rattle.pass_h2.specs.Finds.{Finds, numbers, row, marked_or, found, with_mark, nothing, settled, is_woken_at}
 
 -- with one pair of numbers more, if it has a place that has no mark
 abbrev pub with_pair : Finds → ℕ → ℕ → Finds

@@ -7,13 +7,13 @@ ghost use Rattle.sas_restriction.specs.Listed.{with_operators};
 ghost use Rattle.pass_possible.specs.Possible as possible;
 ghost use Rattle.pass_possible.specs.Pruned.{HasPossibleAlone, IsPruned};
 ghost use Rattle.pass_possible.specs.Pruned as pruned;
-ghost use Rattle.fact_pairs.specs.Finds.{found, nothing};
+ghost use Rattle.pass_h2.specs.Finds.{found, nothing};
 
+use crate::facts::{is_in_goal, is_plain};
 use crate::search::{is_possible, mark_possible};
-use fact_pairs::{Table, is_in_goal, is_plain};
+use crate::table::Table;
 use lists::List;
-use restricted_task::restrict;
-use sas_restriction::{Chosen, Once, numbers_below};
+use sas_restriction::{Chosen, Once, numbers_below, restrict};
 use sas_task::{Operator, Pair, SasTask, is_valid};
 use std::alloc::{AllocError, Global};
 

@@ -4,10 +4,12 @@ ghost use Rattle.std.specs.Prelude.{◌≡◌, fold, IfOk, OnOk};
 ghost use Rattle.sas_task.specs.Valid.{IsValid};
 ghost use Rattle.pass_possible.specs.Possible.{ArePossible};
 ghost use Rattle.pass_possible.specs.Possible as possible;
-ghost use Rattle.fact_pairs.specs.Finds as pairs;
+ghost use Rattle.pass_h2.specs.Finds as pairs;
 ghost use Rattle.pass_h2.specs.Search as words;
 
-use fact_pairs::{Marks, Table, all_marked, initial_facts, is_mixed, numbers, wakes_at};
+use crate::facts::{initial_facts, is_mixed};
+use crate::marks::Marks;
+use crate::table::{Table, all_marked, numbers, wakes_at};
 use sas_restriction::numbers_below;
 use sas_task::{Operator, SasTask, changes, facts_set};
 use std::alloc::{AllocError, Global};

@@ -12,7 +12,7 @@ use Rattle.sas_task.specs.Solution.{HasSolution, system}
 use Rattle.sas_task.specs.Keeps.{Keeps}
 use Rattle.sas_task.specs.Orders.{operator_cmp}
 use Rattle.sas_task.proofs.KeepsLaws.{keeps_itself}
-use Rattle.sas_orders.proofs.InOrder.{ordered_member}
+use Rattle.sas_task.proofs.InOrder.{ordered_member}
 use Rattle.sas_restriction.specs.Choice.{Choice, operator_stays}
 use Rattle.sas_restriction.specs.Restriction.{Restricts, new_operator}
 use Rattle.sas_restriction.specs.KeepsCosts.{KeepsCosts}

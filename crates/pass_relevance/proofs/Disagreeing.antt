@@ -10,8 +10,8 @@ use Rattle.sas_task.specs.declared.parts.Effect.{Effect}
 use Rattle.sas_task.specs.Effects.{fact_of}
 use Rattle.sas_task.specs.Orders.{pair_cmp}
 use Rattle.sas_task.specs.Valid.{ComesBefore}
-use Rattle.sas_task.proofs.Orders.{pair_total}
-use Rattle.sas_orders.proofs.Sorted.{member_sorted, sorted_member}
+use Rattle.sas_task.specs.TotalOrders.{pair_total}
+use Rattle.sas_task.proofs.Sorted.{member_sorted, sorted_member}
 use Rattle.sas_restriction.proofs.Exact.{pair_exact}
 use Rattle.sas_restriction.proofs.Valid.{sorted_pairs}
 use Rattle.names.specs.declared.arcs.Arc.{Arc}

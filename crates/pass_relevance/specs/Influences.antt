@@ -10,7 +10,7 @@ use Rattle.sas_task.specs.declared.parts.Rule.{Rule}
 use Rattle.sas_task.specs.Task.{Task}
 use Rattle.sas_task.specs.Effects.{fact_of}
 use Rattle.sas_task.specs.Orders.{pair_cmp}
-use Rattle.sas_orders.specs.InOrder.{sorted}
+use Rattle.sas_task.specs.InOrder.{sorted}
 use Rattle.names.specs.declared.arcs.Arc.{Arc}
 
 abbrev pub arc : ℕ → ℕ → Arc

@@ -8,8 +8,7 @@ ghost use Rattle.pass_relevance.specs.Influences as words;
 
 use lists::checked_sum;
 use names::Arc;
-use sas_orders::arrange;
-use sas_task::{Effect, Operator, Pair, Rule, SasTask, facts_set};
+use sas_task::{Effect, Operator, Pair, Rule, SasTask, arrange, facts_set};
 use std::alloc::{AllocError, Global};
 
 /// The arc between the two nodes.

@@ -4,8 +4,7 @@ ghost use Rattle.std.specs.Prelude.{◌≡◌, ◌==◌, length, IfOk};
 ghost use Rattle.sas_restriction.specs.Reduced.{HasRelevantAlone, IsReduced};
 
 use crate::search::relevant_variables;
-use restricted_task::{busy_marks, restrict};
-use sas_restriction::{Once, all_values};
+use sas_restriction::{Once, all_values, busy_marks, restrict};
 use sas_task::{SasTask, is_valid};
 use std::alloc::{AllocError, Global};
 

@@ -1,4 +1,5 @@
 -- lemmas of this crate
+mod Cuts
 mod SolutionCosts
 mod CostTables
 mod PassedLines

@@ -5,13 +5,13 @@ use Rattle.std.specs.List.{cons_option, flat_map}
 use Rattle.std.specs.Option.{option_to_list}
 use Rattle.std.proofs.lemmas.List.Concat.{flat_map-append}
 use Rattle.std.proofs.lemmas.List.Sums.{sum_by-append}
-use Rattle.plan_lines.proofs.Cuts.{next_line, shorter}
-use Rattle.plan_backmap.specs.declared.plan.MapEnd.{MapEnd}
-use Rattle.plan_lines.specs.Lines.{plan_lines, trimmed}
-use Rattle.plan_lines.specs.FirstLine.{first_line, after_line}
-use Rattle.plan_lines.specs.PlanText.{step_line}
+use Rattle.plan_backmap.proofs.Cuts.{next_line, shorter}
+use Rattle.plan_backmap.specs.declared.end.MapEnd.{MapEnd}
+use Rattle.plan_backmap.specs.Lines.{plan_lines, trimmed}
+use Rattle.plan_backmap.specs.FirstLine.{first_line, after_line}
+use Rattle.plan_backmap.specs.PlanText.{step_line}
 use Rattle.plan_backmap.specs.Plans as spec
-use Rattle.plan_lines.specs.declared.plan.Step.{Step}
+use Rattle.plan_backmap.specs.declared.plan.Step.{Step}
 use Rattle.sas_task.specs.declared.parts.Operator.{Operator}
 
 -- so many lines of a text are passed without a fault, and gave these steps; the rest is left

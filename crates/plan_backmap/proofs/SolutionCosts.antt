@@ -13,8 +13,8 @@ use Rattle.sas_task.specs.Task.{Task}
 use Rattle.sas_task.specs.Valid.{IsValid}
 use Rattle.sas_task.specs.Solution.{Step as TaskStep, cost_in}
 use Rattle.sas_task.proofs.ValidParts.{operator_law}
-use Rattle.plan_lines.specs.declared.plan.Step.{Step}
-use Rattle.plan_lines.specs.Lines.{is_step, words, name}
+use Rattle.plan_backmap.specs.declared.plan.Step.{Step}
+use Rattle.plan_backmap.specs.Lines.{is_step, words, name}
 use Rattle.plan_backmap.specs.Plans.{cost_of, step_of, steps, total}
 use Rattle.plan_backmap.specs.Solutions.{NamesTellCosts, step_names, SolutionsCostTheTotal}
 

@@ -1,9 +1,9 @@
 -- Small plan files, worked by hand.
 use Rattle.std.specs.Prelude.{◌≡◌, ℕ, true, false, List, [], ◌∷◌, ◌++◌, codes}
 use Rattle.sas_task.specs.declared.parts.Operator.{Operator}
-use Rattle.plan_lines.specs.Lines.{lines, trimmed, plan_lines, is_comment, is_step, words, name}
+use Rattle.plan_backmap.specs.Lines.{lines, trimmed, plan_lines, is_comment, is_step, words, name}
 use Rattle.plan_backmap.specs.Plans.{BadLine, UnknownStep, faults, mapped}
-use Rattle.plan_lines.specs.declared.plan.Step.{Step}
+use Rattle.plan_backmap.specs.declared.plan.Step.{Step}
 
 abbrev pub operator : List ℕ → ℕ → Operator
 operator name cost = record { name = name; conditions = []; effects = []; cost = cost }

@@ -1,4 +1,7 @@
 -- what the public contracts say
+pub mod Lines
+pub mod FirstLine
+pub mod PlanText
 pub mod Plans
 pub mod Solutions
 pub mod Examples

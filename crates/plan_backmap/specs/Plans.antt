@@ -4,11 +4,11 @@ use Rattle.std.specs.List.{enumerate_from, filter_map, sum_by}
 use Rattle.std.specs.Option.{option_map}
 use Rattle.names.specs.Names.{Name, is_same}
 use Rattle.sas_task.specs.declared.parts.Operator.{Operator}
-use Rattle.plan_lines.specs.Lines.{is_comment, is_step, words, name}
-use Rattle.plan_lines.specs.declared.plan.Step.{Step}
-use Rattle.plan_lines.specs.declared.plan.Mapped.{Mapped}
-use Rattle.plan_backmap.specs.declared.plan.MapEnd.{MapEnd}
-use Rattle.plan_backmap.specs.declared.plan.MapEnd.TheVariants as ends
+use Rattle.plan_backmap.specs.Lines.{is_comment, is_step, words, name}
+use Rattle.plan_backmap.specs.declared.plan.Step.{Step}
+use Rattle.plan_backmap.specs.declared.plan.Mapped.{Mapped}
+use Rattle.plan_backmap.specs.declared.end.MapEnd.{MapEnd}
+use Rattle.plan_backmap.specs.declared.end.MapEnd.TheVariants as ends
 
 -- a line of a text: 1 is the first
 abbrev pub Line : Type 0

@@ -4,8 +4,8 @@ use Rattle.sas_task.specs.declared.parts.Operator.{Operator}
 use Rattle.sas_task.specs.Task.{Task}
 use Rattle.sas_task.specs.Valid.{IsValid}
 use Rattle.sas_task.specs.Solution.{HasSolution}
-use Rattle.plan_lines.specs.declared.plan.Step.{Step}
-use Rattle.plan_lines.specs.Lines.{name}
+use Rattle.plan_backmap.specs.declared.plan.Step.{Step}
+use Rattle.plan_backmap.specs.Lines.{name}
 use Rattle.plan_backmap.specs.Plans.{steps, total}
 
 -- operators of one name have one cost

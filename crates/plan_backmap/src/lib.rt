@@ -1,14 +1,18 @@
-//! Plan files read back: which operators of a task their steps name, and what they cost.
+//! Plan files read back: which of their lines are steps, which operators of a task these name, and what they cost.
 #![tactic(auto)]
 
 mod costs;
+mod end;
 mod laws;
+mod lines;
 mod mapping;
 mod plan;
+mod text;
 mod writing;
 
+pub use end::MapEnd;
 pub use laws::{solutions_cost_the_total, worked_lines, worked_plans};
 pub use mapping::map_plan;
-pub use plan::MapEnd;
-pub use plan_lines::{Mapped, Step};
+pub use plan::{Mapped, Step};
+pub use text::plan_text;
 pub use writing::mapped_text;

@@ -2,15 +2,14 @@
 
 ghost use Rattle.std.specs.Prelude.{◌≡◌, ◌≤◌, ◌<◌, ◌^◌, [], ◌++◌, length, None, Some, IsOk, Err, IfOk, IfErr, IfSome, OnOk};
 ghost use Rattle.std.specs.Option.{option_to_list};
-ghost use Rattle.plan_lines.specs.Lines.{plan_lines};
+ghost use Rattle.plan_backmap.specs.Lines.{plan_lines};
 ghost use Rattle.plan_backmap.specs.Plans.{PlanFault, step_of, fault_of, faults, mapped, total, IsFirst, end_of, IfFault, UnlessNoMemory};
 
 use crate::costs::Costs;
-use crate::plan::MapEnd;
+use crate::end::MapEnd;
+use crate::lines::{after_line, first_line, inside, is_comment, is_step, name, trimmed, words};
+use crate::plan::{Mapped, Step};
 use lists::List;
-use plan_lines::{
-    Mapped, Step, after_line, first_line, inside, is_comment, is_step, name, trimmed, words,
-};
 use sas_task::SasTask;
 use std::alloc::{AllocError, Global};
 

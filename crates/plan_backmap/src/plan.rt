@@ -1,32 +1,17 @@
-//! Why a plan file comes to nothing.
+//! A plan that is mapped to operators.
 
-ghost use Rattle.std.specs.Prelude.{◌≡◌};
-ghost use Rattle.plan_backmap.specs.declared.plan.MapEnd.TheVariants.{NoMemory};
+use lists::{List, Text};
 
-use std::alloc::{AllocError, AllocFailed};
-
-/// Why a plan file isn't mapped. Lines are counted from 1.
-#[derive(Clone, Copy, PartialEq, Eq)]
-pub enum MapEnd {
-    /// The line is no step and no comment.
-    BadLine(u64),
-    /// The line is a step whose name no operator has.
-    UnknownStep(u64),
-    NoMemory,
+/// A step of a plan: the operator's name and its objects, lowered, and what it costs.
+#[derive(Drop)]
+pub struct Step {
+    pub words: List<Text>,
+    pub cost: u64,
 }
 
-impl From<AllocError> for MapEnd {
-    ghost from_gives = { λ _ e. e ≡ NoMemory };
-
-    fn from(_e: AllocError) -> MapEnd {
-        MapEnd::NoMemory
-    }
-}
-
-impl<T: Drop> From<AllocFailed<T>> for MapEnd {
-    ghost from_gives = { λ _ e. e ≡ NoMemory };
-
-    fn from(_e: AllocFailed<T>) -> MapEnd {
-        MapEnd::NoMemory
-    }
+/// The steps of a plan, and what they cost together.
+#[derive(Drop)]
+pub struct Mapped {
+    pub steps: List<Step>,
+    pub total: u64,
 }

@@ -2,14 +2,16 @@
 
 ghost use Rattle.std.specs.Prelude.{◌≡◌, ◌≤◌, ◌<◌, ◌^◌, [], ◌++◌, flat_map, length, Some, IsOk, Err, IfOk, IfErr, OnOk};
 ghost use Rattle.std.specs.Option.{option_to_list};
-ghost use Rattle.plan_lines.specs.Lines.{plan_lines};
-ghost use Rattle.plan_lines.specs.PlanText.{step_line, plan_text};
+ghost use Rattle.plan_backmap.specs.Lines.{plan_lines};
+ghost use Rattle.plan_backmap.specs.PlanText.{step_line, plan_text};
 ghost use Rattle.plan_backmap.specs.Plans.{PlanFault, faults, mapped, steps, total, IsFirst, end_of, IfFault, UnlessNoMemory};
 
 use crate::costs::Costs;
+use crate::end::MapEnd;
+use crate::lines::{after_line, first_line, trimmed};
 use crate::mapping::{step_cost, step_of};
-use crate::plan::MapEnd;
-use plan_lines::{Step, after_line, first_line, push_cost, push_step, trimmed};
+use crate::plan::Step;
+use crate::text::{push_cost, push_step};
 use sas_task::SasTask;
 use std::alloc::{AllocError, Global};
 

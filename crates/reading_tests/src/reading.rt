@@ -3,10 +3,9 @@
 ghost use Rattle.std.specs.Prelude.{IfOk};
 ghost use Rattle.pddl_syntax.specs.Spelled.{IsWellSpelled, IsWellSpelledProblem};
 
-use domain_parser::parse_domain;
 use pddl_lexer::{Fault, read_tree};
+use pddl_parser::{parse_domain, parse_problem};
 use pddl_syntax::{Domain, ParseEnd, Problem};
-use problem_parser::parse_problem;
 use std::alloc::Global;
 
 pub(crate) fn domain_of(alloc: Global, text: &str) -> Result<Domain, ParseEnd>

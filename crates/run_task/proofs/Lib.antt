@@ -1,3 +1,5 @@
+mod Told
+mod Encoded
 mod Ranges
 mod Translated
 mod OneTask

@@ -1,3 +1,4 @@
+pub mod OperatorCosts
 pub mod Theorem
 pub mod RunTask
 pub mod OneTask

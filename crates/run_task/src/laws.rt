@@ -10,6 +10,7 @@ ghost use Rattle.sas_task.specs.Task.{Task};
 ghost use Rattle.run_task.specs.OneTask.{OneRunTask, OneTaskOfPair};
 ghost use Rattle.run_task.specs.RunTask.{IsRunTask};
 ghost use Rattle.run_task.specs.Theorem.{TranslatesPair, TasksTranslate, PassedTasksStand};
+ghost use Rattle.run_task.specs.OperatorCosts.{InEncodings, InRestrictions, InProjections};
 
 use fdr_encoder::laws::{covers, exclusive_covers, simulation, validity};
 use ground_task::laws::one_ground_task;
@@ -17,7 +18,6 @@ use group_cover::laws::one_cover_of_same;
 use invariant_guess::laws::finds;
 use mutex_groups::laws::{groups_are_exclusive, groups_of_facts, one_set_of_groups};
 use normal_task::laws::{names_tell_costs, same_task};
-use operator_costs::laws::operators_tell_costs;
 use pass_book::laws::passes_keep;
 use pddl_syntax::laws::idle_steps;
 use plan_backmap::solutions_cost_the_total;
@@ -83,3 +83,11 @@ pub fn one_task_of_a_run()
     orders_forgotten();
     passes_keep();
 }
+
+/// Operators of one name have one cost, where steps of the normal task do: in an encoding of what is reached of the
+/// task, in a restriction of a task whose operators do, and in its projection.
+pub fn operators_tell_costs()
+    ensures encodings { InEncodings }
+    ensures restrictions { InRestrictions }
+    ensures projections { InProjections }
+{}

@@ -11,21 +11,21 @@ use Rattle.sas_task.specs.declared.parts.Rule.{Rule}
 use Rattle.sas_task.specs.Output.{Line, numeral, counted, bytes_of, text_of, pair_lines, variable_lines, group_lines, goal_lines, state_lines, prevail, effect_line, operator_lines, rule_lines, lines, version_lines, metric_lines}
 use Rattle.sas_task.specs.Task.{Task, of_parts}
 use Rattle.sas_task.specs.Valid.{IsValid, IsValue, IsValidGroup, IsValidEffect, IsValidOperator, IsValidRule, SetAlike, default_of}
-use Rattle.sas_lines.specs.declared.fault.SasPlace.TheVariants as places
-use Rattle.sas_lines.specs.Contexts.{so_far}
-use Rattle.sas_lines.specs.Forms.{◌>>=◌, ◌>>◌, Unread, unread, pieces_of, section, listed}
-use Rattle.sas_lines.specs.Numbers.{number_line}
-use Rattle.sas_sections.specs.Operators.{operator, operators, spared}
-use Rattle.sas_sections.specs.Rules.{rule, rules}
-use Rattle.sas_sections.specs.Sections.{version, metric, variables, groups, state, goal}
-use Rattle.sas_sections.proofs.Again.{IsSmall, Again, again_then, again_next, again_number, again_listed}
-use Rattle.sas_sections.proofs.AgainPairs.{Fits, value_fits, at_place, in_all, same_lines, again_each}
-use Rattle.sas_sections.proofs.AgainSections.{again_version, again_metric, again_state}
-use Rattle.sas_sections.proofs.AgainOperators.{IsShort, less_is, again_operator}
-use Rattle.sas_sections.proofs.AgainRules.{again_rule}
-use Rattle.sas_sections.proofs.AgainText.{many, each_short, conditions_short, flat_each, mapped_each}
+use Rattle.sas_reader.specs.declared.fault.SasPlace.TheVariants as places
+use Rattle.sas_reader.specs.Contexts.{so_far}
+use Rattle.sas_reader.specs.Forms.{◌>>=◌, ◌>>◌, Unread, unread, pieces_of, section, listed}
+use Rattle.sas_reader.specs.Numbers.{number_line}
+use Rattle.sas_reader.specs.Operators.{operator, operators, spared}
+use Rattle.sas_reader.specs.Rules.{rule, rules}
+use Rattle.sas_reader.specs.Sections.{version, metric, variables, groups, state, goal}
+use Rattle.sas_reader.proofs.Again.{IsSmall, Again, again_then, again_next, again_number, again_listed}
+use Rattle.sas_reader.proofs.AgainPairs.{Fits, value_fits, at_place, in_all, same_lines, again_each}
+use Rattle.sas_reader.proofs.AgainSections.{again_version, again_metric, again_state}
+use Rattle.sas_reader.proofs.AgainOperators.{IsShort, less_is, again_operator}
+use Rattle.sas_reader.proofs.AgainRules.{again_rule}
+use Rattle.sas_reader.proofs.AgainText.{many, each_short, conditions_short, flat_each, mapped_each}
 use Rattle.lists.proofs.Members.{all_front, all_behind}
-use Rattle.sas_sections.proofs.WrittenLines.{name_clean, pieces_back}
+use Rattle.sas_reader.proofs.WrittenLines.{name_clean, pieces_back}
 use Rattle.sas_task.proofs.TextsTellTasks.{IsSorted, lines_clean}
 use Rattle.sas_reader.specs.Text.{task, with_operators, IsTextOf}
 use Rattle.sas_reader.proofs.WholeText.{to_end, to_rules, to_operators, to_goal, to_state, to_groups, to_variables}

@@ -11,14 +11,14 @@ use Rattle.sas_task.specs.declared.parts.Rule.{Rule}
 use Rattle.sas_task.specs.Output.{Line, numeral, counted, spaced, pair_lines, variable_lines, group_lines, goal_lines, rule_lines}
 use Rattle.sas_task.specs.Task.{Task}
 use Rattle.sas_task.specs.Valid.{AreConditions, IsValidVariable, IsValidGroup}
-use Rattle.sas_lines.specs.declared.fault.SasPlace.{SasPlace}
-use Rattle.sas_lines.specs.declared.fault.SasPlace.TheVariants as places
-use Rattle.sas_lines.specs.Forms.{◌>>=◌, ◌>>◌, Unread, Form, followed, in_section, section, nothing, given}
-use Rattle.sas_sections.specs.Sections.{variables, groups, goal}
-use Rattle.sas_sections.proofs.Again.{IsSmall, Reads, Again, small_after, again_next}
-use Rattle.sas_sections.proofs.AgainPairs.{Fits, again_groups, again_goal}
-use Rattle.sas_sections.proofs.AgainSections.{again_variables}
-use Rattle.sas_sections.proofs.AgainText.{many, each_short}
+use Rattle.sas_reader.specs.declared.fault.SasPlace.{SasPlace}
+use Rattle.sas_reader.specs.declared.fault.SasPlace.TheVariants as places
+use Rattle.sas_reader.specs.Forms.{◌>>=◌, ◌>>◌, Unread, Form, followed, in_section, section, nothing, given}
+use Rattle.sas_reader.specs.Sections.{variables, groups, goal}
+use Rattle.sas_reader.proofs.Again.{IsSmall, Reads, Again, small_after, again_next}
+use Rattle.sas_reader.proofs.AgainPairs.{Fits, again_groups, again_goal}
+use Rattle.sas_reader.proofs.AgainSections.{again_variables}
+use Rattle.sas_reader.proofs.AgainText.{many, each_short}
 use Rattle.lists.proofs.Members.{all_front}
 use Rattle.sas_reader.proofs.WholeText.{to_end}
 

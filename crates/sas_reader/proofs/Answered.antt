@@ -3,14 +3,14 @@ use Rattle.std.proofs.Common.{◌≡◌, ◌<◌, ◌^◌, ◌↔◌, ℕ, lengt
 use Rattle.std.specs.Prelude.{IsOk, IfOk, OnOk}
 use Rattle.std.proofs.lemmas.Option.{none-some, same_Some}
 use Rattle.sas_task.specs.Task.{Task}
-use Rattle.sas_lines.specs.declared.fault.SasFault.{SasFault}
-use Rattle.sas_lines.specs.declared.fault.ReadTaskEnd.{ReadTaskEnd}
-use Rattle.sas_lines.specs.declared.fault.ReadTaskEnd.TheVariants as ends
-use Rattle.sas_lines.specs.Answers.{IfFault, UnlessNoMemory, Tells}
-use Rattle.sas_lines.specs.Forms.{Reading, unread}
+use Rattle.sas_reader.specs.declared.fault.SasFault.{SasFault}
+use Rattle.sas_reader.specs.declared.fault.ReadTaskEnd.{ReadTaskEnd}
+use Rattle.sas_reader.specs.declared.fault.ReadTaskEnd.TheVariants as ends
+use Rattle.sas_reader.specs.Answers.{IfFault, UnlessNoMemory, Tells}
+use Rattle.sas_reader.specs.Forms.{Reading, unread}
 use Rattle.sas_reader.specs.Text.{task, read_of, reading_of, fault_of, line_fault, IsTextOf, HasTask}
 use Rattle.sas_task.specs.Valid.{IsValid}
-use Rattle.sas_sections.proofs.Kept.{read_same}
+use Rattle.sas_reader.proofs.Kept.{read_same}
 use Rattle.sas_reader.proofs.AgainRest.{text_again}
 use Rattle.sas_reader.proofs.WholeText.{task_read}
 

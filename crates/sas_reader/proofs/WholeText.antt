@@ -12,16 +12,16 @@ use Rattle.sas_task.specs.declared.parts.Rule.{Rule}
 use Rattle.sas_task.specs.Output.{Line, counted, bytes_of, version_lines, metric_lines, variable_lines, group_lines, state_lines, goal_lines, operator_lines, rule_lines}
 use Rattle.sas_task.specs.Task.{Task, of_parts}
 use Rattle.sas_task.specs.Valid.{IsValid, IsValue, AreConditions, IsValidVariable, IsValidGroup, IsValidEffect, IsValidOperator, IsValidRule, SetAlike}
-use Rattle.sas_lines.specs.declared.fault.SasPlace.TheVariants as places
-use Rattle.sas_lines.specs.Contexts.{so_far}
-use Rattle.sas_lines.specs.Forms.{◌>>=◌, ◌>>◌, Unread, Form, unread, pieces_of, in_section, section, end, nothing, given}
-use Rattle.sas_sections.specs.Operators.{operators}
-use Rattle.sas_sections.specs.Rules.{rules}
-use Rattle.sas_sections.specs.Sections.{version, metric, variables, groups, state, goal}
-use Rattle.sas_sections.proofs.Kept.{parts, read_same, TakesLines, then_lines}
-use Rattle.sas_sections.proofs.Lines.{IsClean, clean_after, clean_pieces}
-use Rattle.sas_sections.proofs.Sectioned.{version_read, metric_read, variables_read, groups_read, state_read, goal_read}
-use Rattle.sas_sections.proofs.Finished.{IsGood, operators_read, rules_read}
+use Rattle.sas_reader.specs.declared.fault.SasPlace.TheVariants as places
+use Rattle.sas_reader.specs.Contexts.{so_far}
+use Rattle.sas_reader.specs.Forms.{◌>>=◌, ◌>>◌, Unread, Form, unread, pieces_of, in_section, section, end, nothing, given}
+use Rattle.sas_reader.specs.Operators.{operators}
+use Rattle.sas_reader.specs.Rules.{rules}
+use Rattle.sas_reader.specs.Sections.{version, metric, variables, groups, state, goal}
+use Rattle.sas_reader.proofs.Kept.{parts, read_same, TakesLines, then_lines}
+use Rattle.sas_reader.proofs.Lines.{IsClean, clean_after, clean_pieces}
+use Rattle.sas_reader.proofs.Sectioned.{version_read, metric_read, variables_read, groups_read, state_read, goal_read}
+use Rattle.sas_reader.proofs.Finished.{IsGood, operators_read, rules_read}
 use Rattle.sas_reader.specs.Text.{task, IsTextOf}
 
 at_end : (now : Unread) (x : Unit {0}) (after : Unread) → end now ≡ Ok (x, after) → now.pieces ≡ [] ∷ []

@@ -1,1 +1,12 @@
+pub mod Words
+pub mod Places
+pub mod Forms
+pub mod Numbers
+pub mod Contexts
+pub mod Answers
+pub mod Pairs
+pub mod Sections
+pub mod Operators
+pub mod Rules
+pub mod Tables
 pub mod Text

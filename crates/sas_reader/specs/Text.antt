@@ -4,13 +4,13 @@ use Rattle.sas_task.specs.declared.parts.Operator.{Operator}
 use Rattle.sas_task.specs.Output.{text_of}
 use Rattle.sas_task.specs.Task.{Task}
 use Rattle.sas_task.specs.Valid.{IsValid}
-use Rattle.sas_lines.specs.declared.fault.SasFault.{SasFault}
-use Rattle.sas_lines.specs.declared.fault.SasPlace.TheVariants as places
-use Rattle.sas_lines.specs.Forms.{◌>>=◌, ◌>>◌, Form, Reading, given, section, end, unread}
-use Rattle.sas_lines.specs.Contexts.{so_far}
-use Rattle.sas_sections.specs.Sections.{version, metric, variables, groups, state, goal}
-use Rattle.sas_sections.specs.Operators.{operators, spared}
-use Rattle.sas_sections.specs.Rules.{rules}
+use Rattle.sas_reader.specs.declared.fault.SasFault.{SasFault}
+use Rattle.sas_reader.specs.declared.fault.SasPlace.TheVariants as places
+use Rattle.sas_reader.specs.Forms.{◌>>=◌, ◌>>◌, Form, Reading, given, section, end, unread}
+use Rattle.sas_reader.specs.Contexts.{so_far}
+use Rattle.sas_reader.specs.Sections.{version, metric, variables, groups, state, goal}
+use Rattle.sas_reader.specs.Operators.{operators, spared}
+use Rattle.sas_reader.specs.Rules.{rules}
 
 -- the eight sections, and no more
 unfoldable pub task : Form Task

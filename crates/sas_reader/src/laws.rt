@@ -4,8 +4,8 @@ ghost use Rattle.std.specs.Prelude.{◌≡◌, ◌+◌, ◌<◌, ◌≤◌, ◌^
 ghost use Rattle.sas_task.specs.Output.{text_of};
 ghost use Rattle.sas_task.specs.Task.{Task};
 ghost use Rattle.sas_task.specs.Valid.{IsValid};
-ghost use Rattle.sas_lines.specs.declared.fault.SasFault.{SasFault};
-ghost use Rattle.sas_lines.specs.Forms.{Unread, unread};
+ghost use Rattle.sas_reader.specs.declared.fault.SasFault.{SasFault};
+ghost use Rattle.sas_reader.specs.Forms.{Unread, unread};
 ghost use Rattle.sas_reader.specs.Text.{task, line_fault, IsTextOf, HasTask, whole_lines};
 
 /// What is read is a valid task, and the text is that of the task, but for spaces at the end of operators' names.

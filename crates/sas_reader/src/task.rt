@@ -3,15 +3,17 @@
 ghost use Rattle.std.specs.Prelude.{◌≡◌, ◌<◌, ◌^◌, length, Some, None, Ok, Err, IsOk, IfOk, OnOk};
 ghost use Rattle.sas_task.specs.Task.{Task};
 ghost use Rattle.sas_task.specs.Valid.{IsValid};
-ghost use Rattle.sas_lines.specs.Answers.{IfFault, UnlessNoMemory, Tells};
-ghost use Rattle.sas_lines.specs.Forms.{unread};
-ghost use Rattle.sas_lines.specs.declared.fault.SasFault.{SasFault};
+ghost use Rattle.sas_reader.specs.Answers.{IfFault, UnlessNoMemory, Tells};
+ghost use Rattle.sas_reader.specs.Forms.{unread};
+ghost use Rattle.sas_reader.specs.declared.fault.SasFault.{SasFault};
 ghost use Rattle.sas_reader.specs.Text.{task, reading_of, line_fault, IsTextOf};
 
-use sas_lines::{ReadTaskEnd, Reader, SasPlace};
-use sas_sections::{
-    goal_section, group_section, metric, operator_section, rule_section, state_section,
-    variable_section, version,
+use crate::fault::{ReadTaskEnd, SasPlace};
+use crate::operators::operator_section;
+use crate::reader::Reader;
+use crate::rules::rule_section;
+use crate::sections::{
+    goal_section, group_section, metric, state_section, variable_section, version,
 };
 use sas_task::SasTask;
 use std::alloc::Global;

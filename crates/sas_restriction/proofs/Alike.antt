@@ -13,13 +13,13 @@ use Rattle.sas_task.specs.declared.parts.Rule.{Rule}
 use Rattle.sas_task.specs.Task.{Task, of_parts}
 use Rattle.sas_task.specs.Alike.{IsAlike, AreAlike, RulesAgree}
 use Rattle.sas_task.specs.Orders.{pairs_cmp, group_cmp, effect_cmp, operator_cmp, rule_cmp}
-use Rattle.sas_task.proofs.Orders.{group_total, effect_total, operator_total, rule_total}
+use Rattle.sas_task.specs.TotalOrders.{group_total, effect_total, operator_total, rule_total}
 use Rattle.lists.specs.SameMembers.{SameMembers}
 use Rattle.lists.proofs.SameMembers.{mapped, filtered}
 use Rattle.sas_task.proofs.Alike.{task_back}
-use Rattle.sas_orders.specs.InOrder.{sorted, TellsApart}
+use Rattle.sas_task.specs.InOrder.{sorted, TellsApart}
 use Rattle.lists.proofs.Ordered.{same_ordered}
-use Rattle.sas_orders.proofs.Sorted.{sorted_member, member_sorted, sorted_ordered}
+use Rattle.sas_task.proofs.Sorted.{sorted_member, member_sorted, sorted_ordered}
 use Rattle.sas_restriction.specs.declared.chosen.Once.{Once}
 use Rattle.sas_restriction.specs.Choice.{Choice, is_shown, all_left, new_var, new_val, new_pairs, new_group, effect_stays, new_effect, operator_stays, rule_stays, new_rule}
 use Rattle.sas_restriction.specs.Restriction.{new_operator, new_groups, new_operators, new_rules, restriction}

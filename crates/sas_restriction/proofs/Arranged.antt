@@ -8,12 +8,12 @@ use Rattle.sas_task.specs.declared.parts.Rule.{Rule}
 use Rattle.sas_task.specs.Task.{Task}
 use Rattle.sas_task.specs.Valid.{IsValid}
 use Rattle.sas_task.specs.Orders.{group_cmp, effect_cmp, operator_cmp, rule_cmp}
-use Rattle.sas_task.proofs.Orders.{group_total, effect_total, operator_total, rule_total}
+use Rattle.sas_task.specs.TotalOrders.{group_total, effect_total, operator_total, rule_total}
 use Rattle.lists.proofs.Members.{all_from_members, filter_member, member_filter, map_member, member_map}
 use Rattle.sas_restriction.specs.Choice.{Choice, IsChoice, new_group, effect_stays, new_effect, operator_stays, rule_stays, new_rule}
 use Rattle.sas_restriction.specs.declared.chosen.Once.{Once}
 use Rattle.sas_restriction.specs.Restriction.{IsNewOperator, Restricts, new_operator, new_groups, new_operators, new_rules, restriction}
-use Rattle.sas_orders.proofs.Sorted.{arranged_member, member_arranged}
+use Rattle.sas_task.proofs.Sorted.{arranged_member, member_arranged}
 use Rattle.sas_restriction.proofs.Alike.{rules_apart}
 use Rattle.sas_restriction.proofs.Exact.{effect_exact, operator_exact}
 use Rattle.sas_restriction.proofs.Valid.{valid_rules}

@@ -1,10 +1,4 @@
-mod Pairs
-mod Places
-mod Rising
-mod Shape
-mod Completed
 -- what a pass owes and gets, which crates above cite
-pub mod Pieces
 pub mod Exact
 pub mod Numbers
 pub mod Alike
@@ -22,3 +16,11 @@ pub mod Reordered
 pub mod Relevance
 pub mod Reduced
 pub mod OneProof
+-- lemmas of this crate
+mod Pairs
+mod Places
+mod Rising
+mod Shape
+mod Completed
+mod Pieces
+mod Joined

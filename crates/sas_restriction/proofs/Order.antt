@@ -8,9 +8,9 @@ use Rattle.std.proofs.lemmas.List.Kept.{AllPairs-cons}
 use Rattle.sas_task.specs.Task.{Task}
 use Rattle.sas_task.specs.Valid.{IsValid}
 use Rattle.lists.proofs.Members.{no_member, member_first, member_later, member_range, range_member, all_from_members}
-use Rattle.sas_orders.specs.InOrder.{put_in, in_order}
+use Rattle.sas_task.specs.InOrder.{put_in, in_order}
 use Rattle.lists.proofs.Ordered.{pairs_head, pairs_tail}
-use Rattle.sas_orders.proofs.InOrder.{put_member, ordered_member, member_ordered}
+use Rattle.sas_task.proofs.InOrder.{put_member, ordered_member, member_ordered}
 use Rattle.sas_restriction.specs.Choice.{IsChoice, is_shown}
 use Rattle.sas_restriction.specs.MayStand.{MayStand, TellsAll}
 use Rattle.sas_restriction.specs.Everything.{all_values, everything}

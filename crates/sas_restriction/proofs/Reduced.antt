@@ -17,12 +17,12 @@ use Rattle.sas_task.specs.Solution.{HasSolution, cost_in, system}
 use Rattle.sas_task.specs.Keeps.{Keeps}
 use Rattle.sas_task.specs.Orders.{group_cmp, effect_cmp, operator_cmp, rule_cmp}
 use Rattle.sas_task.proofs.KeepsLaws.{keeps_itself}
-use Rattle.sas_task.proofs.Orders.{operator_total}
+use Rattle.sas_task.specs.TotalOrders.{operator_total}
 use Rattle.sas_task.proofs.ValidParts.{operator_law, effect_law}
 use Rattle.lists.specs.Members.{is_among}
 use Rattle.lists.proofs.Members.{no_member, map_member, filter_member}
-use Rattle.sas_orders.specs.InOrder.{sorted, in_order}
-use Rattle.sas_orders.proofs.Sorted.{sorted_member}
+use Rattle.sas_task.specs.InOrder.{sorted, in_order}
+use Rattle.sas_task.proofs.Sorted.{sorted_member}
 use Rattle.sas_restriction.specs.declared.chosen.Once.{Once}
 use Rattle.sas_restriction.specs.Choice.{Choice, new_val, new_variable, variable_at, new_group, effect_stays, new_effect, is_busy, operator_stays, rule_stays, new_rule, busy_alone}
 use Rattle.sas_restriction.specs.Restriction.{restriction, new_operator, new_groups, Restricts}

@@ -15,7 +15,7 @@ use Rattle.sas_task.proofs.States.{is_variable}
 use Rattle.sas_task.proofs.ValidParts.{rule_law}
 use Rattle.lists.proofs.Items.{contains_among, same_map}
 use Rattle.lists.proofs.Members.{filter_every, filter_member, same_filter}
-use Rattle.sas_orders.specs.InOrder.{sorted}
+use Rattle.sas_task.specs.InOrder.{sorted}
 use Rattle.sas_restriction.specs.Choice.{Choice, IsChoice, is_shown, is_left, all_left, new_val, new_pair, new_pairs, variable_at, new_variable, fact_stays, new_group, effect_stays, new_effect, rule_stays, new_rule}
 use Rattle.sas_restriction.specs.Everything.{all_values, everything}
 use Rattle.sas_restriction.specs.Reordered.{place_in, renumbered_pair, renumbered_pairs, renumbered_group, renumbered_effect, renumbered_rule}

@@ -11,13 +11,13 @@ use Rattle.sas_task.specs.Task.{Task, of_parts}
 use Rattle.sas_task.specs.Valid.{IsValid, IsFact, ComesBefore, IsValidGroup}
 use Rattle.sas_task.specs.Keeps.{Keeps}
 use Rattle.sas_task.specs.Orders.{pair_cmp, group_cmp, effect_cmp, operator_cmp, rule_cmp}
-use Rattle.sas_task.proofs.Orders.{pair_total}
+use Rattle.sas_task.specs.TotalOrders.{pair_total}
 use Rattle.sas_task.proofs.States.{is_variable}
 use Rattle.sas_task.proofs.ValidParts.{operator_law, effect_law, rule_law}
 use Rattle.lists.proofs.Members.{map_member, member_map, filter_every}
-use Rattle.sas_orders.specs.InOrder.{in_order}
-use Rattle.sas_orders.proofs.InOrder.{ordered_member}
-use Rattle.sas_orders.proofs.Sorted.{member_sorted}
+use Rattle.sas_task.specs.InOrder.{in_order}
+use Rattle.sas_task.proofs.InOrder.{ordered_member}
+use Rattle.sas_task.proofs.Sorted.{member_sorted}
 use Rattle.sas_restriction.specs.declared.chosen.Once.{Once}
 use Rattle.sas_restriction.specs.Choice.{Choice, is_shown, new_val, variable_at, new_variable, new_group, effect_stays, new_effect, operator_stays, rule_stays, new_rule}
 use Rattle.sas_restriction.specs.Restriction.{restriction, new_operator, new_groups}

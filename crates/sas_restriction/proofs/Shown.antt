@@ -10,13 +10,13 @@ use Rattle.sas_task.specs.Orders.{pair_cmp}
 use Rattle.sas_task.specs.Task.{Task}
 use Rattle.sas_task.specs.Valid.{IsFact}
 use Rattle.sas_task.specs.Values.{all_hold}
-use Rattle.sas_task.proofs.Orders.{pair_total}
+use Rattle.sas_task.specs.TotalOrders.{pair_total}
 use Rattle.lists.proofs.Members.{all_pass, each_passes, filter_member, member_filter, map_member, member_map}
 use Rattle.sas_task.proofs.Successors.{Lists}
 use Rattle.sas_task.proofs.States.{is_variable}
 use Rattle.sas_restriction.specs.Choice.{Choice, IsChoice, is_shown, is_left, all_left, new_var, new_val, new_pair, new_pairs}
 use Rattle.sas_restriction.specs.MayStand.{IsTold, AreTold}
-use Rattle.sas_orders.proofs.Sorted.{sorted_member, member_sorted}
+use Rattle.sas_task.proofs.Sorted.{sorted_member, member_sorted}
 use Rattle.sas_restriction.proofs.Exact.{pair_exact}
 use Rattle.sas_restriction.proofs.Numbers.{any_member, member_any, place_of, at_place_of, one_number, one_member}
 

@@ -14,7 +14,7 @@ use Rattle.sas_task.specs.Values.{all_hold, values}
 use Rattle.sas_task.specs.Solution.{IsApplicable, Fires, Agrees, IsSuccessor, Step, IsReachable, MeetsGoal, cost_in, system}
 use Rattle.sas_task.specs.Orders.{pair_cmp}
 use Rattle.sas_task.specs.Keeps.{AtMostOne, IsSound}
-use Rattle.sas_task.proofs.Orders.{pair_total}
+use Rattle.sas_task.specs.TotalOrders.{pair_total}
 use Rattle.lists.proofs.Members.{all_from_members, filter_member, map_member}
 use Rattle.lists.proofs.Members as members
 use Rattle.sas_task.proofs.Successors.{Lists, FiringOn, Carries, firing_or_none, successor_lists, lists_successor}
@@ -26,7 +26,7 @@ use Rattle.runs.proofs.Systems.{reached_more, state_follows}
 use Rattle.sas_restriction.specs.Choice.{Choice, IsChoice, is_shown, is_left, all_left, new_var, new_val, new_pair, new_pairs, fact_stays, new_group, effect_stays, operator_stays, is_busy, new_effect}
 use Rattle.sas_restriction.specs.Restriction.{IsNewOperator, Restricts}
 use Rattle.sas_restriction.specs.MayStand.{IsTold, AreTold, MayStand}
-use Rattle.sas_orders.proofs.Sorted.{sorted_member}
+use Rattle.sas_task.proofs.Sorted.{sorted_member}
 use Rattle.sas_restriction.proofs.Numbers.{any_member, member_any}
 use Rattle.sas_restriction.proofs.Shape.{count_is, more_low, state_count, state_low, state_high}
 use Rattle.sas_restriction.proofs.Shown.{old, num, num_low, num_high, shown_at, shown_below, old_at, num_at, val_apart, val_one, pair_back, holds_new, holds_old, holding_left}

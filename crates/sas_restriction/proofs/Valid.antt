@@ -23,15 +23,15 @@ use Rattle.sas_task.specs.Task.{Task}
 use Rattle.sas_task.specs.Valid.{IsValid, IsValue, IsFact, AreConditions, IsValidVariable, ComesBefore, IsValidGroup, IsValidEffect, IsValidOperator, IsBelow, IsValidRule, layer_of}
 use Rattle.sas_task.specs.Alike.{RulesAgree}
 use Rattle.sas_task.specs.Orders.{pair_cmp}
-use Rattle.sas_task.proofs.Orders.{pair_total}
+use Rattle.sas_task.specs.TotalOrders.{pair_total}
 use Rattle.sas_task.proofs.ValidParts.{operator_law, rule_law}
 use Rattle.lists.proofs.Members.{no_member, all_from_members, member_single, filter_member, map_member}
 use Rattle.sas_restriction.proofs.Alike.{one_shown}
 use Rattle.sas_restriction.proofs.Pairs.{of_pairs, pairs_mapped, pairs_unmapped}
-use Rattle.sas_orders.specs.InOrder.{sorted}
+use Rattle.sas_task.specs.InOrder.{sorted}
 use Rattle.sas_restriction.specs.Choice.{Choice, IsChoice, is_shown, is_left, all_left, new_var, new_val, new_pair, new_pairs, variable_at, new_variable, fact_stays, new_group, effect_stays, new_effect, rule_stays, new_rule, holder_variable}
 use Rattle.sas_restriction.specs.Restriction.{IsNewOperator, Restricts}
-use Rattle.sas_orders.proofs.Sorted.{sorted_member, sorted_ordered}
+use Rattle.sas_task.proofs.Sorted.{sorted_member, sorted_ordered}
 use Rattle.sas_restriction.proofs.Numbers.{count_some, any_member}
 use Rattle.sas_restriction.proofs.Shape.{variable_low, variable_last, layer_low, count_is, state_count, state_low, state_high}
 use Rattle.sas_restriction.proofs.Shown.{old, shown_at, shown_below, old_at, val_apart, good_of, pair_of}

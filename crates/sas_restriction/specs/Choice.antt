@@ -13,7 +13,7 @@ use Rattle.sas_task.specs.declared.parts.Rule.{Rule}
 use Rattle.sas_task.specs.Task.{Task}
 use Rattle.sas_task.specs.Orders.{pair_cmp}
 use Rattle.sas_task.specs.Valid.{IsValue}
-use Rattle.sas_orders.specs.InOrder.{sorted}
+use Rattle.sas_task.specs.InOrder.{sorted}
 
 -- vars: the variables that are shown, each by its old number, in their new order
 -- values: of each variable, shown or not, the values that are left, in order

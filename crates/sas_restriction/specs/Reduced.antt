@@ -7,7 +7,7 @@ use Rattle.sas_task.specs.declared.parts.Operator.{Operator}
 use Rattle.sas_task.specs.Task.{Task}
 use Rattle.sas_task.specs.Effects.{changes}
 use Rattle.sas_task.specs.Orders.{group_cmp, operator_cmp, rule_cmp}
-use Rattle.sas_orders.specs.InOrder.{in_order, sorted}
+use Rattle.sas_task.specs.InOrder.{in_order, sorted}
 use Rattle.sas_restriction.specs.Choice.{variable_at}
 use Rattle.sas_restriction.specs.Relevant.{AreRelevant}
 use Rattle.sas_restriction.specs.Reordered.{renumbered_pairs, renumbered_group, renumbered_operator, renumbered_rule}

@@ -11,7 +11,7 @@ use Rattle.sas_task.specs.declared.parts.Rule.{Rule}
 use Rattle.sas_task.specs.Task.{Task}
 use Rattle.sas_task.specs.Effects.{changes}
 use Rattle.sas_task.specs.Orders.{pair_cmp, group_cmp, effect_cmp, operator_cmp, rule_cmp}
-use Rattle.sas_orders.specs.InOrder.{in_order, sorted}
+use Rattle.sas_task.specs.InOrder.{in_order, sorted}
 use Rattle.sas_restriction.specs.Choice.{variable_at}
 
 -- how many of the operators change the variable; an operator with several effects on it counts once

@@ -7,7 +7,7 @@ use Rattle.sas_task.specs.declared.parts.Operator.{Operator}
 use Rattle.sas_task.specs.declared.parts.Rule.{Rule}
 use Rattle.sas_task.specs.Task.{Task}
 use Rattle.sas_task.specs.Orders.{group_cmp, effect_cmp, operator_cmp, rule_cmp}
-use Rattle.sas_orders.specs.InOrder.{arranged}
+use Rattle.sas_task.specs.InOrder.{arranged}
 use Rattle.sas_restriction.specs.declared.chosen.Once.{Once}
 use Rattle.sas_restriction.specs.Choice.{Choice, new_val, new_pairs, new_variable, new_group, effect_stays, new_effect, operator_stays, rule_stays, new_rule, holder_variable}
 

@@ -4,15 +4,14 @@ ghost use Rattle.std.specs.Prelude.{◌≡◌, ◌++◌, ◌<◌, ◌&&◌, Bool
 ghost use Rattle.std.specs.Option.{option_map_or};
 ghost use Rattle.sas_task.specs.declared.parts.Operator.{Operator as AnOperator};
 ghost use Rattle.sas_task.specs.Orders.{operator_cmp};
-ghost use Rattle.sas_orders.specs.InOrder.{arranged};
+ghost use Rattle.sas_task.specs.InOrder.{arranged};
 ghost use Rattle.sas_restriction.specs.Listed.{chosen, with_operators};
 ghost use Rattle.sas_restriction.specs.Choice as choice;
 ghost use Rattle.sas_restriction.specs.Restriction as restriction;
 
 use crate::chosen::{Chosen, Once};
 use lists::{List, Text};
-use sas_orders::arrange;
-use sas_task::{Effect, Operator, Pair, Rule, SasTask, Variable};
+use sas_task::{Effect, Operator, Pair, Rule, SasTask, Variable, arrange};
 use std::alloc::{AllocError, Global};
 
 /// A copy of the fact of this value.
@@ -98,7 +97,7 @@ fn add_holder(
 }
 
 /// The variables that are shown, and the holder's.
-pub fn all_variables(
+pub(crate) fn all_variables(
     alloc: Global,
     shown: &Chosen,
     task: &SasTask,
@@ -112,7 +111,7 @@ pub fn all_variables(
 }
 
 /// What is left of the goal, or that the holder has its first value.
-pub fn goal(alloc: Global, shown: &Chosen, task: &SasTask) -> Result<List<Pair>, AllocError>
+pub(crate) fn goal(alloc: Global, shown: &Chosen, task: &SasTask) -> Result<List<Pair>, AllocError>
     ensures { IfOk result (λ goal. goal ≡ option_map_or (λ start. record { var = length shown.now.vars; val = 0 } ∷ []) shown.now.holder (choice.new_pairs (chosen shown.now) task.now.goal)) }
 {
     match shown.holder() {
@@ -232,7 +231,7 @@ fn operators_left(
 }
 
 /// What is left of the operators that stay, in order. The marks tell which operators are left.
-pub fn whole_operators(
+pub(crate) fn whole_operators(
     alloc: Global,
     once: Once,
     shown: &Chosen,
@@ -273,7 +272,11 @@ fn add_rule(
 }
 
 /// What is left of the rules that stay.
-pub fn rules_left(alloc: Global, shown: &Chosen, task: &SasTask) -> Result<Vec<Rule>, AllocError>
+pub(crate) fn rules_left(
+    alloc: Global,
+    shown: &Chosen,
+    task: &SasTask,
+) -> Result<Vec<Rule>, AllocError>
     ensures { IfOk result (λ rules. rules.items ≡ restriction.new_rules (chosen shown.now) task.now) }
 {
     let mut rules = Vec::new(alloc);

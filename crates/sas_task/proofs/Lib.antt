@@ -1,3 +1,4 @@
+-- laws, which other crates may cite
 pub mod Checks
 pub mod ValidParts
 pub mod RisingPairs
@@ -6,6 +7,10 @@ pub mod Successors
 pub mod States
 pub mod KeepsLaws
 pub mod Alike
-mod Tells
 pub mod TextsTellTasks
-pub mod Orders
+pub mod InOrder
+pub mod Sorted
+-- lemmas of this crate
+mod Tells
+mod Compared
+mod Rising

@@ -1,7 +1,6 @@
 //! Copies, the order of variables, and books of passes, whose passes are applied in turn.
 
 use crate::tasks::{GATE, HALL, LAMP, Making, ROOM, SWITCH, assert_made, has_text, task, task_of};
-use order_variables::order_variables;
 use pass_book::PassKind::{self, H2, Order, Relevance};
 use pass_book::{AddEnd, ApplyEnd, Book, Pass};
 use pass_h2::prune;
@@ -9,6 +8,7 @@ use pass_relevance::relevant;
 use sas_task::SasTask;
 use std::alloc::{AllocError, Global};
 use std::test::*;
+use task_simplifier::order_variables;
 
 /// The room with its variables ordered by how many operators change them.
 const REORDERED: &str = task! {

@@ -1,8 +1,7 @@
 //! Tables of plan files: what each comes to beside a small task.
 
 use crate::tasks::{ROOM, SWITCH, task_of};
-use plan_backmap::{MapEnd, map_plan};
-use plan_lines::{Mapped, Step, plan_text};
+use plan_backmap::{MapEnd, Mapped, Step, map_plan, plan_text};
 use sas_task::SasTask;
 use std::alloc::{AllocError, Global};
 use std::test::*;

@@ -1,6 +1,5 @@
 //! Tasks that are written out by hand: a lamp, a room, a gate, a hall, and others whose texts are those of small PDDL tasks.
 
-use order_variables::order_variables;
 use pass_h2::prune;
 use pass_relevance::relevant;
 use sas_reader::{ReadTaskEnd, read_task};
@@ -8,6 +7,7 @@ use sas_task::SasTask;
 use sas_writer::text_of;
 use std::alloc::{AllocError, Global};
 use std::process::Abort;
+use task_simplifier::order_variables;
 
 /// The text of a task. A row has the lines between the words that begin and end a variable, a mutex group, an operator or
 /// a rule, and the number before the rows is how many there are.

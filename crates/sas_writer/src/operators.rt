@@ -7,12 +7,12 @@ ghost use Rattle.std.specs.Option.{option_map};
 ghost use Rattle.sas_task.specs.Effects.{changes};
 ghost use Rattle.sas_task.specs.Output.{bytes_of, counted, effect_line, operator_lines, prevail, required_value};
 
-use sas_task::{Effect, Operator, Pair, SasTask};
-use std::alloc::{AllocError, Global};
-use written_sections::lines::{
+use crate::lines::{
     push_line, push_next_number, push_next_number_or_none, push_next_pairs, push_number,
     push_number_line, push_pairs,
 };
+use sas_task::{Effect, Operator, Pair, SasTask};
+use std::alloc::{AllocError, Global};
 
 /// What is found of an operator before its lines are written. The lists are filled again for each operator, so that none takes
 /// memory of its own.

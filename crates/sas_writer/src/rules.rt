@@ -3,11 +3,9 @@
 ghost use Rattle.std.specs.Prelude.{◌≡◌, ◌++◌, [], ◌∷◌, OnOk};
 ghost use Rattle.sas_task.specs.Output.{bytes_of, counted, rule_line, rule_lines};
 
+use crate::lines::{push_line, push_next_number, push_number, push_number_line, push_pairs};
 use sas_task::{Rule, SasTask};
 use std::alloc::AllocError;
-use written_sections::lines::{
-    push_line, push_next_number, push_number, push_number_line, push_pairs,
-};
 
 /// The line of what a rule changes.
 fn push_rule_line(out: &mut Vec<u8>, rule: &Rule) -> Result<(), AllocError>

@@ -5,11 +5,11 @@ ghost use Rattle.sas_task.specs.Output as output;
 
 use crate::operators::push_operators;
 use crate::rules::push_rules;
-use sas_task::SasTask;
-use std::alloc::{AllocError, Global};
-use written_sections::sections::{
+use crate::sections::{
     push_goal, push_groups, push_metric, push_state, push_variables, push_version,
 };
+use sas_task::SasTask;
+use std::alloc::{AllocError, Global};
 
 /// The bytes of the output file for this task: the lines of its eight sections, each ended by a line feed.
 pub fn text_of(alloc: Global, task: &SasTask) -> Result<Vec<u8>, AllocError>

@@ -1,3 +1,5 @@
+mod CountedOrder
+mod Reorders
 mod KeptMoves
 mod Projected
 mod OneProjection

@@ -2,8 +2,7 @@
 
 ghost use Rattle.std.specs.Prelude.{◌<◌};
 
-use greedy_cover::cover;
-use group_cover::Groups;
+use group_cover::{Groups, cover};
 use lists::List;
 use std::alloc::{AllocError, Global};
 use std::test::*;

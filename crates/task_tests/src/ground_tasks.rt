@@ -13,7 +13,7 @@ use ground_task::Ground;
 use normal_task::Normal;
 use reachable_instances::reachable;
 use reached_task::{Fact, Reached};
-use schema_instances::instances;
+use static_matcher::instances;
 use std::alloc::{AllocError, Global};
 use std::test::*;
 

@@ -9,7 +9,7 @@ use ground_task::Ground;
 use normal_task::Normal;
 use reached_task::{Reached, Steps};
 use relaxed_reach::reach;
-use schema_instances::instances;
+use static_matcher::instances;
 use std::alloc::{AllocError, Global};
 use std::marker::Brand;
 use std::sync::ledger::{Blank, Ledger};

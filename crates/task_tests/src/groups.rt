@@ -3,7 +3,7 @@
 use crate::grouped::{Grouped, grouped_of};
 use crate::tasks::{Asked, Row, assert_answers};
 use crate::texts::{BACK, BALLS, BELL, BLOCKS, BOTH, GRIPPER, ONE, RUNG, SWITCH, THREE, TWO};
-use greedy_cover::cover;
+use group_cover::cover;
 use lists::List;
 use normal_task::Normal;
 use reached_task::Fact;

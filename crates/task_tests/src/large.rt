@@ -12,7 +12,7 @@ use ground_task::{Ground, GroundAction};
 use normal_task::{Normal, ObjectRange};
 use reachable_instances::reachable;
 use reached_task::Reached;
-use schema_instances::instances;
+use static_matcher::instances;
 use std::alloc::{AllocError, Global};
 use std::test::*;
 

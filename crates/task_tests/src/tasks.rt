@@ -5,12 +5,11 @@ ghost use Rattle.pddl_syntax.specs.Spelled.{IsWellSpelled, IsWellSpelledProblem}
 ghost use Rattle.type_checker.specs.Checked.{IsChecked};
 ghost use Rattle.normal_task.specs.Lawful.{IsLawful};
 
-use domain_parser::parse_domain;
 use normal_task::Normal;
 use normaliser::normalise;
 use pddl_lexer::read_tree;
+use pddl_parser::{parse_domain, parse_problem};
 use pddl_syntax::{Domain, Problem};
-use problem_parser::parse_problem;
 use std::alloc::Global;
 use std::process::Abort;
 use std::test::*;

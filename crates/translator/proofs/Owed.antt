@@ -15,13 +15,13 @@ use Rattle.pddl_syntax.specs.Outcome.{Reads}
 use Rattle.pddl_syntax.specs.Spelled.{IsWellSpelled, IsWellSpelledProblem}
 use Rattle.pddl_syntax.specs.declared.types.Domain.{Domain}
 use Rattle.pddl_syntax.specs.declared.types.Problem.{Problem}
-use Rattle.domain_parser.specs.Reading.{domain_reading}
-use Rattle.problem_parser.specs.Reading.{problem_reading}
+use Rattle.pddl_parser.specs.DomainReading.{domain_reading}
+use Rattle.pddl_parser.specs.ProblemReading.{problem_reading}
 use Rattle.type_checker.specs.Checked.{FilePair, IsChecked}
 use Rattle.invariant_guess.specs.declared.types.Found.{Found}
 use Rattle.pass_book.specs.declared.kind.PassKind.{PassKind}
-use Rattle.sas_lines.specs.Forms.{Unread, unread}
-use Rattle.sas_lines.specs.declared.fault.SasFault.{SasFault}
+use Rattle.sas_reader.specs.Forms.{Unread, unread}
+use Rattle.sas_reader.specs.declared.fault.SasFault.{SasFault}
 use Rattle.sas_reader.specs.Text.{task, reading_of}
 use Rattle.sas_task.specs.Task.{Task}
 use Rattle.sas_task.specs.Valid.{IsValid}

@@ -13,8 +13,8 @@ use Rattle.pddl_syntax.specs.declared.types.Problem.{Problem}
 use Rattle.pddl_syntax.specs.declared.end.ParseEnd.{ParseEnd}
 use Rattle.pddl_syntax.specs.declared.end.ParseEnd.TheVariants as parse_ends
 use Rattle.pddl_syntax.specs.Outcome.{Reading, Reads, Faults, first}
-use Rattle.domain_parser.specs.Reading.{domain_reading}
-use Rattle.problem_parser.specs.Reading.{problem_reading}
+use Rattle.pddl_parser.specs.DomainReading.{domain_reading}
+use Rattle.pddl_parser.specs.ProblemReading.{problem_reading}
 use Rattle.pddl_syntax.specs.Spelled.{IsWellSpelled, IsWellSpelledProblem}
 use Rattle.type_checker.specs.Checked.{FilePair, IsChecked, ChecksTo}
 use Rattle.type_checker.specs.Faults.{SidedFault, check_faults}

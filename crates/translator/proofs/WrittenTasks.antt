@@ -4,11 +4,11 @@ use Rattle.std.specs.Prelude.{Contains, Some}
 use Rattle.tl_device.specs.Contents.{Contents}
 use Rattle.command_line.specs.Accepted.{WrittenTask}
 use Rattle.command_line.specs.declared.accepted.Settings.{Settings}
-use Rattle.sas_lines.specs.Answers.{IfFault}
-use Rattle.sas_lines.specs.Forms.{Reading, Unread, unread}
-use Rattle.sas_lines.specs.declared.fault.ReadTaskEnd.{ReadTaskEnd}
-use Rattle.sas_lines.specs.declared.fault.ReadTaskEnd.TheVariants as read_ends
-use Rattle.sas_lines.specs.declared.fault.SasFault.{SasFault}
+use Rattle.sas_reader.specs.Answers.{IfFault}
+use Rattle.sas_reader.specs.Forms.{Reading, Unread, unread}
+use Rattle.sas_reader.specs.declared.fault.ReadTaskEnd.{ReadTaskEnd}
+use Rattle.sas_reader.specs.declared.fault.ReadTaskEnd.TheVariants as read_ends
+use Rattle.sas_reader.specs.declared.fault.SasFault.{SasFault}
 use Rattle.sas_reader.specs.Text.{task, read_of, fault_of, reading_of, line_fault}
 use Rattle.invariant_guess.specs.declared.types.Found.{Found}
 use Rattle.sas_task.specs.Task.{Task}

@@ -3,9 +3,9 @@ use Rattle.std.specs.Prelude.{ℕ, List, [], ◌∷◌}
 use Rattle.std.specs.declared.option.Option.{Option}
 use Rattle.std.specs.declared.option.Option.TheVariants.{Some, None}
 use Rattle.tl_device.specs.Contents.{Contents}
-use Rattle.plan_lines.specs.Lines.{plan_lines}
+use Rattle.plan_backmap.specs.Lines.{plan_lines}
 use Rattle.plan_backmap.specs.Plans.{PlanFault, BadLine, UnknownStep, faults, mapped}
-use Rattle.plan_lines.specs.PlanText.{plan_text}
+use Rattle.plan_backmap.specs.PlanText.{plan_text}
 use Rattle.sas_task.specs.Task.{Task}
 use Rattle.messages.specs.declared.outcome.Message.TheVariants as messages
 use Rattle.translator.specs.Ending.{Ending, Gives, Refused, ◌>>=◌}

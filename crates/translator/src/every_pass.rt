@@ -8,13 +8,13 @@ ghost use Rattle.translator.specs.Call.{Called};
 
 use crate::command::{translate, without_words};
 use messages::Status;
-use order_variables::order_variables;
 use pass_book::{Book, Pass, PassKind};
 use pass_h2::prune;
 use pass_relevance::relevant;
 use sas_task::SasTask;
 use std::alloc::{AllocError, Global};
 use std::io::ErrorKind;
+use task_simplifier::order_variables;
 use tl_device::{Console, Files};
 
 /// Translates by the words of a command line, as `translate` does, with a book that has a pass of each kind: that of the

@@ -3,9 +3,8 @@
 ghost use Rattle.translator.specs.OneRun.{OneEnding};
 ghost use Rattle.translator.specs.Theorem.{OutputsTranslate};
 
-use domain_parser::laws::domains_are_spelled;
 use pass_book::laws::passes_keep;
-use problem_parser::laws::problems_are_spelled;
+use pddl_parser::laws::{domains_are_spelled, problems_are_spelled};
 use run_task::laws::{one_task_of_a_run, passed_tasks_stand, tasks_translate};
 use sas_reader::texts;
 

@@ -1,8 +1,8 @@
 //! From two texts to the task.
 
 ghost use Rattle.std.specs.Prelude.{[], IfOk, IfErr};
-ghost use Rattle.domain_parser.specs.Reading.{domain_reading};
-ghost use Rattle.problem_parser.specs.Reading.{problem_reading};
+ghost use Rattle.pddl_parser.specs.DomainReading.{domain_reading};
+ghost use Rattle.pddl_parser.specs.ProblemReading.{problem_reading};
 ghost use Rattle.pddl_syntax.specs.Spelled.{IsWellSpelled, IsWellSpelledProblem};
 ghost use Rattle.type_checker.specs.Checked.{IsChecked};
 ghost use Rattle.type_checker.specs.Faults.{check_faults};
@@ -10,11 +10,10 @@ ghost use Rattle.translator.specs.Run as run;
 ghost use Rattle.translator.specs.Stages.{Answers, IsMadeOf, StopsWhere, text_by};
 
 use command_line::Settings;
-use domain_parser::parse_domain;
 use messages::{End, Message};
 use pddl_lexer::{Tree, TreeEnd, read_tree};
+use pddl_parser::{parse_domain, parse_problem};
 use pddl_syntax::{Domain, ParseEnd, Problem};
-use problem_parser::parse_problem;
 use run_task::{Made, task_of_pair};
 use std::alloc::Global;
 use type_checker::{CheckEnd, Checked, Side, check};

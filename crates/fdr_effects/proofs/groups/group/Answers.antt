@@ -1,7 +1,7 @@
 -- The first places, in order and without repeats.
 use Rattle.std.proofs.Common.{ap, ◌∙◌}
 use Rattle.sas_task.specs.Orders.{pair_cmp}
-use Rattle.sas_orders.specs.InOrder.{sorted}
+use Rattle.sas_task.specs.InOrder.{sorted}
 use Rattle.fdr_effects.proofs.Grouped.{grouped}
 use Rattle.fdr_effects.proofs.groups.group.Goals as goal
 

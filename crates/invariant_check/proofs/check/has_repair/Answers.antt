@@ -4,7 +4,7 @@ use Rattle.std.specs.List.{list_any}
 use Rattle.std.proofs.lemmas.Bool.{ne_eqb}
 use Rattle.lists.proofs.Items.{any_map}
 use Rattle.normal_task.proofs.Anys.{any-same}
-use Rattle.candidate_parts.specs.Extensions.{with_part}
+use Rattle.invariant_check.specs.Extensions.{with_part}
 use Rattle.contradictions.proofs.Cases.{answers_too}
 use Rattle.contradictions.specs.declared.types.Part.{Part}
 use Rattle.invariant_check.specs.Repairs.{balances_add, repairs_at}

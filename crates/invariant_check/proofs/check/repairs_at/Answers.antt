@@ -1,6 +1,6 @@
 use Rattle.std.proofs.Common.{List, map, filter, ap, ◌∙◌, take_all}
 use Rattle.lists.proofs.Items.{same_filter}
-use Rattle.candidate_parts.specs.Extensions.{with_part}
+use Rattle.invariant_check.specs.Extensions.{with_part}
 use Rattle.contradictions.specs.declared.types.Part.{Part}
 use Rattle.invariant_check.specs.Repairs.{balances_add}
 use Rattle.invariant_check.proofs.BesideParts.{kept_made}

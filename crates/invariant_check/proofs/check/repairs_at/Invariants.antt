@@ -1,5 +1,5 @@
 use Rattle.std.proofs.Common.{◌≡◌, filter, map, take}
-use Rattle.candidate_parts.specs.Extensions.{with_part}
+use Rattle.invariant_check.specs.Extensions.{with_part}
 use Rattle.contradictions.specs.declared.types.Part.{Part}
 use Rattle.invariant_check.specs.Repairs.{balances_add}
 use Rattle.invariant_check.proofs.check.repairs_at.Given as goal

@@ -1,6 +1,6 @@
 use Rattle.std.proofs.Common.{◌≡◌, drop}
 use Rattle.std.specs.List.{list_any}
-use Rattle.candidate_parts.specs.Extensions.{with_part}
+use Rattle.invariant_check.specs.Extensions.{with_part}
 use Rattle.contradictions.specs.declared.types.Part.{Part}
 use Rattle.invariant_check.specs.Repairs.{balances_add}
 use Rattle.invariant_check.proofs.check.some_repairs.Given as goal

@@ -1,5 +1,5 @@
 use Rattle.std.proofs.Common.{◌≡◌, map, take}
-use Rattle.candidate_parts.specs.Extensions.{renamed}
+use Rattle.invariant_check.specs.Extensions.{renamed}
 use Rattle.invariant_check.proofs.extensions.all_renamed.Given as goal
 
 abbrev pub invariant-loop-part : goal.invariant-loop-part

@@ -1,7 +1,7 @@
 use Rattle.std.proofs.Common.{ℕ, ◌++◌, map, get_or, ap, ◌∙◌, sym}
 use Rattle.std.proofs.lemmas.List.{get_or_default}
 use Rattle.lists.proofs.LoopSteps.{flat_map_next}
-use Rattle.candidate_parts.specs.Extensions.{arity_of, countings, with_one}
+use Rattle.invariant_check.specs.Extensions.{arity_of, countings, with_one}
 use Rattle.invariant_check.proofs.extensions.one_predicate.Goals as goal
 
 pub loop-predicate-preserved : goal.loop-predicate-preserved

@@ -1,6 +1,6 @@
 use Rattle.std.proofs.Common.{◌≡◌, map, take}
 use Rattle.std.specs.List.{flat_map}
-use Rattle.candidate_parts.specs.Extensions.{arity_of, countings, with_one}
+use Rattle.invariant_check.specs.Extensions.{arity_of, countings, with_one}
 use Rattle.invariant_check.proofs.extensions.one_predicate.Given as goal
 
 abbrev pub invariant-loop-predicate : goal.invariant-loop-predicate

@@ -1,6 +1,6 @@
 use Rattle.std.proofs.Common.{◌≡◌, take}
 use Rattle.std.specs.List.{flat_map}
-use Rattle.candidate_parts.specs.Extensions.{parts_of}
+use Rattle.invariant_check.specs.Extensions.{parts_of}
 use Rattle.invariant_check.proofs.extensions.parts_of.Given as goal
 
 abbrev pub invariant-loop-predicate : goal.invariant-loop-predicate

@@ -3,7 +3,7 @@ use Rattle.std.proofs.Common.{◌≡◌, ℕ, ◌-◌, List, [], ◌++◌, map, 
 use Rattle.std.specs.Vec.{vec_len}
 use Rattle.itertools.specs.Odometer.{numbers, ways}
 use Rattle.itertools.specs.Pool.{unranked, permutation_left, ClonesAt}
-use Rattle.candidate_parts.specs.Extensions.{part_at}
+use Rattle.invariant_check.specs.Extensions.{part_at}
 use Rattle.invariant_check.proofs.Orders.{read, AllInside, all_inside, clones-are, left_at_start, all_parts, one_more}
 use Rattle.invariant_check.proofs.extensions.push_orders.Goals as goal
 

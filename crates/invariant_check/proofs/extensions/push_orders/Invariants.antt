@@ -1,6 +1,6 @@
 use Rattle.std.proofs.Common.{◌≡◌, ◌++◌, map, length}
 use Rattle.itertools.specs.Pool.{permutation_left}
-use Rattle.candidate_parts.specs.Extensions.{part_at}
+use Rattle.invariant_check.specs.Extensions.{part_at}
 use Rattle.invariant_check.proofs.Orders.{read, AllInside}
 use Rattle.invariant_check.proofs.extensions.push_orders.Given as goal
 

@@ -1,5 +1,5 @@
-use Rattle.candidate_parts.specs.Extensions.{parts_counting}
-use Rattle.candidate_parts.proofs.Countings.{all_more_counted}
+use Rattle.invariant_check.specs.Extensions.{parts_counting}
+use Rattle.invariant_check.proofs.Countings.{all_more_counted}
 use Rattle.invariant_check.proofs.extensions.push_parts.Goals as goal
 
 pub loop-position-preserved : goal.loop-position-preserved

@@ -1,7 +1,7 @@
 use Rattle.std.proofs.Common.{◌≡◌, ◌++◌, map}
 use Rattle.std.specs.List.{flat_map, range_with_len}
 use Rattle.std.specs.Prelude.{◌∷◌, Some, None}
-use Rattle.candidate_parts.specs.Extensions.{parts_counting}
+use Rattle.invariant_check.specs.Extensions.{parts_counting}
 use Rattle.invariant_check.proofs.extensions.push_parts.Given as goal
 
 abbrev pub invariant-loop-position : goal.invariant-loop-position

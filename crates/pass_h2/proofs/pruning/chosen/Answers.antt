@@ -2,7 +2,7 @@
 use Rattle.std.proofs.Common.{ap, ◌∙◌}
 use Rattle.std.specs.List.{range_with_len}
 use Rattle.std.proofs.lemmas.Result.{IfOk-weaker}
-use Rattle.fact_pairs.specs.Finds.{found}
+use Rattle.pass_h2.specs.Finds.{found}
 use Rattle.pass_h2.proofs.Left.{choice_is, inside, rising}
 use Rattle.pass_h2.proofs.pruning.chosen.Goals as goal
 

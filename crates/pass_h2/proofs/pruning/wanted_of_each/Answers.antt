@@ -1,8 +1,8 @@
 use Rattle.std.proofs.Common.{filter}
 use Rattle.sas_restriction.specs.Everything.{all_values}
 use Rattle.pass_possible.specs.Pruned.{is_wanted}
-use Rattle.fact_pairs.specs.Finds.{found}
-use Rattle.fact_pairs.proofs.Ranges.{one_more}
+use Rattle.pass_h2.specs.Finds.{found}
+use Rattle.pass_h2.proofs.Ranges.{one_more}
 use Rattle.pass_h2.proofs.pruning.wanted_of_each.Goals as goal
 
 pub loop-var-preserved : goal.loop-var-preserved

@@ -6,7 +6,7 @@ use Rattle.sas_restriction.specs.Restriction.{restriction}
 use Rattle.pass_possible.specs.Possible.{is_possible}
 use Rattle.pass_possible.specs.Pruned.{groups_once}
 use Rattle.pass_possible.proofs.Alone.{choice}
-use Rattle.fact_pairs.specs.Finds.{found}
+use Rattle.pass_h2.specs.Finds.{found}
 use Rattle.pass_h2.proofs.pruning.with_marked_alone.Goals as goal
 
 pub restrict-requires : goal.restrict-requires

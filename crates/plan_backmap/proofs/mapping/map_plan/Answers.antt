@@ -1,7 +1,7 @@
 use Rattle.std.proofs.Common.{◌≡◌, [], subst}
 use Rattle.std.specs.Prelude.{IfErr, OnOk}
 use Rattle.sas_task.specs.Task.{Task}
-use Rattle.plan_lines.specs.Lines.{plan_lines}
+use Rattle.plan_backmap.specs.Lines.{plan_lines}
 use Rattle.plan_backmap.specs.Plans.{faults, IsFirst, IfFault}
 use Rattle.plan_backmap.proofs.Ends.{is_mapped, is_fault}
 use Rattle.plan_backmap.proofs.mapping.map_plan.Goals as goal

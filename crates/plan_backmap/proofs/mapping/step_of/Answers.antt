@@ -2,7 +2,7 @@ use Rattle.std.proofs.Common.{◌≡◌, ℕ, Bool, true, false, not, List, [], 
 use Rattle.std.specs.Prelude.{is_some}
 use Rattle.std.proofs.lemmas.Bool.{eqb-true}
 use Rattle.sas_task.specs.declared.parts.Operator.{Operator}
-use Rattle.plan_lines.specs.Lines.{is_comment, is_step, words, name}
+use Rattle.plan_backmap.specs.Lines.{is_comment, is_step, words, name}
 use Rattle.plan_backmap.specs.Plans.{PlanFault, BadLine, UnknownStep, cost_of, step_of, fault_of, end_of, IfFault}
 use Rattle.plan_backmap.proofs.Ends.{one_fault}
 use Rattle.plan_backmap.proofs.mapping.step_of.Goals as goal

@@ -1,6 +1,6 @@
 use Rattle.std.proofs.Common.{ap, ◌∙◌, ◌+◌}
-use Rattle.plan_lines.specs.Lines.{trimmed}
-use Rattle.plan_lines.proofs.Cuts.{smaller}
+use Rattle.plan_backmap.specs.Lines.{trimmed}
+use Rattle.plan_backmap.proofs.Cuts.{smaller}
 use Rattle.plan_backmap.proofs.PassedLines.{written_fault, written_line}
 use Rattle.plan_backmap.proofs.writing.push_lines.Goals as goal
 

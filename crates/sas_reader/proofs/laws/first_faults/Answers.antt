@@ -1,6 +1,6 @@
 use Rattle.std.proofs.Common.{◌++◌}
 use Rattle.sas_reader.proofs.Answered.{lawful_text}
-use Rattle.sas_reader.proofs.FirstLines.{fault_within, same_fault, no_task, fault_at_end}
+use Rattle.sas_reader.proofs.FirstLinesOfTexts.{fault_within, same_fault, no_task, fault_at_end}
 use Rattle.sas_reader.proofs.laws.first_faults.Goals as goal
 
 pub returns-clause-lawful : goal.returns-clause-lawful

@@ -1,6 +1,6 @@
 use Rattle.std.proofs.Common.{[], length, sym, ap, ◌∙◌}
-use Rattle.sas_lines.specs.Contexts.{so_far}
-use Rattle.sas_sections.proofs.Sectioned.{state_read}
+use Rattle.sas_reader.specs.Contexts.{so_far}
+use Rattle.sas_reader.proofs.Sectioned.{state_read}
 use Rattle.sas_reader.proofs.WholeText.{task_read, parts_read}
 use Rattle.sas_reader.proofs.task.whole.Goals as goal
 

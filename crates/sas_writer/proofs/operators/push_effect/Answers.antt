@@ -1,7 +1,7 @@
 use Rattle.std.proofs.Common.{◌++◌, ◌∷◌, length, ap, ◌∙◌}
 use Rattle.std.specs.List.{flat_map}
 use Rattle.sas_task.specs.Output.{number_or_none, pair_words, value_in, required_value, numeral}
-use Rattle.written_sections.proofs.Pieces.{effect_pieces, after_spaces}
+use Rattle.sas_writer.proofs.Pieces.{effect_pieces, after_spaces}
 use Rattle.sas_writer.proofs.operators.push_effect.Goals as goal
 
 pub returns : goal.returns

@@ -1,7 +1,7 @@
 use Rattle.std.proofs.Common.{[], ◌∷◌, ◌++◌, ap, ◌∙◌}
 use Rattle.sas_task.specs.declared.parts.Effect.{Effect}
 use Rattle.sas_task.specs.Output.{bytes_of, counted, effect_line}
-use Rattle.written_sections.proofs.Pieces.{next_lines, item_at, all_counted}
+use Rattle.sas_writer.proofs.Pieces.{next_lines, item_at, all_counted}
 use Rattle.sas_writer.proofs.operators.push_effects.Goals as goal
 
 pub loop-effect-preserved : goal.loop-effect-preserved

@@ -2,7 +2,7 @@ use Rattle.std.proofs.Common.{[], ◌∷◌, ◌++◌, ap, ◌∙◌}
 use Rattle.std.specs.Prelude.{codes}
 use Rattle.std.proofs.lemmas.Result.{on_ok_weaker}
 use Rattle.sas_task.specs.Output.{bytes_of, counted, effect_line, pair_lines, prevail, numeral}
-use Rattle.written_sections.proofs.Pieces.{then_lines}
+use Rattle.sas_writer.proofs.Pieces.{then_lines}
 use Rattle.sas_writer.proofs.operators.push_operator.Goals as goal
 
 pub returns : goal.returns

@@ -1,6 +1,6 @@
 use Rattle.std.proofs.Common.{◌≡◌, [], ◌∷◌, ◌++◌, length, ap, ◌∙◌, arith}
 use Rattle.sas_task.specs.Output.{bytes_of, numeral, operator_lines}
-use Rattle.written_sections.proofs.Pieces.{next_lines, all_counted}
+use Rattle.sas_writer.proofs.Pieces.{next_lines, all_counted}
 use Rattle.sas_writer.proofs.operators.push_operators.Goals as goal
 
 pub loop-i-preserved : goal.loop-i-preserved

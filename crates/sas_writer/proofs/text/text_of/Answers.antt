@@ -1,7 +1,7 @@
 use Rattle.std.proofs.Common.{◌++◌, ap, ◌∙◌}
 use Rattle.std.specs.List.{enumerate_from}
 use Rattle.sas_task.specs.Output.{bytes_of, counted, version_lines, metric_lines, variable_lines, group_lines, state_lines, goal_lines, operator_lines, rule_lines}
-use Rattle.written_sections.proofs.Pieces.{then_lines}
+use Rattle.sas_writer.proofs.Pieces.{then_lines}
 use Rattle.sas_writer.proofs.text.text_of.Goals as goal
 
 pub returns : goal.returns

@@ -1,6 +1,6 @@
 use Rattle.std.proofs.Common.{◌≡◌, map, subst, ◌∙◌, arith}
 use Rattle.type_checker.specs.Checked.{FilePair}
-use Rattle.declarations.specs.Below.{objects_of_type}
+use Rattle.numbering.specs.Below.{objects_of_type}
 use Rattle.numbering.proofs.KnownTypes.{known_at}
 use Rattle.numbering.proofs.numbering.Numbering.known_range.Goals as goal
 

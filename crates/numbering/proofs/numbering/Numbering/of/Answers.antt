@@ -1,6 +1,6 @@
 use Rattle.std.proofs.Common.{ap, ◌∙◌}
 use Rattle.pddl_syntax.specs.declared.types.Domain.{Domain}
-use Rattle.declarations.proofs.NewNames.{predicates_new, functions_new}
+use Rattle.numbering.proofs.NewNames.{predicates_new, functions_new}
 use Rattle.numbering.proofs.numbering.Numbering.of.Goals as goal
 
 pub names_of-requires : goal.names_of-requires

@@ -1,7 +1,7 @@
 use Rattle.std.proofs.Common.{◌≡◌, [], ◌∷◌, ◌++◌, map, sym, ap, ◌∙◌}
 use Rattle.std.specs.List.{list_any}
 use Rattle.pddl_syntax.specs.Words.{is_same}
-use Rattle.declarations.specs.Below.{objects_of_type}
+use Rattle.numbering.specs.Below.{objects_of_type}
 use Rattle.numbering.proofs.KnownTypes.{none_asked, one_asked, one_more_range, is_added, is_kept}
 use Rattle.numbering.proofs.numbering.ObjectTables.know_type.Goals as goal
 

@@ -1,6 +1,6 @@
 use Rattle.std.proofs.Common.{◌≡◌, ◌++◌, map, take}
 use Rattle.std.specs.List.{filter}
-use Rattle.declarations.specs.Below.{has_type_among}
+use Rattle.numbering.specs.Below.{has_type_among}
 use Rattle.normal_task.specs.Numbers as spec
 use Rattle.numbering.proofs.numbering.ObjectTables.push_numbers.Given as goal
 

@@ -1,2 +1,0 @@
--- laws, which other crates may cite
-pub mod Countings

@@ -1,5 +1,0 @@
-use Rattle.declarations.proofs.FoundTypes.{grows_not}
-use Rattle.declarations.proofs.below.Hierarchy.open_next.Goals as goal
-
-pub returns-in-None : goal.returns-in-None
-returns-in-None c = grows_not c.args.self.now.entries.now c.args.found.now

@@ -1,5 +1,0 @@
-use Rattle.declarations.specs.Below.{Grows}
-use Rattle.declarations.proofs.below.Hierarchy.search.Given as goal
-
-abbrev pub invariant-loop : goal.invariant-loop
-invariant-loop l = Grows l.self.entries.now l.initial.found l.found

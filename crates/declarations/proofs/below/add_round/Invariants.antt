@@ -1,5 +1,0 @@
-use Rattle.declarations.proofs.FoundTypes.{Round}
-use Rattle.declarations.proofs.below.add_round.Given as goal
-
-abbrev pub invariant-loop-entry : goal.invariant-loop-entry
-invariant-loop-entry l = Round l.entries l.initial.found l.found l.has_grown l.entry-index

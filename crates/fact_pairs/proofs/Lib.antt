@@ -1,4 +1,0 @@
-mod OneBit
-mod Bits
-pub mod MarkLists
-pub mod Ranges

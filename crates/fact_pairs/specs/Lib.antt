@@ -1,4 +1,0 @@
-pub mod Bits
-pub mod Facts
-pub mod Finds
-pub mod MarkLists

@@ -1,6 +1,0 @@
-use Rattle.std.proofs.Common.{◌≡◌, take}
-use Rattle.order_variables.specs.Tallies.{AreTallies}
-use Rattle.order_variables.proofs.tallies.tallies.Given as goal
-
-abbrev pub invariant-loop-operator : goal.invariant-loop-operator
-invariant-loop-operator l = (l.turn ≡ l.operator-index) × AreTallies l.task l.turn (take l.operator-index l.task.operators) l.tallies.items

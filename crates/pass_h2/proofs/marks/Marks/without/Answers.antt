@@ -1,0 +1,17 @@
+use Rattle.std.proofs.Common.{◌≡◌, ◌&&◌, not, bit_and, ◌∙◌}
+use Rattle.std.specs.Prelude.{bit_xor}
+use Rattle.pass_h2.specs.Bits.{without_words}
+use Rattle.pass_h2.proofs.OneBit.{bit_without}
+use Rattle.pass_h2.proofs.Bits.{enough, both}
+use Rattle.pass_h2.proofs.marks.Marks.without.Goals as goal
+
+pub of_words-requires : goal.of_words-requires
+of_words-requires c =
+    let made : c.in_ok-words.words.items ≡ without_words c.self.inside.words.items c.other.inside.words.items = c.in_ok-words.ensures ∙ (λ i. without_words (c.as_slice.ensures.value i) (c.as_slice-2.ensures.value i)) in
+    enough (λ a b. bit_xor a (bit_and a b)) (λ a b. a && not b) bit_without c.self.inside.words.items c.other.inside.words.items c.in_ok-words.words.items c.self.inside.count c.other.inside.count c.min.result made c.min.ensures c.self.invariant
+
+pub returns : goal.returns
+returns c =
+    let made : c.in_ok-words.words.items ≡ without_words c.self.inside.words.items c.other.inside.words.items = c.in_ok-words.ensures ∙ (λ i. without_words (c.as_slice.ensures.value i) (c.as_slice-2.ensures.value i)) in
+    c.of_words.ensures
+    ∙ both (λ a b. bit_xor a (bit_and a b)) (λ a b. a && not b) bit_without c.self.inside.words.items c.other.inside.words.items c.in_ok-words.words.items c.self.inside.count c.other.inside.count c.min.result c.args.self.now c.args.other.now made c.min.ensures c.self.invariant c.self.view_is c.other.view_is

@@ -1,0 +1,4 @@
+mod Keys
+mod WellSpelledDomains
+mod Missing
+mod WellSpelledProblems

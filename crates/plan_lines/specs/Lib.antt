@@ -1,3 +1,0 @@
-pub mod Lines
-pub mod FirstLine
-pub mod PlanText

@@ -1,3 +1,0 @@
-pub mod Cuts
-mod Digits
-pub mod FirstLines

@@ -1,0 +1,78 @@
+//! Why a text is no task.
+
+ghost use Rattle.std.specs.Prelude.{◌≡◌};
+ghost use Rattle.sas_reader.specs.Places.{text};
+ghost use Rattle.sas_reader.specs.declared.fault.ReadTaskEnd.TheVariants as ends;
+
+use std::alloc::{AllocError, AllocFailed};
+
+/// A section of the text. What stands after the last one is at its end.
+#[derive(Clone, Copy)]
+pub enum SasPlace {
+    Version,
+    Metric,
+    Variables,
+    Groups,
+    State,
+    Goal,
+    Operators,
+    Rules,
+    End,
+}
+
+impl SasPlace {
+    /// What is printed where a line of this section breaks its rule. It takes no memory.
+    pub fn text(self) -> &'static str
+        ensures { result.now ≡ text self }
+    {
+        match self {
+            SasPlace::Version => "malformed version",
+            SasPlace::Metric => "malformed metric",
+            SasPlace::Variables => "malformed variable",
+            SasPlace::Groups => "malformed mutex group",
+            SasPlace::State => "malformed state",
+            SasPlace::Goal => "malformed goal",
+            SasPlace::Operators => "malformed operator",
+            SasPlace::Rules => "malformed rule",
+            SasPlace::End => "text after the end",
+        }
+    }
+}
+
+/// The first line that breaks its rule, counted from 1, and its section.
+#[derive(Clone, Copy)]
+pub struct SasFault {
+    pub line: u64,
+    pub place: SasPlace,
+}
+
+/// Why no task was read.
+#[derive(Clone, Copy)]
+pub enum ReadTaskEnd {
+    Fault(SasFault),
+    NoMemory,
+}
+
+impl From<SasFault> for ReadTaskEnd {
+    ghost from_gives = { λ fault end. end ≡ ends.Fault fault };
+
+    fn from(fault: SasFault) -> ReadTaskEnd {
+        ReadTaskEnd::Fault(fault)
+    }
+}
+
+impl From<AllocError> for ReadTaskEnd {
+    ghost from_gives = { λ _ end. end ≡ ends.NoMemory };
+
+    fn from(_: AllocError) -> ReadTaskEnd {
+        ReadTaskEnd::NoMemory
+    }
+}
+
+impl<T: Drop> From<AllocFailed<T>> for ReadTaskEnd {
+    ghost from_gives = { λ _ end. end ≡ ends.NoMemory };
+
+    fn from(_: AllocFailed<T>) -> ReadTaskEnd {
+        ReadTaskEnd::NoMemory
+    }
+}

@@ -1,2 +1,0 @@
-mod TableKeys
-mod Indexed

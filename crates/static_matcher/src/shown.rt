@@ -1,0 +1,14 @@
+// The objects that are shown of an instance.
+ghost use Rattle.std.specs.Prelude.{◌≡◌, take};
+
+/// The first objects of the list, at most so many.
+pub(crate) fn shown_objects(objects: &[u64], shown: u64) -> &[u64]
+    ensures { result.now ≡ take shown objects.now }
+{
+    let shown = shown as usize;
+    if shown < objects.len() {
+        &objects[..shown]
+    } else {
+        objects
+    }
+}
