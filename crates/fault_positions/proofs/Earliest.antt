@@ -1,5 +1,5 @@
 -- The first position of lists that are joined.
-use Rattle.std.proofs.Common.{◌≡◌, ℕ, ◌+◌, ◌<◌, List, [], ◌∷◌, ◌++◌, map, take, length, get_or, Option, Some, None, refl, sym, ap, ◌∙◌}
+use Rattle.std.proofs.Common.{◌≡◌, ℕ, ◌+◌, ◌<◌, List, [], ◌∷◌, ◌++◌, take, length, get_or, Option, Some, None, refl, sym, ap, ◌∙◌}
 use Rattle.std.specs.Prelude.{fold}
 use Rattle.std.specs.List.{flat_map}
 use Rattle.std.proofs.lemmas.List.{take_more}
@@ -32,16 +32,6 @@ earliest_append [] others = refl
 earliest_append (at ∷ positions) others =
     earliest_first at (positions ++ others) ∙ ap (earlier (Some at)) (earliest_append positions others) ∙ sym (earlier_chain (Some at) (earliest positions) (earliest others))
     ∙ ap (λ first. earlier first (earliest others)) (sym (earliest_first at positions))
-
--- the earliest, where each item's position in turn is taken if it is earlier
-module _ {X : Type 0} (position_of : X → At) where
-  earliest_from : (at : At) (items : List X) → fold (λ (first : Option At) (item : X). earlier first (Some (position_of item))) (Some at) items ≡ earliest (at ∷ map position_of items)
-  earliest_from at [] = refl
-  earliest_from at (item ∷ items) = earliest_from (earlier_of at (position_of item)) items
-
-  pub earliest_in_turn : (items : List X) → fold (λ (first : Option At) (item : X). earlier first (Some (position_of item))) None items ≡ earliest (map position_of items)
-  earliest_in_turn [] = refl
-  earliest_in_turn (item ∷ items) = earliest_from (position_of item) items
 
 -- the first position of what one item more gives
 module _ {X : Type 0} (positions_of : X → List At) where

@@ -1,5 +1,6 @@
 -- The first position of what the mentions of a file give.
-use Rattle.std.proofs.Common.{◌≡◌, Bool, List, [], ◌∷◌, ◌++◌, map, sym, ap, ◌∙◌}
+use Rattle.std.proofs.Common.{◌≡◌, Bool, true, false, cond, refl, List, [], ◌∷◌, ◌++◌, map, sym, ap, ◌∙◌}
+use Rattle.std.specs.Bool.{then_some}
 use Rattle.std.specs.List.{flat_map, filter}
 use Rattle.std.proofs.lemmas.List.Folds.{flat_map-map}
 use Rattle.std.proofs.lemmas.List.{map-append}
@@ -7,7 +8,7 @@ use Rattle.std.proofs.lemmas.List.Elements.{filter-append}
 use Rattle.pddl_lexer.specs.declared.position.At.{At}
 use Rattle.pddl_syntax.specs.declared.types.Named.{Named}
 use Rattle.fault_positions.specs.declared.mentions.Mention as code
-use Rattle.fault_positions.specs.Positions.{positions_where}
+use Rattle.fault_positions.specs.Positions.{earliest, positions_where}
 use Rattle.fault_positions.specs.Mentions.{Mention, Use}
 use Rattle.fault_positions.specs.Seen.{seen, all_seen}
 
@@ -17,8 +18,22 @@ Joins {A} positions_of = (items others : List A) → positions_of (items ++ othe
 
 -- the positions of those that pass a test
 module _ {A : Type 0} (test : A → Bool) (position : A → At) where
-  pub filtered_join : Joins (λ items. map position (filter test items))
+  abbrev pub where_passes : List A → List At
+  where_passes items = map position (filter test items)
+
+  pub first_where : (item : A) → then_some (test item) (position item) ≡ earliest (where_passes (item ∷ []))
+  first_where item = by (test item)
+    where
+      by : (b : Bool) → then_some b (position item) ≡ earliest (map position (cond b (item ∷ []) []))
+      by true = refl
+      by false = refl
+
+  pub filtered_join : Joins where_passes
   filtered_join items others = ap (map position) (filter-append test items others) ∙ map-append position (filter test items) (filter test others)
+
+  pub where_each : (items : List A) → flat_map (λ item. where_passes (item ∷ [])) items ≡ where_passes items
+  where_each [] = refl
+  where_each (item ∷ items) = ap (λ positions. where_passes (item ∷ []) ++ positions) (where_each items) ∙ sym (filtered_join (item ∷ []) items)
 
 pub positions_where_join : (test : Named → Bool) → Joins (positions_where test)
 positions_where_join test = filtered_join test (λ name. name.at)

@@ -6,7 +6,7 @@ ghost use Rattle.names.specs.Links.{link};
 ghost use Rattle.fault_positions.specs.Positions.{earliest};
 ghost use Rattle.fault_positions.specs.Links as spec;
 
-use crate::positions::earlier;
+use crate::positions::first_of;
 use names::{Links, Names};
 use pddl_lexer::At;
 use pddl_syntax::{Domain, Named, Typed};
@@ -28,10 +28,11 @@ pub fn first_type_on_cycle(alloc: Global, domain: &Domain) -> Result<Option<At>,
 fn first_declared(names: &Names<'_>, types: &[Typed]) -> Option<At>
     ensures { result ≡ earliest (map (λ entry. entry.name.at) (filter (λ entry. list_any (is_same entry.name.name) names.now) types.now)) }
 {
-    types
-        .iter()
-        .filter(|entry| names.has(entry.name.name.as_slice()))
-        .fold(None, |first, entry| earlier(first, Some(entry.name.at)))
+    first_of(types, |entry| {
+        names
+            .has(entry.name.name.as_slice())
+            .then_some(entry.name.at)
+    })
 }
 
 /// The links from types to their supertypes.

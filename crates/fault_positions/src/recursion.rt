@@ -9,7 +9,7 @@ ghost use Rattle.fault_positions.specs.Mentions.{asked_predicates};
 ghost use Rattle.fault_positions.specs.Seen.{all_seen};
 
 use crate::mentions::{Mention, mentions_in_condition};
-use crate::positions::earlier;
+use crate::positions::first_of;
 use names::{Links, Names};
 use pddl_lexer::At;
 use pddl_syntax::{Derived, Domain};
@@ -31,10 +31,9 @@ pub fn first_recursive_axiom(alloc: Global, domain: &Domain) -> Result<Option<At
 fn first_derived(names: &Names<'_>, axioms: &[Derived]) -> Option<At>
     ensures { result ≡ earliest (map (λ rule. rule.at) (filter (λ rule. list_any (is_same rule.head.name.name) names.now) axioms.now)) }
 {
-    axioms
-        .iter()
-        .filter(|rule| names.has(rule.head.name.name.as_slice()))
-        .fold(None, |first, rule| earlier(first, Some(rule.at)))
+    first_of(axioms, |rule| {
+        names.has(rule.head.name.name.as_slice()).then_some(rule.at)
+    })
 }
 
 /// The links from the predicates of axioms to those that they depend on.

@@ -8,7 +8,7 @@ ghost use Rattle.fault_positions.specs.Sizes as spec;
 use crate::files::Files;
 use crate::positions::{FirstPositions, earlier, first_of};
 use pddl_lexer::At;
-use pddl_syntax::{Action, Condition, Derived, Domain, Effect, Problem};
+use pddl_syntax::{Action, Condition, Domain, Effect};
 
 /// The most parts that a condition may have.
 const MOST_PARTS: u64 = 4096;
@@ -92,7 +92,7 @@ pub fn first_too_large(files: &Files<'_>) -> FirstPositions
 {
     (
         first_too_large_in_domain(files.domain),
-        first_too_large_in_problem(files.problem),
+        first_in_condition(&files.problem.goal),
     )
 }
 
@@ -101,22 +101,12 @@ fn first_too_large_in_domain(domain: &Domain) -> Option<At>
     ensures { result ≡ earliest (spec.too_large (spec.domain_cuts domain.now)) }
 {
     earlier(
-        first_in_actions(domain.actions.as_slice()),
-        first_in_axioms(domain.axioms.as_slice()),
+        first_of(domain.actions.as_slice(), first_in_action),
+        first_of(
+            domain.axioms.as_slice(),
+            |axiom| first_in_condition(&axiom.body),
+        ),
     )
-}
-
-/// The first position of a condition with too many parts.
-fn first_too_large_in_problem(problem: &Problem) -> Option<At>
-    ensures { result ≡ earliest (spec.too_large (spec.problem_cuts problem.now)) }
-{
-    first_in_condition(&problem.goal)
-}
-
-fn first_in_actions(actions: &[Action]) -> Option<At>
-    ensures { result ≡ earliest (spec.too_large (flat_map spec.action_cuts actions.now)) }
-{
-    first_of(actions, first_in_action)
 }
 
 fn first_in_action(action: &Action) -> Option<At>
@@ -126,12 +116,6 @@ fn first_in_action(action: &Action) -> Option<At>
         first_in_condition(&action.precondition),
         first_in_effect(&action.effect, 1),
     )
-}
-
-fn first_in_axioms(axioms: &[Derived]) -> Option<At>
-    ensures { result ≡ earliest (spec.too_large (flat_map spec.axiom_cuts axioms.now)) }
-{
-    first_of(axioms, |axiom| first_in_condition(&axiom.body))
 }
 
 fn first_in_condition(condition: &Condition) -> Option<At>

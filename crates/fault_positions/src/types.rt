@@ -98,8 +98,7 @@ fn first_in_list(known: &Names<'_>, list: &[Typed]) -> Option<At>
 fn first_unknown(known: &Names<'_>, types: &[Named]) -> Option<At>
     ensures { result ≡ earliest (positions_where (λ type. not (list_any (is_same type.name) known.now)) types.now) }
 {
-    types
-        .iter()
-        .filter(|type_name| !known.has(type_name.name.as_slice()))
-        .fold(None, |first, type_name| earlier(first, Some(type_name.at)))
+    first_of(types, |type_name| {
+        (!known.has(type_name.name.as_slice())).then_some(type_name.at)
+    })
 }

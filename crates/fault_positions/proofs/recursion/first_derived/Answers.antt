@@ -1,18 +1,14 @@
-use Rattle.std.proofs.Common.{rules, tests, ◌∙◌, Option, Some, None}
-use Rattle.std.specs.List.{filter, list_any}
-use Rattle.std.proofs.lemmas.Iterator.{YieldsList-from_slice}
-use Rattle.std.proofs.lemmas.Iterator.Consumers.{YieldsList-at, YieldsList-from_filter, fold_from_yields_List}
-use Rattle.pddl_lexer.specs.declared.position.At.{At}
+use Rattle.std.proofs.Common.{rules, [], ◌∷◌, ap, ◌∙◌}
+use Rattle.std.specs.List.{list_any}
 use Rattle.pddl_syntax.specs.declared.types.Derived.{Derived}
 use Rattle.pddl_syntax.specs.Words.{is_same}
-use Rattle.fault_positions.specs.Positions.{earlier}
-use Rattle.fault_positions.proofs.Earliest.{earliest_in_turn}
+use Rattle.fault_positions.specs.Positions.{earliest}
+use Rattle.fault_positions.proofs.MentionPositions.{first_where, where_each, where_passes}
 use Rattle.fault_positions.proofs.recursion.first_derived.Goals as goal
 
 pub returns : goal.returns
 returns c =
     let test = λ (rule : Derived). list_any (is_same rule.head.name.name) c.args.names.now in
-    fold_from_yields_List _ (λ (first : Option At) (rule : Derived). earlier first (Some rule.at)) None c.fold.result c.fold.ensures.ran
-    (YieldsList-from_filter _ test (YieldsList-at c.filter.ensures.source (YieldsList-from_slice c.args.axioms.now c.iter.ensures.rest)) c.filter.ensures.closure (λ x r q k. search (rules, tests)))
-    (λ a x b q k. search rules)
-    ∙ earliest_in_turn (λ (rule : Derived). rule.at) (filter test c.args.axioms.now)
+    let at_of = λ (rule : Derived). rule.at in
+    c.first_of.ensures (λ (rule : Derived). where_passes test at_of (rule ∷ [])) (λ rule at called. let one = first_where test at_of rule in search (rules, one))
+    ∙ ap earliest (where_each test at_of c.args.axioms.now)
