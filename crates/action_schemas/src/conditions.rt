@@ -216,11 +216,19 @@ fn cut_quantified<'n, 'a>(
     ensures { IfOk result (IsMadeOf (wanted_of wanted (quantified here.now.numbering.now.domain here.now.numbering.now.problem variables.now (spec.known here.now.numbering.now.domain here.now.numbering.now.problem inside.now) asked.some asked.positive here.now.scope.now here.now.around next))) }
 {
     if asked.some {
-        cut_some(alloc, here, variables, inside, asked.positive, wanted, next)
-    } else {
-        let made = cut_none(alloc, here, variables, inside, asked.positive, next)?;
-        Ok(if_wanted(alloc, wanted, made))
+        return cut_some(alloc, here, variables, inside, asked.positive, wanted, next);
     }
+    let arguments = free_slots(alloc, here.numbering, variables, inside, here.scope)?;
+    let made = cut_denied(
+        alloc,
+        here.numbering,
+        &arguments,
+        variables,
+        inside,
+        asked.positive,
+        next,
+    )?;
+    Ok(if_wanted(alloc, wanted, made))
 }
 
 /// Some objects of the variables make the inside true, or its negation where it isn't `positive`.
@@ -247,30 +255,6 @@ fn cut_some<'n, 'a>(
     behind(alloc, here.numbering, variables, made)
 }
 
-/// No objects of the variables make the inside true, or its negation where it isn't `positive`.
-#[cycle(cut_wanted)]
-fn cut_none<'n, 'a>(
-    alloc: Global,
-    here: &Here<'_, 'n, 'a>,
-    variables: &'a [Typed],
-    inside: &'a Condition,
-    positive: bool,
-    next: u64,
-) -> Result<Made<Part>, AllocError>
-    ensures { IfOk result (IsMadeOf (spec.none_inside here.now.numbering.now.domain here.now.numbering.now.problem variables.now (spec.known here.now.numbering.now.domain here.now.numbering.now.problem inside.now) positive here.now.scope.now here.now.around next)) }
-{
-    let arguments = arguments_for(alloc, here, variables, inside)?;
-    cut_denied(
-        alloc,
-        here.numbering,
-        &arguments,
-        variables,
-        inside,
-        positive,
-        next,
-    )
-}
-
 /// The parts of a denied condition, for which a new predicate with these arguments stands.
 #[cycle(cut_wanted)]
 fn cut_denied<'n, 'a>(
@@ -294,18 +278,6 @@ fn cut_denied<'n, 'a>(
     let wanted = are_made(inside, positive, true, false);
     let body = cut_some(alloc, &there, variables, inside, positive, wanted, after)?;
     denied(alloc, numbering, arguments, next, body)
-}
-
-/// The arguments of the new predicate of a quantified condition.
-fn arguments_for<'n, 'a>(
-    alloc: Global,
-    here: &Here<'_, 'n, 'a>,
-    variables: &'a [Typed],
-    inside: &'a Condition,
-) -> Result<Vec<Variable<'n, 'a>>, AllocError>
-    ensures { IfOk result (λ slots. slots.items ≡ spec.free_slots here.now.numbering.now.domain here.now.numbering.now.problem variables.now (spec.known here.now.numbering.now.domain here.now.numbering.now.problem inside.now) here.now.scope.now) }
-{
-    free_slots(alloc, here.numbering, variables, inside, here.scope)
 }
 
 /// The negation of a new derived predicate with these arguments, whose axioms have these parts.
