@@ -85,9 +85,7 @@ impl Ranked for Pair {
     ghost total = { pair_total };
 
     fn order(&self, back: &Pair) -> Ordering {
-        self.var
-            .cmp(&back.var)
-            .then_with(|| self.val.cmp(&back.val))
+        self.var.cmp(&back.var).then(self.val.cmp(&back.val))
     }
 }
 
@@ -101,31 +99,18 @@ impl Ranked for Group {
     }
 }
 
-/// The order of effects on one variable.
-fn conditions_then_value(front: &Effect, back: &Effect) -> Ordering
-    ensures { result ≡ ordering_then (slice_cmp pair_cmp front.now.conditions back.now.conditions) (nat_cmp front.now.after back.now.after) }
-{
-    let conditions = list_order(front.conditions.as_slice(), back.conditions.as_slice());
-    conditions.then_with(|| front.after.cmp(&back.after))
-}
-
 impl Ranked for Effect {
     ghost cmp = { effect_cmp };
 
     ghost total = { effect_total };
 
     fn order(&self, back: &Effect) -> Ordering {
-        self.var
-            .cmp(&back.var)
-            .then_with(|| conditions_then_value(self, back))
+        self.var.cmp(&back.var).then_with(|| {
+            list_order(self.conditions.as_slice(), back.conditions.as_slice()).then(
+                self.after.cmp(&back.after),
+            )
+        })
     }
-}
-
-fn effects_then_cost(front: &Operator, back: &Operator) -> Ordering
-    ensures { result ≡ ordering_then (slice_cmp effect_cmp front.now.effects back.now.effects) (nat_cmp front.now.cost back.now.cost) }
-{
-    let effects = list_order(front.effects.as_slice(), back.effects.as_slice());
-    effects.then_with(|| front.cost.cmp(&back.cost))
 }
 
 /// The order of operators of one name.
@@ -134,7 +119,11 @@ fn beside_names(front: &Operator, back: &Operator) -> Ordering
         (ordering_then (slice_cmp effect_cmp front.now.effects back.now.effects) (nat_cmp front.now.cost back.now.cost)) }
 {
     let conditions = list_order(front.conditions.as_slice(), back.conditions.as_slice());
-    conditions.then_with(|| effects_then_cost(front, back))
+    conditions.then_with(|| {
+        list_order(front.effects.as_slice(), back.effects.as_slice()).then(
+            front.cost.cmp(&back.cost),
+        )
+    })
 }
 
 impl Ranked for Operator {
