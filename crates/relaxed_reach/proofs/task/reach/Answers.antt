@@ -1,33 +1,37 @@
-use Rattle.std.proofs.Common.{◌≡◌, ◌+◌, map, refl, sym, ap, ◌∙◌}
-use Rattle.std.proofs.lemmas.Result.{IfOk-weaker}
-use Rattle.normal_task.specs.declared.task.GroundAtom.{GroundAtom}
-use Rattle.reached_task.specs.declared.types.Fact.{Fact}
-use Rattle.reached_task.specs.ReachedTask.{atoms_of}
-use Rattle.reached_task.specs.Lawful.{IsLawful}
-use Rattle.reached_task.specs.Reachable.{IsReachedBy, fact_of}
-use Rattle.reached_task.specs.Steps.{step_count}
-use Rattle.reached_task.proofs.LawfulReached.{lawful_reached}
+use Rattle.std.proofs.Common.{◌≡◌, map, sym, ap, ◌∙◌}
+use Rattle.std.specs.Prelude.{IfOk}
+use Rattle.ground_task.specs.GroundTask.{action_row as ground_action}
+use Rattle.ground_task.specs.Settled.{kept_actions}
+use Rattle.reached_task.specs.Reachable.{numbering, IsReachedBy}
+use Rattle.relaxed_reach.proofs.Left.{is_reached, is_lawful, is_counted}
 use Rattle.relaxed_reach.proofs.task.reach.Goals as goal
-use Rattle.lists.proofs.Items.{map_back}
+
+pub returns-clause-reached : goal.returns-clause-reached
+returns-clause-reached g c =
+    let task = c.args.task.now in
+    let atoms = c.in_ok-atoms.atoms in
+    let is : IfOk c.over.result (IsReachedBy task atoms) = c.over.ensures task.actions (c.in_ok-actions.ensures ∙ ap (λ rows. kept_actions (numbering atoms) (map ground_action rows)) c.as_slice.ensures) in
+    is_reached task atoms c.over.result is c.in_ok-atoms.ensures.reachable
 
 pub returns-clause-lawful : goal.returns-clause-lawful
 returns-clause-lawful g c =
-    IfOk-weaker c.over.result (IsReachedBy c.args.task.now c.in_ok-atoms.atoms) IsLawful
-    (λ reached is. lawful_reached c.args.task.now c.requires.lawful reached (record { atoms = c.in_ok-atoms.atoms; reachable = c.in_ok-atoms.ensures.reachable; is = is }))
-    c.over.ensures
+    let task = c.args.task.now in
+    let atoms = c.in_ok-atoms.atoms in
+    let is : IfOk c.over.result (IsReachedBy task atoms) = c.over.ensures task.actions (c.in_ok-actions.ensures ∙ ap (λ rows. kept_actions (numbering atoms) (map ground_action rows)) c.as_slice.ensures) in
+    is_lawful task atoms c.over.result is c.in_ok-atoms.ensures.reachable c.requires.lawful
 
 pub returns-clause-counted : goal.returns-clause-counted
 returns-clause-counted g c =
     let task = c.args.task.now in
     let atoms = c.in_ok-atoms.atoms in
-    let start = c.args.steps.now in
-    IfOk-weaker c.over.result (IsReachedBy task atoms) (λ reached. c.reachable_in_order.new.steps ≡ start + step_count task (atoms_of reached))
-    (λ reached is. c.in_ok-atoms.ensures.counted
-    ∙ ap (λ l. start + step_count task l) (sym (ap (map (λ (fact : Fact). fact.atom)) is.facts ∙ map_back (fact_of task) (λ (fact : Fact). fact.atom) (λ (atom : GroundAtom). refl) atoms)))
-    c.over.ensures
+    let is : IfOk c.over.result (IsReachedBy task atoms) = c.over.ensures task.actions (c.in_ok-actions.ensures ∙ ap (λ rows. kept_actions (numbering atoms) (map ground_action rows)) c.as_slice.ensures) in
+    is_counted task atoms c.over.result is c.args.steps.now c.reachable_in_order.new.steps c.in_ok-atoms.ensures.counted
 
 pub returns-clause-most : goal.returns-clause-most
 returns-clause-most g c facts reachable = c.in_ok-atoms.ensures.most facts reachable.least.closed
 
 pub returns-in_err-atoms-clause-most : goal.returns-in_err-atoms-clause-most
 returns-in_err-atoms-clause-most g c facts reachable = c.in_err-atoms.ensures.most facts reachable.least.closed
+
+pub returns-in_err-actions-clause-most : goal.returns-in_err-actions-clause-most
+returns-in_err-actions-clause-most g c facts reachable = c.in_ok-atoms.ensures.most facts reachable.least.closed
