@@ -26,7 +26,7 @@ use normaliser::normalise;
 use reachable_instances::laws::same_reached;
 use reachable_instances::reachable;
 use reached_task::{Reached, Steps};
-use relaxed_reach::reach;
+use relaxed_reach::into_reached;
 use sas_task::SasTask;
 use std::alloc::{AllocError, Global};
 use std::marker::Brand;
@@ -121,18 +121,18 @@ fn reached_of(alloc: Global, normal: &Normal) -> Result<Reached, AllocError>
 {
     same_reached();
     let ground = reachable(alloc, normal)?;
-    reached::<Brand>(alloc, &ground, Blank::new(1))
+    reached::<Brand>(alloc, ground, Blank::new(1))
 }
 
 /// What can be reached of a ground task. Its steps are counted in the blank's ledger, which nothing asks for.
-fn reached<L: Ledger>(alloc: Global, ground: &Ground, blank: Blank) -> Result<Reached, AllocError>
+fn reached<L: Ledger>(alloc: Global, ground: Ground, blank: Blank) -> Result<Reached, AllocError>
     requires name { blank.name ≡ L.name }
     requires parts { blank.parts ≡ L.parts }
     requires some { 0 < L.parts }
-    requires lawful { IsLawfulGround ground.now }
-    ensures reached { IfOk result (IsReachedTask ground.now) }
+    requires lawful { IsLawfulGround ground }
+    ensures reached { IfOk result (IsReachedTask ground) }
     ensures lawful { IfOk result IsLawful }
 {
     let mut steps = Steps::<L>::new(blank);
-    reach(alloc, ground, &mut steps)
+    into_reached(alloc, ground, &mut steps)
 }
