@@ -1,7 +1,6 @@
 pub mod ReachedTask
 pub mod Reachable
 pub mod Rules
-pub mod Gates
 pub mod Steps
 pub mod AtomKeys
 pub mod Layers
