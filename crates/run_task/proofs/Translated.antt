@@ -20,7 +20,7 @@ use Rattle.contradictions.specs.declared.types.Candidate.{Candidate}
 use Rattle.invariant_check.specs.WellFormed.{is_well_formed}
 use Rattle.invariant_guess.specs.declared.types.Found.{Found}
 use Rattle.ground_task.specs.declared.types.Ground.{Ground}
-use Rattle.reachable_instances.specs.Parts.{LeavesOut, HoldsReachable}
+use Rattle.reachable_instances.specs.Effects.{LeavesOutEffects, HoldsReachableEffects}
 use Rattle.ground_task.specs.Literals.{meaning}
 use Rattle.reached_task.specs.declared.types.Reached.{Reached}
 use Rattle.reached_task.specs.ReachedTask.{is_derived, reached_task}
@@ -120,8 +120,8 @@ passed_translates passes domain problem first task translates chain kept valid t
 -- ---- what the calls give, put together
 
 -- what is reached of the instances that can be is reached of the task
-pub reached_of_reachable : {E : Type 0} (made : Normal) (part : Ground) (result : Result Reached E) → HoldsReachable made part
-    → ((whole part : Ground) → LeavesOut whole part → (reached : Reached) → IsReachedTask part reached → IsReachedTask whole reached)
+pub reached_of_reachable : {E : Type 0} (made : Normal) (part : Ground) (result : Result Reached E) → HoldsReachableEffects made part
+    → ((whole part : Ground) → LeavesOutEffects whole part → (reached : Reached) → IsReachedTask part reached → IsReachedTask whole reached)
     → IfOk result (IsReachedTask part) → IfOk result (IsReachedOf made)
 reached_of_reachable made part (Ok reached) holds same is_reached = record { ground_of = holds.whole; is_ground = holds.is; is_reached = same holds.whole part holds.leaves reached is_reached }
 reached_of_reachable made part (Err end) holds same is_reached = tt

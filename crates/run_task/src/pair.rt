@@ -23,8 +23,8 @@ use mutex_groups::groups;
 use mutex_groups::laws::groups_of_facts;
 use normal_task::Normal;
 use normaliser::normalise;
-use reachable_instances::laws::same_reached;
-use reachable_instances::reachable;
+use reachable_instances::laws::same_reached_effects;
+use reachable_instances::reachable_effects;
 use reached_task::{Reached, Steps};
 use relaxed_reach::into_reached;
 use sas_task::SasTask;
@@ -119,8 +119,8 @@ fn reached_of(alloc: Global, normal: &Normal) -> Result<Reached, AllocError>
     ensures reached { IfOk result (IsReachedOf normal.now) }
     ensures lawful { IfOk result IsLawful }
 {
-    same_reached();
-    let ground = reachable(alloc, normal)?;
+    same_reached_effects();
+    let ground = reachable_effects(alloc, normal)?;
     reached::<Brand>(alloc, ground, Blank::new(1))
 }
 

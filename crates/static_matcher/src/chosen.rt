@@ -103,7 +103,7 @@ pub(crate) fn all_candidates<'a>(
     ensures each { IfOk result (λ candidates. Each (IsCandidate tables.now) candidates.items) }
 {
     let mut candidates = Vec::new(alloc);
-    for schema in tables.task().schemas.as_slice() {
+    for schema in tables.schemas() {
         let mut more = candidates_of(alloc, tables, room, schema)?;
         candidates.append(&mut more)?;
     }

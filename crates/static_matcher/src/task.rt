@@ -4,7 +4,7 @@ ghost use Rattle.normal_task.specs.Lawful.{IsLawful as IsLawfulNormal};
 ghost use Rattle.ground_task.specs.Instances.{instance_task, static_settling, IsGroundTask};
 ghost use Rattle.ground_task.specs.Lawful.{IsLawful};
 ghost use Rattle.ground_task.specs.Settled.{kept_goal};
-ghost use Rattle.static_matcher.specs.Candidates.{without_schemas};
+ghost use Rattle.static_matcher.specs.Schemas.{without_schemas};
 
 use crate::grounding::{actions, axioms};
 use crate::literals::{all_can_hold, condition};
@@ -71,7 +71,7 @@ fn init(alloc: Global, tables: &Tables<'_>) -> Result<List<GroundAtom>, AllocErr
     ensures { IfOk result (λ init. init ≡ filter (static_settling tables.now).keeps tables.now.init) }
 {
     let mut init = Vec::new(alloc);
-    for atom in tables.task().init.as_slice() {
+    for atom in tables.init() {
         if !tables.is_fixed(atom.predicate) {
             init.push(copy(alloc, atom)?)?;
         }
@@ -84,7 +84,7 @@ fn goal(alloc: Global, tables: &Tables<'_>) -> Result<GoalRow<GroundAtom>, Alloc
     ensures { IfOk result (λ goal. goal ≡ kept_goal (static_settling tables.now) (instance_task tables.now).goal) }
 {
     let mut key = Vec::new(alloc);
-    let literals = tables.task().goal.as_slice();
+    let literals = tables.goal();
     let can = all_can_hold(tables, &mut key, &[], literals)?;
     if !can {
         return Ok(GoalRow::Never);
@@ -98,15 +98,14 @@ pub fn without_actions(alloc: Global, tables: &Tables<'_>) -> Result<Ground, All
     requires lawful { IsLawfulNormal tables.now }
     ensures { IfOk result (IsGroundTask (without_schemas tables.now)) }
 {
-    let task = tables.task();
     Ok(Ground {
-        normal_predicates: predicates(alloc, task.predicates.as_slice())?,
-        objects: objects(alloc, task.objects.as_slice())?,
+        normal_predicates: predicates(alloc, tables.predicates())?,
+        objects: objects(alloc, tables.objects())?,
         init: init(alloc, tables)?,
         actions: List::from_vec(Vec::new(alloc)),
         axioms: axioms(alloc, tables)?,
         goal: goal(alloc, tables)?,
-        metric: task.metric,
+        metric: tables.has_metric(),
     })
 }
 

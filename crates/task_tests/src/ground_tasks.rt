@@ -7,11 +7,11 @@ ghost use Rattle.reached_task.specs.Lawful.{IsLawful};
 use crate::grounds::reached_of;
 use crate::lines::{Names, are_in_order, are_shown, is_shown};
 use crate::tasks::{Asked, Row, assert_answers};
-use crate::texts::{CHAIN, CIRCLE, ENDS, HALF, LAYERS, LOW, ROADS, START};
+use crate::texts::{CHAIN, CIRCLE, ENDS, FORK, HALF, LAYERS, LOW, ROADS, SPREAD, START};
 use axiom_layers::layers;
 use ground_task::Ground;
 use normal_task::Normal;
-use reachable_instances::reachable;
+use reachable_instances::{reachable, reachable_effects};
 use reached_task::{Fact, Reached};
 use static_matcher::instances;
 use std::alloc::{AllocError, Global};
@@ -26,11 +26,12 @@ struct Task {
     goal: &'static str,
 }
 
-/// The ground task of a pair of texts, the actions that are made where those that can't be reached aren't, the reached task,
-/// and the reachable facts, each derived one with its layer.
+/// The ground task of a pair of texts, the actions that are made where those that can't be reached aren't, what is left of these
+/// without effects that can't be reached, the reached task, and the reachable facts, each derived one with its layer.
 struct Grounded {
     ground: Task,
     made: &'static [(&'static str, usize)],
+    left: &'static [(&'static str, usize)],
     reached: Task,
     facts: &'static [(&'static str, Option<u64>)],
 }
@@ -115,13 +116,14 @@ impl Asked for Grounded {
     fn is_answered(&self, alloc: Global, normal: &Normal) -> bool {
         is_grounded(alloc, instances(alloc, normal), self, self.ground.actions)
             && is_grounded(alloc, reachable(alloc, normal), self, self.made)
+            && is_grounded(alloc, reachable_effects(alloc, normal), self, self.left)
     }
 }
 
 static ROWS: &[Row<Grounded>] = &[
     // Neither q nor r can be reached: r is added only where q is true, and q only where r is. So the axiom for d goes, with d,
     // and so do the effects on r, under q, and on q, which deletes a fact that is never true. `not (q)` and `not (d)` are true
-    // then, and the action that needs r goes. It is made, since the condition under which r is added isn't looked at.
+    // then, and the action that needs r goes. It is made where the condition under which r is added isn't looked at.
     (
         CIRCLE,
         HALF,
@@ -145,6 +147,7 @@ static ROWS: &[Row<Grounded>] = &[
                 ),
                 ("never | r() | +q()", 1),
             ],
+            left: &[("act | p() !d() | +s() !q() | -q() | -s() p() | -p()", 1)],
             reached: Task {
                 init: &["p()"],
                 actions: &[("act | p() | +s() | -s() p() | -p()", 1)],
@@ -168,6 +171,7 @@ static ROWS: &[Row<Grounded>] = &[
                 goal: "never",
             },
             made: &[("go a | at(a) | +at(b) | -at(a)", 2)],
+            left: &[("go a | at(a) | +at(b) | -at(a)", 2)],
             reached: Task {
                 init: &["at(a)"],
                 actions: &[("go a | at(a) | +at(b) | -at(a)", 2)],
@@ -196,6 +200,7 @@ static ROWS: &[Row<Grounded>] = &[
                 goal: " f() q()",
             },
             made: &[("act | p() | -p()", 1)],
+            left: &[("act | p() | -p()", 1)],
             reached: Task {
                 init: &["p()"],
                 actions: &[("act | p() | -p()", 1)],
@@ -238,6 +243,11 @@ static ROWS: &[Row<Grounded>] = &[
                 ("second | b() | +c()", 1),
                 ("first | a() | +b() | -a()", 1),
             ],
+            left: &[
+                ("last | b() c() | +e()", 1),
+                ("second | b() | +c()", 1),
+                ("first | a() | +b() | -a()", 1),
+            ],
             reached: Task {
                 init: &["a()"],
                 actions: &[
@@ -249,6 +259,34 @@ static ROWS: &[Row<Grounded>] = &[
                 goal: " e()",
             },
             facts: &[("a()", None), ("b()", None), ("c()", None), ("e()", None)],
+        },
+    ),
+    // One effect adds what the next one waits for. The last one waits for d, which stays dry.
+    (
+        SPREAD,
+        FORK,
+        Grounded {
+            ground: Task {
+                init: &["wet(a)"],
+                actions: &[(
+                    "flow | | +wet(b) wet(a) | +wet(c) wet(b) | +wet(e) wet(d)",
+                    1,
+                )],
+                axioms: &[],
+                goal: " wet(c)",
+            },
+            made: &[(
+                "flow | | +wet(b) wet(a) | +wet(c) wet(b) | +wet(e) wet(d)",
+                1,
+            )],
+            left: &[("flow | | +wet(b) wet(a) | +wet(c) wet(b)", 1)],
+            reached: Task {
+                init: &["wet(a)"],
+                actions: &[("flow | | +wet(b) wet(a) | +wet(c) wet(b)", 1)],
+                axioms: &[],
+                goal: " wet(c)",
+            },
+            facts: &[("wet(a)", None), ("wet(b)", None), ("wet(c)", None)],
         },
     ),
 ];

@@ -73,6 +73,15 @@ pub(crate) const CIRCLE: &str = "(define (domain circle) (:predicates (p) (q) (r
 pub(crate) const HALF: &str =
     "(define (problem half) (:domain circle) (:init (p)) (:goal (and (s) (not (r)))))";
 
+/// What is wet wets what its roads lead to, all by one action.
+pub(crate) const SPREAD: &str = "(define (domain spread) (:predicates (road ?x ?y) (wet ?x))
+ (:action flow :parameters () :precondition ()
+  :effect (forall (?x ?y) (when (and (road ?x ?y) (wet ?x)) (wet ?y)))))";
+
+/// Roads from a to b and from b to c, and one from d, which stays dry.
+pub(crate) const FORK: &str = "(define (problem fork) (:domain spread) (:objects a b c d e)
+ (:init (wet a) (road a b) (road b c) (road d e)) (:goal (wet c)))";
+
 /// From a place with a road one comes to all others that it leads to. A place is near where a road leads from it to one's own.
 pub(crate) const ROADS: &str = "(define (domain roads) (:predicates (road ?x ?y) (at ?x) (near ?x))
  (:action go :parameters (?x) :precondition (and (at ?x) (exists (?z) (road ?x ?z)))

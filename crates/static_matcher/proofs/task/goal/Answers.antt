@@ -13,12 +13,12 @@ use Rattle.static_matcher.proofs.task.goal.Goals as goal
 pub returns-then-not-can : goal.returns-then-not-can
 returns-then-not-can c =
     let task = c.args.tables.now in
-    let is = c.as_slice-literals.ensures ∙ ap (λ t. t.goal) c.task.ensures in
+    let is = c.goal-literals.ensures in
     goal_fails task [] task.goal (ap (list_all (literal_can_hold task [])) (sym is) ∙ sym c.in_ok-can.ensures ∙ c.if-not-can.true)
 
 pub returns : goal.returns
 returns c =
     let task = c.args.tables.now in
-    let is = c.as_slice-literals.ensures ∙ ap (λ t. t.goal) c.task.ensures in
+    let is = c.goal-literals.ensures in
     ap (λ (k : Cond GroundAtom). All k) (c.in_ok-condition.ensures ∙ ap (λ (l : List Literal). kept_condition (static_settling task) (condition_of [] l)) is)
     ∙ goal_holds task [] task.goal (ap (list_all (literal_can_hold task [])) (sym is) ∙ sym c.in_ok-can.ensures ∙ c.if-not-can.false)
