@@ -5,5 +5,6 @@ pub mod Covering
 pub mod SamePlaces
 pub mod Cases
 -- lemmas of this crate
+mod EachOnce
 mod MergeSteps
 mod Shared

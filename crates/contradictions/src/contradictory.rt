@@ -1,14 +1,15 @@
 // Contradictory lists of literals.
-ghost use Rattle.std.specs.Prelude.{◌≡◌, ◌++◌, ◌&&◌, ◌||◌, IfOk, OnOk, map, zip};
+ghost use Rattle.std.specs.Prelude.{◌≡◌, ◌++◌, ◌∷◌, [], ◌&&◌, ◌||◌, if◌then◌else◌, IfOk, OnOk, map, zip};
 ghost use Rattle.std.specs.List.{flat_map, list_any, list_all};
 ghost use Rattle.normal_task.specs.declared.task.Place.TheVariants.{Object};
+ghost use Rattle.lists.specs.SameMembers.{SameMembers};
 ghost use Rattle.contradictions.specs.Candidates.{at_positions};
 ghost use Rattle.contradictions.specs.Contradictory as spec;
 ghost use Rattle.contradictions.specs.Merges.{all_ranges, as_pair, pair_of, have_one_leader};
 
 use crate::common::some_has_no_object;
 use crate::ranges::Ranges;
-use crate::terms::{TermPair, copy, is_same, merged, term_at};
+use crate::terms::{TermPair, copy, is_same, is_same_place, merged, term_at};
 use crate::types::{Candidate, Part};
 use normal_task::{Literal, Place};
 use std::alloc::{AllocError, Global};
@@ -327,6 +328,33 @@ fn push_both(terms: &mut Vec<Place>, pair: &TermPair) -> Result<(), AllocError>
     Ok(())
 }
 
+fn is_listed(terms: &[Place], term: &Place) -> bool
+    ensures { result ≡ list_any (spec.is_same_place term.now) terms.now }
+{
+    terms.iter().any(|other| is_same_place(term, other))
+}
+
+/// Adds a copy of the term, unless it is there already.
+fn push_new(terms: &mut Vec<Place>, term: &Place) -> Result<(), AllocError>
+    ensures { OnOk result (terms.new.items ≡ (if list_any (spec.is_same_place term.now) terms.old.items then terms.old.items else terms.old.items ++ term.now ∷ [])) }
+{
+    if !is_listed(terms.as_slice(), term) {
+        terms.push(copy(term))?;
+    }
+    Ok(())
+}
+
+/// The terms, each once.
+fn each_once(alloc: Global, terms: &[Place]) -> Result<Vec<Place>, AllocError>
+    ensures { IfOk result (λ once. SameMembers once.items terms.now) }
+{
+    let mut once = Vec::new(alloc);
+    for term in terms {
+        push_new(&mut once, term)?;
+    }
+    Ok(once)
+}
+
 /// The pairs of the first terms, the second, and so on.
 pub fn zipped(alloc: Global, left: &[Place], right: &[Place]) -> Result<Vec<TermPair>, AllocError>
     ensures { IfOk result (λ pairs. pairs.items ≡ map pair_of (zip left.now right.now)) }
@@ -352,6 +380,22 @@ pub fn classes(
     merged(alloc, pairs.as_slice())
 }
 
+/// The merges tell a contradiction among the literals, in which these terms stand.
+fn contradicts_over(
+    alloc: Global,
+    merges: &[TermPair],
+    candidate: &Candidate,
+    case: &Case<'_>,
+    terms: &[Place],
+) -> Result<bool, AllocError>
+    ensures { IfOk result (λ answer. answer ≡ spec.has_contradiction (have_one_leader merges.now) candidate.now (all_ranges case.now.ranges) case.now.literals.now terms.now case.now.instance.now) }
+{
+    if are_contradictory(merges, candidate, case, terms) {
+        return Ok(true);
+    }
+    some_has_no_object(alloc, merges, &case.ranges, terms)
+}
+
 /// The merges tell a contradiction among the literals.
 pub fn contradicts(
     alloc: Global,
@@ -362,11 +406,9 @@ pub fn contradicts(
     ensures { IfOk result (λ answer. answer ≡ spec.has_contradiction (have_one_leader merges.now) candidate.now (all_ranges case.now.ranges) case.now.literals.now
         (spec.standing case.now.literals.now (map as_pair case.now.equated.now) case.now.instance.now) case.now.instance.now) }
 {
-    let terms = standing(alloc, case)?;
-    if are_contradictory(merges, candidate, case, terms.as_slice()) {
-        return Ok(true);
-    }
-    some_has_no_object(alloc, merges, &case.ranges, terms.as_slice())
+    let all = standing(alloc, case)?;
+    let terms = each_once(alloc, all.as_slice())?;
+    contradicts_over(alloc, merges, candidate, case, terms.as_slice())
 }
 
 /// The literals, with the pairs equated, are contradictory for the instance.

@@ -74,7 +74,7 @@ pub(crate) fn renamed_places(
 ) -> Result<List<Place>, AllocError>
     ensures { IfOk result (λ renamed. renamed ≡ spec.renamed_places renaming.now places.now) }
 {
-    let mut renamed = Vec::new(alloc);
+    let mut renamed = Vec::with_capacity(alloc, places.len())?;
     for place in places {
         renamed.push(renamed_place(renaming, place)?)?;
     }
