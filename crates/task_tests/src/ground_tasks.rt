@@ -123,7 +123,8 @@ impl Asked for Grounded {
 static ROWS: &[Row<Grounded>] = &[
     // Neither q nor r can be reached: r is added only where q is true, and q only where r is. So the axiom for d goes, with d,
     // and so do the effects on r, under q, and on q, which deletes a fact that is never true. `not (q)` and `not (d)` are true
-    // then, and the action that needs r goes. It is made where the condition under which r is added isn't looked at.
+    // then, and the action that needs r goes. It is made, since the condition under which r is added isn't looked at: it names no object
+    // of the effect's own.
     (
         CIRCLE,
         HALF,
@@ -147,7 +148,13 @@ static ROWS: &[Row<Grounded>] = &[
                 ),
                 ("never | r() | +q()", 1),
             ],
-            left: &[("act | p() !d() | +s() !q() | -q() | -s() p() | -p()", 1)],
+            left: &[
+                (
+                    "act | p() !d() | +r() q() | +s() !q() | -q() | -s() p() | -p()",
+                    1,
+                ),
+                ("never | r() | +q()", 1),
+            ],
             reached: Task {
                 init: &["p()"],
                 actions: &[("act | p() | +s() | -s() p() | -p()", 1)],
@@ -261,32 +268,36 @@ static ROWS: &[Row<Grounded>] = &[
             facts: &[("a()", None), ("b()", None), ("c()", None), ("e()", None)],
         },
     ),
-    // One effect adds what the next one waits for. The last one waits for d, which stays dry.
+    // Of the tank t one effect adds what the next one waits for. The last one waits for d, which stays dry.
     (
         SPREAD,
         FORK,
         Grounded {
             ground: Task {
-                init: &["wet(a)"],
+                init: &["wet(t, a)"],
                 actions: &[(
-                    "flow | | +wet(b) wet(a) | +wet(c) wet(b) | +wet(e) wet(d)",
+                    "flow t | | +wet(t, b) wet(t, a) | +wet(t, c) wet(t, b) | +wet(t, e) wet(t, d)",
                     1,
                 )],
                 axioms: &[],
-                goal: " wet(c)",
+                goal: " wet(t, c)",
             },
             made: &[(
-                "flow | | +wet(b) wet(a) | +wet(c) wet(b) | +wet(e) wet(d)",
+                "flow t | | +wet(t, b) wet(t, a) | +wet(t, c) wet(t, b) | +wet(t, e) wet(t, d)",
                 1,
             )],
-            left: &[("flow | | +wet(b) wet(a) | +wet(c) wet(b)", 1)],
+            left: &[("flow t | | +wet(t, b) wet(t, a) | +wet(t, c) wet(t, b)", 1)],
             reached: Task {
-                init: &["wet(a)"],
-                actions: &[("flow | | +wet(b) wet(a) | +wet(c) wet(b)", 1)],
+                init: &["wet(t, a)"],
+                actions: &[("flow t | | +wet(t, b) wet(t, a) | +wet(t, c) wet(t, b)", 1)],
                 axioms: &[],
-                goal: " wet(c)",
+                goal: " wet(t, c)",
             },
-            facts: &[("wet(a)", None), ("wet(b)", None), ("wet(c)", None)],
+            facts: &[
+                ("wet(t, a)", None),
+                ("wet(t, b)", None),
+                ("wet(t, c)", None),
+            ],
         },
     ),
 ];

@@ -73,14 +73,15 @@ pub(crate) const CIRCLE: &str = "(define (domain circle) (:predicates (p) (q) (r
 pub(crate) const HALF: &str =
     "(define (problem half) (:domain circle) (:init (p)) (:goal (and (s) (not (r)))))";
 
-/// What is wet wets what its roads lead to, all by one action.
-pub(crate) const SPREAD: &str = "(define (domain spread) (:predicates (road ?x ?y) (wet ?x))
- (:action flow :parameters () :precondition ()
-  :effect (forall (?x ?y) (when (and (road ?x ?y) (wet ?x)) (wet ?y)))))";
+/// What is wet of a tank wets what its roads lead to, all by one action.
+pub(crate) const SPREAD: &str =
+    "(define (domain spread) (:predicates (tank ?t) (road ?x ?y) (wet ?t ?x))
+ (:action flow :parameters (?t) :precondition (tank ?t)
+  :effect (forall (?x ?y) (when (and (road ?x ?y) (wet ?t ?x)) (wet ?t ?y)))))";
 
-/// Roads from a to b and from b to c, and one from d, which stays dry.
-pub(crate) const FORK: &str = "(define (problem fork) (:domain spread) (:objects a b c d e)
- (:init (wet a) (road a b) (road b c) (road d e)) (:goal (wet c)))";
+/// A tank, roads from a to b and from b to c, and one from d, which stays dry.
+pub(crate) const FORK: &str = "(define (problem fork) (:domain spread) (:objects t a b c d e)
+ (:init (tank t) (wet t a) (road a b) (road b c) (road d e)) (:goal (wet t c)))";
 
 /// From a place with a road one comes to all others that it leads to. A place is near where a road leads from it to one's own.
 pub(crate) const ROADS: &str = "(define (domain roads) (:predicates (road ?x ?y) (at ?x) (near ?x))
