@@ -356,7 +356,30 @@ fn some_balances(
 
 // ---- add effects
 
-/// Some delete effect balances the add effect.
+/// Some delete effect balances the add effect, where these literals are required.
+fn has_balance_with(
+    alloc: Global,
+    normal: &Normal,
+    candidate: &Candidate,
+    schema: &Schema,
+    part: &Part,
+    row: &EffectRow,
+    required: &[Literal],
+) -> Result<bool, AllocError>
+    requires { required.now ≡ spec.required schema.now row.now }
+    ensures { IfOk result (λ answer. answer ≡ spec.has_balance normal.now candidate.now schema.now part.now row.now) }
+{
+    let instance = terms_at(alloc, part.places.as_slice(), row.places.as_slice())?;
+    let add = Add {
+        schema,
+        row,
+        required,
+        instance: instance.as_slice(),
+    };
+    some_balances(alloc, normal, candidate, &add)
+}
+
+/// Some delete effect balances the add effect. Where that has no condition of its own, the precondition isn't copied.
 pub(crate) fn has_balance(
     alloc: Global,
     normal: &Normal,
@@ -367,15 +390,20 @@ pub(crate) fn has_balance(
 ) -> Result<bool, AllocError>
     ensures { IfOk result (λ answer. answer ≡ spec.has_balance normal.now candidate.now schema.now part.now row.now) }
 {
+    if row.condition.as_slice().is_empty() {
+        let required = schema.condition.as_slice();
+        return has_balance_with(alloc, normal, candidate, schema, part, row, required);
+    }
     let required = required(alloc, schema, row)?;
-    let instance = terms_at(alloc, part.places.as_slice(), row.places.as_slice())?;
-    let add = Add {
+    has_balance_with(
+        alloc,
+        normal,
+        candidate,
         schema,
+        part,
         row,
-        required: required.as_slice(),
-        instance: instance.as_slice(),
-    };
-    some_balances(alloc, normal, candidate, &add)
+        required.as_slice(),
+    )
 }
 
 /// The add effect never adds a false atom.

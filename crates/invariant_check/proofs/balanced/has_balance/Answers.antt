@@ -1,23 +1,11 @@
-use Rattle.std.proofs.Common.{◌≡◌, ◌∙◌, ap, subst}
-use Rattle.std.specs.Prelude.{IfOk}
-use Rattle.std.specs.List.{list_any}
-use Rattle.normal_task.specs.declared.task.Place.TheVariants.{Object}
-use Rattle.contradictions.specs.Candidates.{at_positions}
-use Rattle.invariant_check.specs.Accepted.{required, instance_of}
-use Rattle.invariant_check.specs.Attempts.{balances_somehow}
-use Rattle.invariant_check.proofs.Matching.{some_delete}
+use Rattle.std.proofs.Common.{◌∙◌, ◌++◌, ap, eqb, length, sym, append-nil}
+use Rattle.std.proofs.lemmas.Bool.{eqb-true}
+use Rattle.std.proofs.lemmas.List.{nil_from_length}
 use Rattle.invariant_check.proofs.balanced.has_balance.Goals as goal
 
-pub returns : goal.returns
-returns c =
-    let task = c.args.normal.now in
-    let candidate = c.args.candidate.now in
+pub has_balance_with-requires : goal.has_balance_with-requires
+has_balance_with-requires c =
     let schema = c.args.schema.now in
     let row = c.args.row.now in
-    let same : at_positions (Object 0) c.as_slice.result.now c.as_slice-2.result.now ≡ instance_of c.args.part.now row =
-    ap (λ positions. at_positions (Object 0) positions c.as_slice-2.result.now) c.as_slice.ensures ∙ ap (at_positions (Object 0) c.args.part.now.places) c.as_slice-2.ensures in
-    subst (λ b. IfOk c.some_balances.result (λ answer. answer ≡ b))
-    (ap (λ literals. list_any (balances_somehow task candidate schema row literals c.as_slice-4.result.now) schema.effects) (c.as_slice-3.ensures.value ∙ c.in_ok-required.ensures)
-    ∙ ap (λ terms. list_any (balances_somehow task candidate schema row (required schema row) terms) schema.effects) (c.as_slice-4.ensures.value ∙ c.in_ok-instance.ensures ∙ same)
-    ∙ some_delete task candidate schema c.args.part.now row)
-    c.some_balances.ensures
+    let none = nil_from_length row.condition (ap length (sym c.as_slice.ensures) ∙ eqb-true (length c.as_slice.result.now) 0 (sym c.is_empty.ensures ∙ c.if-is_empty.true)) in
+    c.as_slice-required.ensures ∙ sym (append-nil schema.condition) ∙ ap (λ l. schema.condition ++ l) (sym none)
