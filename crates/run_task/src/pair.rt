@@ -14,7 +14,7 @@ ghost use Rattle.run_task.specs.RunTask.{IsRunEncoding, IsRunTask, IsTaskOf};
 
 use axiom_layers::layers;
 use command_line::Settings;
-use fdr_encoder::encode;
+use fdr_encoder::into_encoding;
 use ground_task::Ground;
 use group_cover::cover;
 use invariant_guess::laws::finds;
@@ -78,9 +78,7 @@ fn simplified(
     ensures { IfOk result (IsRunTask full normal.now found.now) }
 {
     let reached = reached_of(alloc, normal)?;
-    let encoding = encoded(alloc, normal, found, &reached, full);
-    drop(reached);
-    let encoded = encoding?;
+    let encoded = encoded(alloc, normal, found, reached, full)?;
     let task = simplify(alloc, encoded)?;
     Ok(task)
 }
@@ -90,20 +88,20 @@ fn encoded(
     alloc: Global,
     normal: &Normal,
     found: &Found,
-    reached: &Reached,
+    reached: Reached,
     full: bool,
 ) -> Result<SasTask, AllocError>
     requires lawful { IsLawfulNormal normal.now }
     requires well_formed { list_all (is_well_formed normal.now) found.now.accepted ≡ true }
-    requires reached { IsReachedOf normal.now reached.now }
-    requires lawful_reached { IsLawful reached.now }
+    requires reached { IsReachedOf normal.now reached }
+    requires lawful_reached { IsLawful reached }
     ensures { IfOk result (IsRunEncoding full normal.now found.now) }
 {
     groups_of_facts();
-    let layers = layers(alloc, reached)?;
-    let groups = groups(alloc, normal, found.accepted.as_slice(), reached)?;
-    let cover = cover(alloc, facts_of(reached), &groups, full)?;
-    encode(alloc, reached, &cover, &groups, &layers)
+    let layers = layers(alloc, &reached)?;
+    let groups = groups(alloc, normal, found.accepted.as_slice(), &reached)?;
+    let cover = cover(alloc, facts_of(&reached), &groups, full)?;
+    into_encoding(alloc, reached, &cover, &groups, &layers)
 }
 
 /// The number of facts.

@@ -19,5 +19,5 @@ pub returns : goal.returns
 returns c =
     let given = c.into_iter-member-iterator.ensures.into_iter_gives in
     let end = YieldsList-end (YieldsList-from_vec {s = c.into_iter-member-iterator.result} c.args.members.items given.0 (given.1 ∙ c.args.members.ok.0)) c.loop-member.yielded c.loop-member.member-iterator c.loop-member.yielded_by c.next.result c.next.new.self c.in-None.is c.next.ensures.steps in
-    let made : List Pair → Operator = λ m. record { name = c.args.action.now.name; conditions = m; effects = simplified c.args.index.now m c.args.raw.now; cost = c.args.action.now.cost } in
+    let made : List Pair → Operator = λ m. record { name = c.args.name.now; conditions = m; effects = simplified c.args.index.now m c.args.raw.now; cost = c.args.cost } in
     c.loop-member.invariant ∙ ap (λ ms. c.args.out.now.items ++ map made ms) (sym (map_itself c.loop-member.yielded) ∙ end.0)

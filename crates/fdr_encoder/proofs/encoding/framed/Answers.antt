@@ -5,7 +5,7 @@ use Rattle.std.specs.List.Sorted.{IsStrictlyIncreasing}
 use Rattle.reached_task.specs.declared.types.Fact.{Fact}
 use Rattle.fdr_encoder.specs.Covers.{MakesVariables, IsBasicGroup}
 use Rattle.fdr_encoder.proofs.Covers.{covered_by_groups, sets_apart, sets_of_facts}
-use Rattle.fdr_encoder.proofs.encoding.encode.Goals as goal
+use Rattle.fdr_encoder.proofs.encoding.framed.Goals as goal
 
 pub new-requires-clause-facts : goal.new-requires-clause-facts
 new-requires-clause-facts c =
@@ -16,13 +16,13 @@ pub new-requires-clause-apart : goal.new-requires-clause-apart
 new-requires-clause-apart c =
     subst (All IsStrictlyIncreasing) (sym c.as_slice-2.ensures) (sets_apart c.requires.cover.0 c.args.reached.now c.args.groups.now.groups c.args.cover.now.sets c.requires.groups c.requires.cover.1)
 
-pub encode_over-requires-clause-cover : goal.encode_over-requires-clause-cover
-encode_over-requires-clause-cover c =
+pub frame_over-requires-clause-cover : goal.frame_over-requires-clause-cover
+frame_over-requires-clause-cover c =
     subst (MakesVariables c.args.reached.now) (sym (c.in_ok-index.ensures ∙ c.as_slice-2.ensures)) (covered_by_groups c.requires.cover.0 c.args.reached.now c.args.groups.now.groups c.args.cover.now.sets c.requires.groups c.requires.cover.1)
 
-pub encode_over-requires-clause-apart : goal.encode_over-requires-clause-apart
-encode_over-requires-clause-apart c =
+pub frame_over-requires-clause-apart : goal.frame_over-requires-clause-apart
+frame_over-requires-clause-apart c =
     subst (All IsStrictlyIncreasing) (sym (c.in_ok-index.ensures ∙ c.as_slice-2.ensures)) (sets_apart c.requires.cover.0 c.args.reached.now c.args.groups.now.groups c.args.cover.now.sets c.requires.groups c.requires.cover.1)
 
-pub encode_over-requires-clause-groups : goal.encode_over-requires-clause-groups
-encode_over-requires-clause-groups c = subst (All (IsBasicGroup c.args.reached.now)) (sym c.as_slice-3.ensures) c.requires.groups
+pub frame_over-requires-clause-groups : goal.frame_over-requires-clause-groups
+frame_over-requires-clause-groups c = subst (All (IsBasicGroup c.args.reached.now)) (sym c.as_slice-3.ensures) c.requires.groups
