@@ -258,6 +258,21 @@ def cards(count):
     )
 
 
+def held_files(hosts):
+    """As many files as hosts, of which one is held, and a step from each host to each other one that hands on all that the first
+    holds: an effect for each file, of which only that of the held file can take place."""
+    return (
+        b"""(define (domain hosts) (:requirements :typing :conditional-effects) (:types host file)
+(:predicates (holds ?h - host ?f - file) (open ?h - host) (link ?a ?b - host))
+(:action take-over :parameters (?from ?to - host) :precondition (and (open ?from) (link ?from ?to))
+ :effect (and (open ?to) (not (open ?from)) (forall (?f - file) (when (holds ?from ?f) (holds ?to ?f))))))""",
+        b"(define (problem p) (:domain hosts) (:objects " + b" ".join(b"h%d" % i for i in range(hosts)) + b" - host "
+        + b" ".join(b"f%d" % i for i in range(hosts)) + b" - file) (:init (open h0) (holds h0 f0) "
+        + b" ".join(b"(link h%d h%d)" % (a, b) for a in range(hosts) for b in range(hosts) if a != b)
+        + b") (:goal (holds h%d f0)))" % (hosts - 1),
+    )
+
+
 def walled_grid(squares):
     """Stones are pushed over a square grid, of whose squares every seventh is a wall, to the rim that is opposite."""
     side = round(squares ** 0.5)
