@@ -53,28 +53,39 @@ fn push_predicate(text: &mut Vec<u8>, task: &Ground, predicate: u64) -> Result<(
     Ok(())
 }
 
-/// The atom of this predicate and these objects, as `p(a, b)`.
-fn shown(alloc: Global, task: &Ground, predicate: u64, objects: &[u64]) -> Result<Text, AllocError>
-    ensures { IfOk result (λ text. text ≡ shown_atom task.now (record { predicate = predicate; objects = objects.now })) }
+/// Writes the atom of this predicate and these objects, as `p(a, b)`, in place of the text.
+fn show(
+    text: &mut Vec<u8>,
+    task: &Ground,
+    predicate: u64,
+    objects: &[u64],
+) -> Result<(), AllocError>
+    ensures { OnOk result (text.new.items ≡ shown_atom task.now (record { predicate = predicate; objects = objects.now })) }
 {
-    let mut text = Vec::new(alloc);
-    push_predicate(&mut text, task, predicate)?;
+    text.clear();
+    push_predicate(text, task, predicate)?;
     text.extend_from_slice(b"(")?;
-    push_joined(&mut text, task, objects)?;
-    text.extend_from_slice(b")")?;
-    Ok(Text::from_vec(text))
+    push_joined(text, task, objects)?;
+    text.extend_from_slice(b")")
 }
 
-/// The fact of the atom of this predicate and these objects.
-fn fact(alloc: Global, task: &Ground, predicate: u64, objects: &[u64]) -> Result<Fact, AllocError>
+/// The fact of the atom of this predicate and these objects. Its text is written in the room and copied.
+fn fact(
+    alloc: Global,
+    room: &mut Vec<u8>,
+    task: &Ground,
+    predicate: u64,
+    objects: &[u64],
+) -> Result<Fact, AllocError>
     ensures { IfOk result (λ fact. fact ≡ fact_of task.now (record { predicate = predicate; objects = objects.now })) }
 {
+    show(room, task, predicate, objects)?;
     Ok(Fact {
         atom: GroundAtom {
             predicate,
             objects: Objects::from_slice(alloc, objects)?,
         },
-        shown: shown(alloc, task, predicate, objects)?,
+        shown: Text::from_vec(room.to_vec(alloc)?),
         derived: is_derived(task.normal_predicates.as_slice(), predicate),
     })
 }
@@ -84,8 +95,9 @@ pub fn facts(alloc: Global, task: &Ground, atoms: &Atoms) -> Result<List<Fact>, 
     ensures { IfOk result (λ facts. facts ≡ map (fact_of task.now) atoms.now) }
 {
     let mut facts = Vec::with_capacity(alloc, atoms.len())?;
+    let mut room = Vec::new(alloc);
     for (predicate, objects) in atoms.as_slice() {
-        facts.push(fact(alloc, task, *predicate, objects)?)?;
+        facts.push(fact(alloc, &mut room, task, *predicate, objects)?)?;
     }
     Ok(List::from_vec(facts))
 }

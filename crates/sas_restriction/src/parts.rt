@@ -221,7 +221,7 @@ fn operators_left(
     ensures { IfOk result (λ operators. (leaves : AnOperator → Bool) → marks.now ≡ map leaves old.items →
         operators.items ≡ map (restriction.new_operator once (with_operators shown.now leaves)) (filter (choice.operator_stays (with_operators shown.now leaves)) old.items)) }
 {
-    let mut operators = Vec::new(alloc);
+    let mut operators = Vec::with_capacity(alloc, old.len())?;
     let mut i = 0;
     for operator in old {
         add_operator(alloc, once, shown, &mut operators, operator, marks[i])?;
