@@ -5,14 +5,14 @@ ghost use Rattle.reached_task.specs.ReachedTask.{is_derived};
 ghost use Rattle.axiom_layers.specs.Arcs.{arc_to, arcs_at, arcs_of};
 
 use names::Arc;
-use reached_task::{Reached, ReachedAxiom};
+use reached_task::{FactNumber, Reached, ReachedAxiom};
 use std::alloc::{AllocError, Global};
 
 /// Adds an arc to the fact from each derived fact among the literals.
 fn push_arcs(
     arcs: &mut Vec<Arc>,
     reached: &Reached,
-    fact: u64,
+    fact: FactNumber,
     literals: &[u64],
 ) -> Result<(), AllocError>
     ensures { OnOk result (arcs.new.items ≡ arcs.old.items ++ map (arc_to fact) (filter (is_derived reached.now.facts) literals.now)) }

@@ -9,13 +9,13 @@ ghost use Rattle.contradictions.specs.Merges.{all_ranges, have_one_leader};
 use crate::ranges::{Ranges, range_of};
 use crate::rising::Rising;
 use crate::terms::{TermPair, is_same};
-use normal_task::Place;
+use normal_task::{Object, Place};
 use std::alloc::{AllocError, Global};
 
 // ---- one object after the other
 
 /// The object is one that the term ranges over.
-fn ranges_over(ranges: &Ranges<'_>, term: &Place, object: u64) -> bool
+fn ranges_over(ranges: &Ranges<'_>, term: &Place, object: Object) -> bool
     ensures { result ≡ spec.is_among (spec.objects_of (all_ranges ranges.now) term.now) object }
 {
     match term {
@@ -25,7 +25,7 @@ fn ranges_over(ranges: &Ranges<'_>, term: &Place, object: u64) -> bool
 }
 
 /// The object is one of these.
-pub fn is_among(objects: &[u64], object: u64) -> bool
+pub fn is_among(objects: &[Object], object: Object) -> bool
     ensures { result ≡ spec.is_among objects.now object }
 {
     objects.iter().any(|other| object == *other)
@@ -37,7 +37,7 @@ fn is_lacked(
     ranges: &Ranges<'_>,
     terms: &[Place],
     term: &Place,
-    object: u64,
+    object: Object,
 ) -> bool
     ensures { result ≡ spec.is_lacked (have_one_leader merges.now) (all_ranges ranges.now) terms.now term.now object }
 {
@@ -49,7 +49,7 @@ fn are_lacked(
     ranges: &Ranges<'_>,
     terms: &[Place],
     term: &Place,
-    objects: &[u64],
+    objects: &[Object],
 ) -> bool
     ensures { result ≡ list_all (spec.is_lacked (have_one_leader merges.now) (all_ranges ranges.now) terms.now term.now) objects.now }
 {
@@ -80,7 +80,7 @@ fn member_of<'a>(ranges: &Ranges<'a>, term: &Place) -> Option<Member<'a>>
 }
 
 /// The first object of the term from this number on.
-fn first_from(member: &Member<'_>, least: u64) -> Option<u64>
+fn first_from(member: &Member<'_>, least: u64) -> Option<Object>
     ensures { IsFirstFrom (objects_in member.now) least result }
 {
     match member {
@@ -90,7 +90,7 @@ fn first_from(member: &Member<'_>, least: u64) -> Option<u64>
 }
 
 /// The least number from this one on that isn't passed over by some term; none where a term has no object left.
-fn next_shared(class: &[Member<'_>], least: u64) -> Option<u64>
+fn next_shared(class: &[Member<'_>], least: u64) -> Option<Object>
     ensures { IsNextShared (map objects_in class.now) least result }
 {
     let mut next = least;

@@ -11,7 +11,7 @@ use crate::common::some_has_no_object;
 use crate::ranges::Ranges;
 use crate::terms::{TermPair, copy, is_same, is_same_place, merged, term_at};
 use crate::types::{Candidate, Part};
-use normal_task::{Literal, Place};
+use normal_task::{Literal, Place, Predicate};
 use std::alloc::{AllocError, Global};
 
 /// Literals with pairs of equated terms, for the instance that the terms name.
@@ -110,7 +110,7 @@ fn is_of_instance(
     merges: &[TermPair],
     parts: &[Part],
     instance: &[Place],
-    predicate: u64,
+    predicate: Predicate,
     places: &[Place],
 ) -> bool
     ensures { result ≡ list_any (λ part. spec.is_of_part (have_one_leader merges.now) instance.now predicate places.now part) parts.now }

@@ -2,7 +2,7 @@
 ghost use Rattle.std.specs.Prelude.{◌≡◌, ◌++◌, ◌∷◌, [], get_or};
 ghost use Rattle.contradictions.specs.Merges.{all_ranges};
 
-use normal_task::ObjectRange;
+use normal_task::{Object, ObjectRange};
 
 /// The ranges of a schema's parameters, and then those of the variables of two effects, in the order of their numbers.
 #[derive(Clone, Copy)]
@@ -15,7 +15,7 @@ pub struct Ranges<'a> {
 /// A number that is in no list has this range, which holds what stands at it in a binding without it.
 static OBJECT_0: [u64; 1] = [0];
 
-fn range_in(ranges: &[ObjectRange], number: usize) -> &[u64]
+fn range_in(ranges: &[ObjectRange], number: usize) -> &[Object]
     ensures { result.now ≡ get_or ranges.now number (0 ∷ []) }
 {
     if number < ranges.len() {
@@ -25,7 +25,11 @@ fn range_in(ranges: &[ObjectRange], number: usize) -> &[u64]
     }
 }
 
-fn range_behind<'a>(front: &'a [ObjectRange], back: &'a [ObjectRange], number: usize) -> &'a [u64]
+fn range_behind<'a>(
+    front: &'a [ObjectRange],
+    back: &'a [ObjectRange],
+    number: usize,
+) -> &'a [Object]
     ensures { result.now ≡ get_or (front.now ++ back.now) number (0 ∷ []) }
 {
     if number < front.len() {
@@ -36,7 +40,7 @@ fn range_behind<'a>(front: &'a [ObjectRange], back: &'a [ObjectRange], number: u
 }
 
 /// The objects that the variable ranges over.
-pub fn range_of<'a>(ranges: &Ranges<'a>, number: u64) -> &'a [u64]
+pub fn range_of<'a>(ranges: &Ranges<'a>, number: u64) -> &'a [Object]
     ensures { result.now ≡ get_or (all_ranges ranges.now) number (0 ∷ []) }
 {
     let number = number as usize;

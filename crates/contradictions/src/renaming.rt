@@ -7,7 +7,7 @@ ghost use Rattle.contradictions.specs.Renamings as spec;
 
 use crate::terms::{copy, term_at};
 use lists::List;
-use normal_task::{EffectRow, Literal, Place};
+use normal_task::{EffectRow, Literal, Place, Predicate};
 use std::alloc::{AllocError, Global};
 
 /// How the variables of a row are renamed.
@@ -122,7 +122,7 @@ pub fn push_renamed(
 pub fn push_denied(
     alloc: Global,
     literals: &mut Vec<Literal>,
-    predicate: u64,
+    predicate: Predicate,
     places: &[Place],
 ) -> Result<(), AllocError>
     ensures { OnOk result (literals.new.items ≡ literals.old.items ++ spec.denied_atom predicate places.now ∷ []) }

@@ -3,16 +3,18 @@ ghost use Rattle.std.specs.Prelude.{◌≡◌, IfSome};
 ghost use Rattle.std.specs.List.Sorted.{IsNonDecreasing};
 ghost use Rattle.contradictions.specs.FirstFrom.{IsFirstFrom};
 
+use normal_task::Object;
+
 /// Objects in rising order.
 #[derive(Clone, Copy)]
 pub(crate) struct Rising<'a> {
-    pub(crate) objects: &'a [u64],
+    pub(crate) objects: &'a [Object],
     ghost rises: { IsNonDecreasing objects.now },
 }
 
 impl<'a> Rising<'a> {
     /// The objects, if they rise.
-    pub(crate) fn new(objects: &'a [u64]) -> Option<Rising<'a>>
+    pub(crate) fn new(objects: &'a [Object]) -> Option<Rising<'a>>
         ensures { IfSome result (λ rising. rising.objects.now ≡ objects.now) }
     {
         if objects.is_sorted() {
@@ -23,7 +25,7 @@ impl<'a> Rising<'a> {
     }
 
     /// The first object from this number on.
-    pub(crate) fn first_from(&self, least: u64) -> Option<u64>
+    pub(crate) fn first_from(&self, least: u64) -> Option<Object>
         ensures { IsFirstFrom self.now.objects.now least result }
     {
         match self.objects.binary_search(&least) {

@@ -5,6 +5,7 @@ ghost use Rattle.std.specs.Hash as fed;
 ghost use Rattle.std.proofs.Common.{rules};
 
 use lists::List;
+use normal_task::Predicate;
 use std::alloc::{AllocError, Global};
 use std::hash::{Hash, Hasher};
 
@@ -47,7 +48,7 @@ impl Hash for Candidate {
 /// one position is left, which is counted.
 #[derive(PartialEq, Eq, Drop)]
 pub struct Part {
-    pub predicate: u64,
+    pub predicate: Predicate,
     pub places: List<u64>,
     pub counted: Option<u64>,
 }

@@ -12,6 +12,7 @@ use crate::literals::{Literal, Marked, can_stand};
 use crate::rivals::Rival;
 use ground_task::Cond;
 use lists::List;
+use reached_task::FactNumber;
 use std::alloc::{AllocError, Global};
 
 /// The numbers of both slices.
@@ -26,9 +27,9 @@ fn numbers_of_both(alloc: Global, front: &[u64], back: &[u64]) -> Result<List<u6
 /// The literals of both conditions.
 pub(crate) fn both(
     alloc: Global,
-    front: &Cond<u64>,
-    back: &Cond<u64>,
-) -> Result<Cond<u64>, AllocError>
+    front: &Cond<FactNumber>,
+    back: &Cond<FactNumber>,
+) -> Result<Cond<FactNumber>, AllocError>
     ensures { IfOk result (λ all. all ≡ words.both front.now back.now) }
 {
     Ok(Cond {
@@ -41,7 +42,7 @@ pub(crate) fn both(
 fn negations(
     alloc: Global,
     cause: &Marked,
-    literals: &Cond<u64>,
+    literals: &Cond<FactNumber>,
 ) -> Result<Vec<Literal>, AllocError>
     ensures { IfOk result (λ all. all.items ≡ filter (λ one. not (rules_out cause.now one)) (turned literals.now)) }
 {
@@ -60,7 +61,7 @@ fn negations(
 }
 
 /// The choice with the literal.
-fn choice_with(choice: Cond<u64>, one: Literal) -> Result<Cond<u64>, AllocError>
+fn choice_with(choice: Cond<FactNumber>, one: Literal) -> Result<Cond<FactNumber>, AllocError>
     ensures { IfOk result (λ all. all ≡ words.both choice (alone one)) }
 {
     let mut all = choice;
@@ -73,7 +74,11 @@ fn choice_with(choice: Cond<u64>, one: Literal) -> Result<Cond<u64>, AllocError>
 }
 
 /// A copy of the choice with the literal.
-fn copy_with(alloc: Global, choice: &Cond<u64>, one: Literal) -> Result<Cond<u64>, AllocError>
+fn copy_with(
+    alloc: Global,
+    choice: &Cond<FactNumber>,
+    one: Literal,
+) -> Result<Cond<FactNumber>, AllocError>
     ensures { IfOk result (λ all. all ≡ words.both choice.now (alone one)) }
 {
     let copy = Cond {
@@ -84,7 +89,7 @@ fn copy_with(alloc: Global, choice: &Cond<u64>, one: Literal) -> Result<Cond<u64
 }
 
 /// Whether there is one literal.
-fn is_alone(literals: &Cond<u64>) -> bool
+fn is_alone(literals: &Cond<FactNumber>) -> bool
     ensures { result ≡ is_alone literals.now }
 {
     let positive = literals.positive.as_slice().len();
@@ -93,7 +98,10 @@ fn is_alone(literals: &Cond<u64>) -> bool
 }
 
 /// The literals with the negation of one that is alone.
-fn with_forced(all: Cond<u64>, literals: &Cond<u64>) -> Result<Cond<u64>, AllocError>
+fn with_forced(
+    all: Cond<FactNumber>,
+    literals: &Cond<FactNumber>,
+) -> Result<Cond<FactNumber>, AllocError>
     ensures { IfOk result (λ more. more ≡ words.both all (forced_by literals.now)) }
 {
     let mut all = all;
@@ -108,7 +116,10 @@ fn with_forced(all: Cond<u64>, literals: &Cond<u64>) -> Result<Cond<u64>, AllocE
 
 /// The cause with what each choice has: the negation of each rival's condition that is one literal. So a choice that
 /// contradicts a later rival is seen where it is begun.
-pub(crate) fn forced(cause: Cond<u64>, rivals: &[Rival]) -> Result<Cond<u64>, AllocError>
+pub(crate) fn forced(
+    cause: Cond<FactNumber>,
+    rivals: &[Rival],
+) -> Result<Cond<FactNumber>, AllocError>
     ensures { IfOk result (AreForced cause (conditions rivals.now)) }
 {
     let mut all = cause;
@@ -122,8 +133,8 @@ pub(crate) fn forced(cause: Cond<u64>, rivals: &[Rival]) -> Result<Cond<u64>, Al
 fn push_standing(
     alloc: Global,
     index: &Index,
-    all: &mut Vec<Cond<u64>>,
-    choice: Cond<u64>,
+    all: &mut Vec<Cond<FactNumber>>,
+    choice: Cond<FactNumber>,
 ) -> Result<(), AllocError>
     ensures { (cause : Literals ℕ) → OnOk result (standing index.now cause all.new.items ≡ standing index.now cause all.old.items ++ standing index.now cause (choice ∷ [])) }
 {
@@ -138,8 +149,8 @@ fn push_standing(
 fn push_copies(
     alloc: Global,
     index: &Index,
-    all: &mut Vec<Cond<u64>>,
-    choice: &Cond<u64>,
+    all: &mut Vec<Cond<FactNumber>>,
+    choice: &Cond<FactNumber>,
     ones: &[Literal],
 ) -> Result<(), AllocError>
     ensures { (cause : Literals ℕ) → OnOk result (standing index.now cause all.new.items ≡ standing index.now cause all.old.items ++ standing index.now cause (map (λ one. words.both choice.now (alone one)) ones.now)) }
@@ -154,8 +165,8 @@ fn push_copies(
 fn push_both(
     alloc: Global,
     index: &Index,
-    all: &mut Vec<Cond<u64>>,
-    choice: Cond<u64>,
+    all: &mut Vec<Cond<FactNumber>>,
+    choice: Cond<FactNumber>,
     ones: &[Literal],
 ) -> Result<(), AllocError>
     ensures { (cause : Literals ℕ) → OnOk result (standing index.now cause all.new.items ≡ standing index.now cause all.old.items ++ standing index.now cause (map (λ one. words.both choice (alone one)) ones.now)) }
@@ -173,9 +184,9 @@ fn push_both(
 fn choices_with_each(
     alloc: Global,
     cause: &Marked,
-    choices: Vec<Cond<u64>>,
-    literals: &Cond<u64>,
-) -> Result<Vec<Cond<u64>>, AllocError>
+    choices: Vec<Cond<FactNumber>>,
+    literals: &Cond<FactNumber>,
+) -> Result<Vec<Cond<FactNumber>>, AllocError>
     ensures { IfOk result (λ all. standing cause.now.cover cause.now.literals all.items ≡ standing cause.now.cover cause.now.literals (flat_map (λ choice. map (λ one. words.both choice one) (words.negations literals.now)) choices.items)) }
 {
     let ones = negations(alloc, cause, literals)?;
@@ -192,7 +203,7 @@ pub(crate) fn negated_choices(
     alloc: Global,
     cause: &Marked,
     rivals: &[Rival],
-) -> Result<Vec<Cond<u64>>, AllocError>
+) -> Result<Vec<Cond<FactNumber>>, AllocError>
     ensures { IfOk result (λ all. standing cause.now.cover cause.now.literals all.items ≡ standing cause.now.cover cause.now.literals (words.negated_choices (conditions rivals.now))) }
 {
     let mut all = Vec::new(alloc);

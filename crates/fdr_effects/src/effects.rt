@@ -18,16 +18,16 @@ use crate::rivals::{Rival, rivals};
 use crate::splits::split;
 use ground_task::Cond;
 use lists::List;
-use reached_task::ReachedEffect;
-use sas_task::{Effect, Pair};
+use reached_task::{FactNumber, ReachedEffect};
+use sas_task::{Effect, Pair, Value, Var};
 use std::alloc::{AllocError, Global};
 
 /// An effect for each member.
 fn push_each(
     out: &mut Vec<Effect>,
     members: Vec<List<Pair>>,
-    var: u64,
-    val: u64,
+    var: Var,
+    val: Value,
 ) -> Result<(), AllocError>
     ensures { OnOk result (out.new.items ≡ out.old.items ++ map (λ m. record { conditions = m; var = var; after = val }) members.items) }
 {
@@ -42,7 +42,7 @@ fn push_each(
 }
 
 /// Whether there are no literals.
-fn is_empty(literals: &Cond<u64>) -> bool
+fn is_empty(literals: &Cond<FactNumber>) -> bool
     ensures { result ≡ is_no_literal literals.now }
 {
     literals.positive.as_slice().is_empty() && literals.negative.as_slice().is_empty()
@@ -53,9 +53,9 @@ fn push_where(
     alloc: Global,
     out: &mut Vec<Effect>,
     index: &Index,
-    var: u64,
-    val: u64,
-    literals: &Cond<u64>,
+    var: Var,
+    val: Value,
+    literals: &Cond<FactNumber>,
 ) -> Result<(), AllocError>
     ensures { OnOk result (out.new.items ≡ out.old.items ++ words.sets_where index.now (pair var val) literals.now) }
 {
@@ -72,7 +72,7 @@ fn push_where(
 }
 
 /// The condition of a delete effect with its fact.
-fn cause(alloc: Global, effect: &ReachedEffect) -> Result<Cond<u64>, AllocError>
+fn cause(alloc: Global, effect: &ReachedEffect) -> Result<Cond<FactNumber>, AllocError>
     ensures { IfOk result (λ cause. cause ≡ words.both effect.now.condition (words.is_true effect.now.fact)) }
 {
     let condition = &effect.condition;
@@ -89,9 +89,9 @@ fn push_choice(
     alloc: Global,
     out: &mut Vec<Effect>,
     index: &Index,
-    cause: &Cond<u64>,
-    var: u64,
-    choice: &Cond<u64>,
+    cause: &Cond<FactNumber>,
+    var: Var,
+    choice: &Cond<FactNumber>,
 ) -> Result<(), AllocError>
     ensures { OnOk result (out.new.items ≡ out.old.items ++ words.sets_where index.now (pair var (last_value index.now var)) (words.both cause.now choice.now)) }
 {
@@ -118,8 +118,8 @@ fn push_choices(
     alloc: Global,
     out: &mut Vec<Effect>,
     index: &Index,
-    cause: &Cond<u64>,
-    var: u64,
+    cause: &Cond<FactNumber>,
+    var: Var,
     rivals: &[Rival],
 ) -> Result<(), AllocError>
     ensures { OnOk result (out.new.items ≡ out.old.items ++ chosen index.now cause.now var (conditions rivals.now)) }
@@ -140,8 +140,8 @@ fn push_caused(
     alloc: Global,
     out: &mut Vec<Effect>,
     index: &Index,
-    cause: Cond<u64>,
-    var: u64,
+    cause: Cond<FactNumber>,
+    var: Var,
     rivals: &[Rival],
 ) -> Result<(), AllocError>
     ensures { OnOk result (out.new.items ≡ out.old.items ++ chosen index.now cause var (conditions rivals.now)) }
@@ -162,7 +162,7 @@ fn one_is_empty(rivals: &[Rival]) -> bool
 }
 
 /// Whether an add effect on the variable fires wherever the action is applied.
-fn is_always_set(rivals: &[Rival], var: u64) -> bool
+fn is_always_set(rivals: &[Rival], var: Var) -> bool
     requires { IsNonDecreasingBy (λ r. r.var) rivals.now }
     ensures { result ≡ list_any is_no_literal (conditions_on var rivals.now) }
 {
@@ -176,7 +176,7 @@ fn push_deletes(
     index: &Index,
     rivals: &[Rival],
     effect: &ReachedEffect,
-    var: u64,
+    var: Var,
 ) -> Result<(), AllocError>
     requires { IsNonDecreasingBy (λ r. r.var) rivals.now }
     ensures { (effects : Items Row) → AreRivals index.now effects rivals.now →

@@ -8,7 +8,8 @@ ghost use Rattle.fdr_effects.specs.Places as cover;
 ghost use Rattle.fdr_effects.specs.Marks as marks;
 
 use lists::{List, Rows};
-use sas_task::Pair;
+use reached_task::FactNumber;
+use sas_task::{Pair, Var};
 use std::alloc::{AllocError, Global};
 use std::marker::Model;
 
@@ -32,7 +33,7 @@ impl<'a> Model for Index<'a> {
 }
 
 /// Adds the places of a variable's facts.
-fn push_set(rows: &mut Rows<Pair>, var: u64, set: &[u64]) -> Result<(), AllocError>
+fn push_set(rows: &mut Rows<Pair>, var: Var, set: &[u64]) -> Result<(), AllocError>
     requires { IsStrictlyIncreasing set.now }
     ensures { OnOk result (Adds (marks.place_in var set.now) rows.old rows.new) }
 {
@@ -68,14 +69,14 @@ impl<'a> Index<'a> {
     }
 
     /// The places of a fact.
-    pub fn places(&self, fact: u64) -> &[Pair]
+    pub fn places(&self, fact: FactNumber) -> &[Pair]
         ensures { result.now ≡ cover.places self.now fact }
     {
         self.of_fact.row(fact)
     }
 
     /// The first place of a fact.
-    pub(crate) fn first_place(&self, fact: u64) -> Option<Pair>
+    pub(crate) fn first_place(&self, fact: FactNumber) -> Option<Pair>
         ensures { result ≡ cover.first_place self.now fact }
     {
         self.places(fact).first().copied()
@@ -110,7 +111,7 @@ impl<'a> Index<'a> {
     }
 
     /// The number of values of a variable.
-    pub(crate) fn values(&self, var: u64) -> u64
+    pub(crate) fn values(&self, var: Var) -> u64
         ensures { result ≡ cover.last_value self.now var + 1 }
     {
         match self.sets.get(var as usize) {
@@ -120,7 +121,7 @@ impl<'a> Index<'a> {
     }
 
     /// The last value of a variable.
-    pub fn last_value(&self, var: u64) -> u64
+    pub fn last_value(&self, var: Var) -> u64
         ensures { result ≡ cover.last_value self.now var }
     {
         match self.sets.get(var as usize) {

@@ -8,6 +8,7 @@ use crate::index::Index;
 use crate::on::on;
 use crate::splits::by_variable;
 use ground_task::Cond;
+use reached_task::FactNumber;
 use sas_task::Pair;
 use std::alloc::{AllocError, Global};
 use std::marker::Model;
@@ -15,7 +16,7 @@ use std::marker::Model;
 /// A fact that is to be true, or one that is to be false.
 #[derive(Clone, Copy)]
 pub(crate) struct Literal {
-    pub(crate) fact: u64,
+    pub(crate) fact: FactNumber,
     pub(crate) truth: bool,
 }
 
@@ -23,7 +24,7 @@ pub(crate) struct Literal {
 #[derive(Drop)]
 pub(crate) struct Marked<'a> {
     index: &'a Index<'a>,
-    literals: &'a Cond<u64>,
+    literals: &'a Cond<FactNumber>,
     /// All places of the facts that are to be true, by variable.
     wanted: Vec<Pair>,
     /// The first place of each fact that is to be false, by variable.
@@ -57,7 +58,7 @@ impl<'a> Marked<'a> {
     pub(crate) fn of(
         alloc: Global,
         index: &'a Index<'a>,
-        literals: &'a Cond<u64>,
+        literals: &'a Cond<FactNumber>,
     ) -> Result<Marked<'a>, AllocError>
         ensures { IfOk result (λ marked. marked ≡ record { cover = index.now; literals = literals.now }) }
     {
@@ -142,7 +143,7 @@ impl<'a> Marked<'a> {
     }
 
     /// Whether these literals show that the other ones hold: the negation of each is ruled out.
-    pub(crate) fn shows(&self, others: &Cond<u64>) -> bool
+    pub(crate) fn shows(&self, others: &Cond<FactNumber>) -> bool
         ensures { result ≡ words.shows self.now others.now }
     {
         self.rules_out_each(others.positive.as_slice(), false)
@@ -161,7 +162,7 @@ impl<'a> Marked<'a> {
 pub(crate) fn can_stand(
     alloc: Global,
     index: &Index,
-    literals: &Cond<u64>,
+    literals: &Cond<FactNumber>,
 ) -> Result<bool, AllocError>
     ensures { IfOk result (λ can. can ≡ false → words.can_stand index.now literals.now ≡ false) }
 {

@@ -6,14 +6,14 @@ ghost use Rattle.sas_task.specs.Pairs.{pair};
 ghost use Rattle.fdr_effects.specs.Marks as words;
 
 use crate::flags::{flags, is_set};
-use sas_task::Pair;
+use sas_task::{Pair, Value, Var};
 use std::alloc::{AllocError, Global};
 
 /// The pairs of a variable with each of so many values that its marks leave. Where no value is wanted, the time is
 /// linear in the number of values, and else in the number of marks.
 pub(crate) fn pool(
     alloc: Global,
-    var: u64,
+    var: Var,
     values: u64,
     wanted: &[Pair],
     barred: &[Pair],
@@ -28,20 +28,20 @@ pub(crate) fn pool(
     }
 }
 
-fn all_on(marks: &[Pair], val: u64) -> bool
+fn all_on(marks: &[Pair], val: Value) -> bool
     ensures { result ≡ list_all (λ p. p.val == val) marks.now }
 {
     marks.iter().all(|place| place.val == val)
 }
 
-fn none_on(marks: &[Pair], val: u64) -> bool
+fn none_on(marks: &[Pair], val: Value) -> bool
     ensures { result ≡ list_all (λ p. not (p.val == val)) marks.now }
 {
     marks.iter().all(|place| place.val != val)
 }
 
 /// Whether the marks leave the value.
-fn leaves(wanted: &[Pair], barred: &[Pair], val: u64) -> bool
+fn leaves(wanted: &[Pair], barred: &[Pair], val: Value) -> bool
     ensures { result ≡ words.leaves wanted.now barred.now val }
 {
     all_on(wanted, val) && none_on(barred, val)
@@ -50,8 +50,8 @@ fn leaves(wanted: &[Pair], barred: &[Pair], val: u64) -> bool
 /// The pair of the variable with the value, if the marks leave it.
 fn wanted_value(
     alloc: Global,
-    var: u64,
-    val: u64,
+    var: Var,
+    val: Value,
     wanted: &[Pair],
     barred: &[Pair],
 ) -> Result<Vec<Pair>, AllocError>
@@ -67,7 +67,7 @@ fn wanted_value(
 /// The pairs of the variable with the values that aren't barred.
 fn other_values(
     alloc: Global,
-    var: u64,
+    var: Var,
     values: u64,
     barred: &[Pair],
 ) -> Result<Vec<Pair>, AllocError>
@@ -79,7 +79,7 @@ fn other_values(
     unset_pairs(alloc, var, values, is_barred.as_slice())
 }
 
-fn values_of(alloc: Global, marks: &[Pair]) -> Result<Vec<u64>, AllocError>
+fn values_of(alloc: Global, marks: &[Pair]) -> Result<Vec<Value>, AllocError>
     ensures { IfOk result (λ values. values.items ≡ map (λ p. p.val) marks.now) }
 {
     marks.iter().map(|place| place.val).collect(alloc)
@@ -88,7 +88,7 @@ fn values_of(alloc: Global, marks: &[Pair]) -> Result<Vec<u64>, AllocError>
 /// The pairs of the variable with the values whose flag isn't set.
 fn unset_pairs(
     alloc: Global,
-    var: u64,
+    var: Var,
     values: u64,
     flags: &[bool],
 ) -> Result<Vec<Pair>, AllocError>

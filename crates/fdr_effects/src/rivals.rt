@@ -9,21 +9,21 @@ ghost use Rattle.fdr_effects.specs.Rivals as words;
 use crate::index::Index;
 use crate::on::OnVariable;
 use ground_task::Cond;
-use reached_task::ReachedEffect;
-use sas_task::Pair;
+use reached_task::{FactNumber, ReachedEffect};
+use sas_task::{Pair, Var};
 use std::alloc::{AllocError, Global};
 
 /// A variable, and the condition of an add effect on a fact of it.
 #[derive(Drop)]
 pub(crate) struct Rival<'a> {
-    pub(crate) var: u64,
-    pub(crate) condition: &'a Cond<u64>,
+    pub(crate) var: Var,
+    pub(crate) condition: &'a Cond<FactNumber>,
 }
 
 impl<'a> OnVariable for Rival<'a> {
     ghost var_of = { λ r. r.var };
 
-    fn variable(&self) -> u64 {
+    fn variable(&self) -> Var {
         self.var
     }
 }
@@ -31,7 +31,7 @@ impl<'a> OnVariable for Rival<'a> {
 fn push_places<'a>(
     out: &mut Vec<Rival<'a>>,
     places: &[Pair],
-    condition: &'a Cond<u64>,
+    condition: &'a Cond<FactNumber>,
 ) -> Result<(), AllocError>
     ensures { OnOk result (map words.seen out.new.items ≡ map words.seen out.old.items ++ map (λ p. (p.var, condition.now)) places.now) }
 {

@@ -17,7 +17,8 @@ use crate::pools::pool;
 use ground_task::Cond;
 use itertools::{Itertools, MultiProduct};
 use lists::List;
-use sas_task::Pair;
+use reached_task::FactNumber;
+use sas_task::{Pair, Var};
 use std::alloc::{AllocError, Global};
 
 /// Marks by variable.
@@ -31,7 +32,7 @@ pub(crate) fn by_variable(marks: Vec<Pair>) -> Vec<Pair>
 }
 
 /// The variables of the marks, in order.
-fn marked_variables(alloc: Global, wanted: &[Pair], barred: &[Pair]) -> Result<Vec<u64>, AllocError>
+fn marked_variables(alloc: Global, wanted: &[Pair], barred: &[Pair]) -> Result<Vec<Var>, AllocError>
     ensures in_order { IfOk result (λ vars. IsStrictlyIncreasing vars.items) }
     ensures marked { IfOk result (λ vars. (var : ℕ) → list_any (λ v. v == var) vars.items ≡ (list_any (λ p. p.var == var) wanted.now || list_any (λ p. p.var == var) barred.now)) }
 {
@@ -41,7 +42,7 @@ fn marked_variables(alloc: Global, wanted: &[Pair], barred: &[Pair]) -> Result<V
     Ok(vars)
 }
 
-fn variables(alloc: Global, wanted: &[Pair], barred: &[Pair]) -> Result<Vec<u64>, AllocError>
+fn variables(alloc: Global, wanted: &[Pair], barred: &[Pair]) -> Result<Vec<Var>, AllocError>
     ensures { IfOk result (λ vars. vars.items ≡ map (λ p. p.var) (wanted.now ++ barred.now)) }
 {
     wanted
@@ -63,7 +64,7 @@ fn rise(places: &[Pair]) -> bool
 pub fn split(
     alloc: Global,
     index: &Index,
-    literals: &Cond<u64>,
+    literals: &Cond<FactNumber>,
 ) -> Result<Vec<List<Pair>>, AllocError>
     ensures split { IfOk result (λ all. all.items ≡ words.split index.now literals.now) }
     ensures by_variable { IfOk result (λ all. All (IsNonDecreasingBy (λ p. p.var)) all.items) }
@@ -111,7 +112,7 @@ fn pool_at(
     index: &Index,
     wanted: &[Pair],
     barred: &[Pair],
-    var: u64,
+    var: Var,
 ) -> Result<Vec<Pair>, AllocError>
     requires wanted_in_order { IsNonDecreasingBy (λ p. p.var) wanted.now }
     requires barred_in_order { IsNonDecreasingBy (λ p. p.var) barred.now }

@@ -24,7 +24,7 @@ use fdr_effects::groups::groups;
 use group_cover::{Cover, Groups};
 use lists::List;
 use reached_task::Reached;
-use sas_task::{Group, Operator, Pair, Rule, SasTask, Variable};
+use sas_task::{Group, Operator, Pair, Rule, SasTask, Value, Variable};
 use std::alloc::{AllocError, Global};
 use std::mem::replace;
 
@@ -192,7 +192,7 @@ fn state(
     reached: &Reached,
     index: &Index,
     goal: &GoalForm,
-) -> Result<List<u64>, AllocError>
+) -> Result<List<Value>, AllocError>
     requires { IsLawful reached.now }
     ensures { (var layer : ℕ) → IfOk result (λ all. all ≡ values_in index.now (initial (reached_task reached.now)) ++ (goal_part_in var layer goal.now).values) }
 {

@@ -8,7 +8,8 @@ use crate::operators::push_rules;
 use fdr_effects::{Index, split};
 use ground_task::GoalRow;
 use lists::{List, Text};
-use sas_task::{Pair, Rule, Variable};
+use reached_task::FactNumber;
+use sas_task::{Pair, Rule, Var, Variable};
 use std::alloc::{AllocError, Global};
 
 /// The form that the goal has in the task.
@@ -24,7 +25,7 @@ pub(crate) enum GoalForm {
 pub(crate) fn goal_form(
     alloc: Global,
     index: &Index,
-    goal: &GoalRow<u64>,
+    goal: &GoalRow<FactNumber>,
 ) -> Result<GoalForm, AllocError>
     ensures { (var layer : ℕ) → IfOk result (λ form. words.goal_part_in var layer form ≡ parts.goal_part var layer (parts.goal_split index.now goal.now)) }
 {
@@ -36,7 +37,7 @@ pub(crate) fn goal_form(
 fn goal_split(
     alloc: Global,
     index: &Index,
-    goal: &GoalRow<u64>,
+    goal: &GoalRow<FactNumber>,
 ) -> Result<Vec<List<Pair>>, AllocError>
     ensures { IfOk result (λ all. all.items ≡ parts.goal_split index.now goal.now) }
 {
@@ -101,7 +102,7 @@ impl GoalForm {
         &self,
         alloc: Global,
         out: &mut Vec<Rule>,
-        var: u64,
+        var: Var,
     ) -> Result<(), AllocError>
         ensures { (layer : ℕ) → OnOk result (out.new.items ≡ out.old.items ++ (words.goal_part_in var layer self.now).rules) }
     {
@@ -112,7 +113,7 @@ impl GoalForm {
     }
 
     /// The goal of the task, where the goal's variable, if it has one, is `var`.
-    pub(crate) fn pairs(&self, alloc: Global, var: u64) -> Result<List<Pair>, AllocError>
+    pub(crate) fn pairs(&self, alloc: Global, var: Var) -> Result<List<Pair>, AllocError>
         ensures { (layer : ℕ) → IfOk result (λ goal. goal ≡ (words.goal_part_in var layer self.now).goal) }
     {
         let pairs = match self {

@@ -3,11 +3,11 @@ ghost use Rattle.std.specs.Prelude.{◌≡◌, ◌∷◌, IfOk, OnOk};
 ghost use Rattle.normal_task.specs.Meaning.{answers as answers_so, object_at as object_of, objects_at as objects_of, atom_of};
 
 use atom_objects::Objects;
-use normal_task::{GroundAtom, Place};
+use normal_task::{GroundAtom, Object, Place, Predicate};
 use std::alloc::{AllocError, Global};
 
 /// The object that stands at the place.
-pub fn object_at(binding: &[u64], place: &Place) -> u64
+pub fn object_at(binding: &[Object], place: &Place) -> Object
     ensures { result ≡ object_of binding.now place.now }
 {
     match place {
@@ -20,7 +20,7 @@ pub fn object_at(binding: &[u64], place: &Place) -> u64
 }
 
 /// The objects that stand at the places.
-fn objects_at(alloc: Global, binding: &[u64], places: &[Place]) -> Result<Objects, AllocError>
+fn objects_at(alloc: Global, binding: &[Object], places: &[Place]) -> Result<Objects, AllocError>
     ensures { IfOk result (λ objects. objects ≡ objects_of binding.now places.now) }
 {
     let mut objects = Objects::new(alloc);
@@ -33,8 +33,8 @@ fn objects_at(alloc: Global, binding: &[u64], places: &[Place]) -> Result<Object
 /// The atom of the predicate with the objects that stand at the places.
 pub fn atom(
     alloc: Global,
-    binding: &[u64],
-    predicate: u64,
+    binding: &[Object],
+    predicate: Predicate,
     places: &[Place],
 ) -> Result<GroundAtom, AllocError>
     ensures { IfOk result (λ atom. atom ≡ atom_of predicate (objects_of binding.now places.now)) }
@@ -48,7 +48,7 @@ pub fn atom(
 /// Makes it the key of the predicate or function with the objects that stand at the places.
 pub fn set_key(
     key: &mut Vec<u64>,
-    binding: &[u64],
+    binding: &[Object],
     number: u64,
     places: &[Place],
 ) -> Result<(), AllocError>

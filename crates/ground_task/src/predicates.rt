@@ -2,10 +2,10 @@
 ghost use Rattle.std.specs.Prelude.{◌≡◌};
 ghost use Rattle.normal_task.specs.Meaning.{is_derived_among};
 
-use normal_task::PredicateRow;
+use normal_task::{Predicate, PredicateRow};
 
 /// Whether the predicate is derived. A number that no predicate has is none.
-pub fn is_derived(predicates: &[PredicateRow], predicate: u64) -> bool
+pub fn is_derived(predicates: &[PredicateRow], predicate: Predicate) -> bool
     ensures { result ≡ is_derived_among predicates.now predicate }
 {
     match predicates.get(predicate as usize) {

@@ -7,7 +7,7 @@ ghost use Rattle.invariant_check.specs.Touched as spec;
 
 use crate::types::AddOf;
 use contradictions::Candidate;
-use normal_task::{Normal, Schema};
+use normal_task::{Normal, Predicate, Schema};
 use std::alloc::{AllocError, Global};
 
 /// A task with its add effects by predicate. With it a candidate looks at those schemas alone that add atoms of its
@@ -67,7 +67,7 @@ impl<'a> AddTable<'a> {
 }
 
 /// The add effects on the predicate.
-fn adds_on(adds: &[AddOf], predicate: u64) -> &[AddOf]
+fn adds_on(adds: &[AddOf], predicate: Predicate) -> &[AddOf]
     requires { IsNonDecreasingBy (λ add. add.predicate) adds.now }
     ensures { result.now ≡ filter (λ add. nat_eq add.predicate predicate) adds.now }
 {

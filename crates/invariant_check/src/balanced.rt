@@ -20,7 +20,7 @@ use contradictions::{
     is_same_place, push_denied, renamed_row, terms_at, zipped,
 };
 use lists::List;
-use normal_task::{EffectRow, Literal, Normal, Place, Schema};
+use normal_task::{EffectRow, Literal, Normal, Place, Predicate, Schema};
 use std::alloc::{AllocError, Global};
 
 /// An add effect of a schema: the literals that are required where it adds, and the terms of its instance.
@@ -77,7 +77,7 @@ fn are_listed(literals: &[Literal], some: &[Literal]) -> bool
 }
 
 /// The literal says that the atom of the predicate with these places is true.
-fn states(predicate: u64, places: &[Place], literal: &Literal) -> bool
+fn states(predicate: Predicate, places: &[Place], literal: &Literal) -> bool
     ensures { result ≡ spec.is_same_literal (Holds true predicate places.now) literal.now }
 {
     match literal {
@@ -88,7 +88,7 @@ fn states(predicate: u64, places: &[Place], literal: &Literal) -> bool
     }
 }
 
-fn is_stated(literals: &[Literal], predicate: u64, places: &[Place]) -> bool
+fn is_stated(literals: &[Literal], predicate: Predicate, places: &[Place]) -> bool
     ensures { result ≡ spec.is_listed literals.now (Holds true predicate places.now) }
 {
     literals
@@ -115,7 +115,7 @@ fn is_at(positions: &[u64], places: &[Place], instance: &[Place]) -> bool
 fn is_at_instance(
     candidate: &Candidate,
     instance: &[Place],
-    predicate: u64,
+    predicate: Predicate,
     places: &[Place],
 ) -> bool
     ensures { result ≡ words.is_at_instance candidate.now instance.now predicate places.now }
@@ -147,7 +147,7 @@ fn leaves_deleted(
     alloc: Global,
     candidate: &Candidate,
     add: &Add<'_>,
-    predicate: u64,
+    predicate: Predicate,
     places: &[Place],
     row: &EffectRow,
 ) -> Result<bool, AllocError>
@@ -189,7 +189,7 @@ fn is_left_deleted(
     alloc: Global,
     candidate: &Candidate,
     add: &Add<'_>,
-    predicate: u64,
+    predicate: Predicate,
     places: &[Place],
 ) -> Result<bool, AllocError>
     ensures { IfOk result (λ answer. answer ≡ list_all (λ a. words.leaves_deleted candidate.now add.now.schema.now add.now.row.now add.now.required.now add.now.instance.now predicate places.now

@@ -14,7 +14,7 @@ use crate::near::near;
 use crate::types::{AddPlace, Verdict};
 use contradictions::{Candidate, Part};
 use lists::List;
-use normal_task::{EffectRow, Literal, Normal, Schema};
+use normal_task::{EffectRow, Literal, Normal, Predicate, Schema};
 use std::alloc::{AllocError, Global};
 
 // ---- the first add that isn't balanced
@@ -137,7 +137,7 @@ fn balances_add(
 // ---- the predicates that a repair may be of
 
 /// The literal says that an atom of the predicate is true.
-fn needs(predicate: u64, literal: &Literal) -> bool
+fn needs(predicate: Predicate, literal: &Literal) -> bool
     ensures { result ≡ beside.needs predicate literal.now }
 {
     match literal {
@@ -146,7 +146,7 @@ fn needs(predicate: u64, literal: &Literal) -> bool
     }
 }
 
-fn is_needed(literals: &[Literal], predicate: u64) -> bool
+fn is_needed(literals: &[Literal], predicate: Predicate) -> bool
     ensures { result ≡ list_any (beside.needs predicate) literals.now }
 {
     literals.iter().any(|literal| needs(predicate, literal))
@@ -197,7 +197,7 @@ fn predicates_beside(
     normal: &Normal,
     candidate: &Candidate,
     place: &AddPlace,
-) -> Result<Vec<u64>, AllocError>
+) -> Result<Vec<Predicate>, AllocError>
     ensures { IfOk result (λ predicates. beside.repairs_among normal.now candidate.now place.now predicates.items ≡ spec.repairs_at normal.now candidate.now place.now) }
 {
     if may_be_balanced(normal, candidate, place) {

@@ -11,11 +11,11 @@ use crate::parts::{arity_of, first_above, left_by, push_candidates};
 use contradictions::{Candidate, Part, copies};
 use itertools::{Itertools, Permutations};
 use lists::List;
-use normal_task::{EffectRow, Normal, Schema};
+use normal_task::{EffectRow, Normal, Predicate, Schema};
 use std::alloc::{AllocError, Global};
 
 /// Whether effects change the predicate: it is basic and not static.
-fn is_changing(normal: &Normal, predicate: u64) -> bool
+fn is_changing(normal: &Normal, predicate: Predicate) -> bool
     ensures { result ≡ spec.is_changing normal.now predicate }
 {
     match normal.predicates.as_slice().get(predicate as usize) {
@@ -25,7 +25,7 @@ fn is_changing(normal: &Normal, predicate: u64) -> bool
 }
 
 /// The predicates that effects change, in their order.
-fn changing(alloc: Global, normal: &Normal) -> Result<Vec<u64>, AllocError>
+fn changing(alloc: Global, normal: &Normal) -> Result<Vec<Predicate>, AllocError>
     ensures { IfOk result (λ predicates. predicates.items ≡ spec.changing normal.now) }
 {
     let count = normal.predicates.as_slice().len() as u64;
@@ -63,7 +63,7 @@ fn orders(alloc: Global, positions: &[u64]) -> Result<Permutations<u64, Global>,
 fn push_orders(
     alloc: Global,
     parts: &mut Vec<Part>,
-    predicate: u64,
+    predicate: Predicate,
     counted: Option<u64>,
     positions: &[u64],
 ) -> Result<(), AllocError>
@@ -84,7 +84,7 @@ fn push_orders(
 fn push_parts_counting(
     alloc: Global,
     parts: &mut Vec<Part>,
-    predicate: u64,
+    predicate: Predicate,
     arity: u64,
     parameters: u64,
     counted: Option<u64>,
@@ -104,7 +104,7 @@ fn push_parts(
     parts: &mut Vec<Part>,
     normal: &Normal,
     parameters: u64,
-    predicate: u64,
+    predicate: Predicate,
 ) -> Result<(), AllocError>
     ensures { OnOk result (parts.new.items ≡ parts.old.items ++ spec.parts_of normal.now parameters predicate) }
 {
@@ -117,7 +117,7 @@ fn push_parts(
 }
 
 /// The candidate has a part of the predicate.
-pub(crate) fn has_predicate(candidate: &Candidate, predicate: u64) -> bool
+pub(crate) fn has_predicate(candidate: &Candidate, predicate: Predicate) -> bool
     ensures { result ≡ spec.has_predicate candidate.now predicate }
 {
     candidate
@@ -132,7 +132,7 @@ pub(crate) fn others(
     alloc: Global,
     normal: &Normal,
     candidate: &Candidate,
-) -> Result<Vec<u64>, AllocError>
+) -> Result<Vec<Predicate>, AllocError>
     ensures { IfOk result (λ predicates. predicates.items ≡ beside.others normal.now candidate.now) }
 {
     let predicates = changing(alloc, normal)?;
@@ -156,7 +156,7 @@ fn new_deletes(
     normal: &Normal,
     candidate: &Candidate,
     schema: &Schema,
-) -> Result<Vec<u64>, AllocError>
+) -> Result<Vec<Predicate>, AllocError>
     ensures { IfOk result (λ predicates. predicates.items ≡ map (λ row. row.predicate) (filter (λ row. not row.adds && spec.is_changing normal.now row.predicate && not (spec.has_predicate candidate.now row.predicate)) schema.now.effects)) }
 {
     schema
@@ -174,7 +174,7 @@ pub(crate) fn deleted(
     normal: &Normal,
     candidate: &Candidate,
     schema: &Schema,
-) -> Result<Vec<u64>, AllocError>
+) -> Result<Vec<Predicate>, AllocError>
     ensures { IfOk result (λ predicates. predicates.items ≡ filter (beside.deletes schema.now) (beside.others normal.now candidate.now)) }
 {
     let mut predicates = new_deletes(alloc, normal, candidate, schema)?;
@@ -188,7 +188,7 @@ pub(crate) fn parts_of(
     alloc: Global,
     normal: &Normal,
     candidate: &Candidate,
-    predicates: &[u64],
+    predicates: &[Predicate],
 ) -> Result<Vec<Part>, AllocError>
     ensures { IfOk result (λ parts. parts.items ≡ flat_map (spec.parts_of normal.now candidate.now.parameters) predicates.now) }
 {

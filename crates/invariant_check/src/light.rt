@@ -16,7 +16,7 @@ use contradictions::{
     Candidate, Case, Part, Ranges, Renamed, Renaming, classes, contradicts, is_same_place,
     push_denied, push_renamed, renamed_row, term_at, terms_at, zipped,
 };
-use normal_task::{EffectRow, Literal, Normal, Place, Schema};
+use normal_task::{EffectRow, Literal, Normal, Place, Predicate, Schema};
 use std::alloc::{AllocError, Global};
 
 /// Adds the literals as they are.
@@ -49,7 +49,7 @@ fn both_added(
     alloc: Global,
     schema: &Schema,
     row: &EffectRow,
-    predicate: u64,
+    predicate: Predicate,
     beside: &Renamed,
 ) -> Result<Vec<Literal>, AllocError>
     ensures { IfOk result (λ literals. literals.items ≡ schema.now.condition ++ (row.now.condition ++ (beside.now.condition.items

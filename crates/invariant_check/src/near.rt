@@ -6,11 +6,11 @@ ghost use Rattle.invariant_check.specs.Beside as spec;
 use crate::types::AddPlace;
 use contradictions::{Candidate, Part};
 use lists::List;
-use normal_task::{EffectRow, Literal, Normal, Schema};
+use normal_task::{EffectRow, Literal, Normal, Predicate, Schema};
 use std::alloc::{AllocError, Global};
 
 /// The literal is of the predicate.
-fn is_on(predicate: u64, literal: &Literal) -> bool
+fn is_on(predicate: Predicate, literal: &Literal) -> bool
     ensures { result ≡ spec.is_on predicate literal.now }
 {
     match literal {
@@ -19,26 +19,26 @@ fn is_on(predicate: u64, literal: &Literal) -> bool
     }
 }
 
-fn some_is_on(predicate: u64, literals: &[Literal]) -> bool
+fn some_is_on(predicate: Predicate, literals: &[Literal]) -> bool
     ensures { result ≡ list_any (spec.is_on predicate) literals.now }
 {
     literals.iter().any(|literal| is_on(predicate, literal))
 }
 
 /// The effect or its condition has an atom of the predicate.
-fn row_mentions(predicate: u64, row: &EffectRow) -> bool
+fn row_mentions(predicate: Predicate, row: &EffectRow) -> bool
     ensures { result ≡ spec.row_mentions predicate row.now }
 {
     predicate == row.predicate || some_is_on(predicate, row.condition.as_slice())
 }
 
-fn some_mentions(predicate: u64, rows: &[EffectRow]) -> bool
+fn some_mentions(predicate: Predicate, rows: &[EffectRow]) -> bool
     ensures { result ≡ list_any (spec.row_mentions predicate) rows.now }
 {
     rows.iter().any(|row| row_mentions(predicate, row))
 }
 
-fn mentions(schema: &Schema, predicate: u64) -> bool
+fn mentions(schema: &Schema, predicate: Predicate) -> bool
     ensures { result ≡ spec.mentions schema.now predicate }
 {
     some_is_on(predicate, schema.condition.as_slice())

@@ -7,11 +7,11 @@ ghost use Rattle.invariant_check.specs.Extensions as spec;
 
 use contradictions::{Candidate, Part, TermPair, are_same};
 use lists::List;
-use normal_task::{EffectRow, Normal, Place};
+use normal_task::{EffectRow, Normal, Place, Predicate};
 use std::alloc::{AllocError, Global};
 
 /// How many arguments the predicate has; none where there is no such predicate.
-pub(crate) fn arity_of(normal: &Normal, predicate: u64) -> u64
+pub(crate) fn arity_of(normal: &Normal, predicate: Predicate) -> u64
     ensures { result ≡ spec.arity_of normal.now predicate }
 {
     match normal.predicates.as_slice().get(predicate as usize) {
@@ -45,7 +45,7 @@ pub(crate) fn left_by(
 /// The candidate with one part, each position but the counted one a parameter in its turn.
 fn with_one(
     alloc: Global,
-    predicate: u64,
+    predicate: Predicate,
     arity: u64,
     counted: Option<u64>,
 ) -> Result<Candidate, AllocError>
@@ -70,7 +70,7 @@ pub(crate) fn push_candidates(
     alloc: Global,
     candidates: &mut Vec<Candidate>,
     normal: &Normal,
-    predicate: u64,
+    predicate: Predicate,
 ) -> Result<(), AllocError>
     ensures { OnOk result (candidates.new.items ≡ candidates.old.items ++ map (spec.with_one predicate (spec.arity_of normal.now predicate)) (spec.countings (spec.arity_of normal.now predicate))) }
 {
@@ -83,7 +83,7 @@ pub(crate) fn push_candidates(
 }
 
 /// Where the first of the parts stands that have a higher predicate.
-pub(crate) fn first_above(parts: &[Part], predicate: u64) -> Option<usize>
+pub(crate) fn first_above(parts: &[Part], predicate: Predicate) -> Option<usize>
     ensures { result ≡ position (λ other. nat_lt predicate other.predicate) parts.now }
 {
     parts.iter().position(|other| predicate < other.predicate)
@@ -92,7 +92,7 @@ pub(crate) fn first_above(parts: &[Part], predicate: u64) -> Option<usize>
 /// The atom of an add effect.
 #[derive(Clone, Copy)]
 pub(crate) struct AddedAtom<'a> {
-    pub predicate: u64,
+    pub predicate: Predicate,
     pub places: &'a [Place],
 }
 
@@ -104,7 +104,7 @@ pub(crate) fn are_one(merges: &[TermPair], one: &AddedAtom<'_>, other: &AddedAto
 }
 
 /// The effect adds atoms of the predicate.
-pub(crate) fn is_add_of(row: &EffectRow, predicate: u64) -> bool
+pub(crate) fn is_add_of(row: &EffectRow, predicate: Predicate) -> bool
     ensures { result ≡ (row.now.adds && nat_eq row.now.predicate predicate) }
 {
     row.adds && row.predicate == predicate

@@ -8,7 +8,7 @@ ghost use Rattle.invariant_check.specs.Attempts as words;
 
 use contradictions::{Ranges, is_among, is_same_place, push_terms, range_of, term_at};
 use lists::List;
-use normal_task::{EffectRow, Literal, Normal, ObjectRange, Place};
+use normal_task::{EffectRow, Literal, Normal, ObjectRange, Place, Predicate};
 use std::alloc::{AllocError, Global};
 
 // ---- terms that fit
@@ -95,7 +95,7 @@ fn push_some_terms(
 /// Adds the place at the index, where the literal says that an atom of the predicate is true.
 fn push_stated(
     terms: &mut Vec<Place>,
-    predicate: u64,
+    predicate: Predicate,
     index: usize,
     literal: &Literal,
 ) -> Result<(), AllocError>
@@ -115,7 +115,7 @@ fn push_stated(
 /// What the literals state at the index.
 fn all_stated(
     alloc: Global,
-    predicate: u64,
+    predicate: Predicate,
     index: usize,
     required: &[Literal],
 ) -> Result<Vec<Place>, AllocError>

@@ -1,9 +1,10 @@
 // What the check says of a candidate, and the places of add effects.
+use normal_task::Predicate;
 
 /// An add effect, by its predicate and its schema.
 #[derive(Clone, Copy)]
 pub(crate) struct AddOf {
-    pub(crate) predicate: u64,
+    pub(crate) predicate: Predicate,
     pub(crate) schema: u64,
 }
 

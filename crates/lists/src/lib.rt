@@ -4,11 +4,13 @@
 
 mod list;
 mod rows;
+mod stop;
 mod sums;
 mod text;
 
 pub use list::List;
 pub use rows::Rows;
 pub use sqlite_items::Boxed;
+pub use stop::Stop;
 pub use sums::checked_sum;
 pub use text::Text;

@@ -14,7 +14,7 @@ use crate::tables::Weights;
 use contradictions::Candidate;
 use ground_task::Buckets;
 use group_cover::Groups;
-use normal_task::{GroundAtom, Normal};
+use normal_task::{GroundAtom, Normal, Object};
 use number_lists::NumberLists;
 use reached_task::{Fact, Reached};
 use std::alloc::{AllocError, Global};
@@ -22,7 +22,7 @@ use std::alloc::{AllocError, Global};
 /// Adds the facts that the instance covers, if it weighs one.
 fn add_covered(
     alloc: Global,
-    instance: &[u64],
+    instance: &[Object],
     weights: &Weights,
     members: &Buckets,
     groups: &mut NumberLists,

@@ -10,12 +10,12 @@ ghost use Rattle.mutex_groups.specs.Found as spec;
 use crate::tables::Weights;
 use contradictions::{Candidate, Part};
 use ground_task::Buckets;
-use normal_task::GroundAtom;
+use normal_task::{GroundAtom, Object};
 use reached_task::Fact;
 use std::alloc::{AllocError, Global};
 
 /// The objects at the places.
-fn objects_at(alloc: Global, places: &[u64], objects: &[u64]) -> Result<Vec<u64>, AllocError>
+fn objects_at(alloc: Global, places: &[u64], objects: &[Object]) -> Result<Vec<Object>, AllocError>
     ensures { IfOk result (λ found. found.items ≡ at_positions 0 places.now objects.now) }
 {
     places
@@ -36,7 +36,7 @@ pub(crate) fn instance_of(
     alloc: Global,
     candidate: &Candidate,
     atom: &GroundAtom,
-) -> Result<Option<Vec<u64>>, AllocError>
+) -> Result<Option<Vec<Object>>, AllocError>
     ensures { IfOk result (λ instance. option_map (λ objects. objects.items) instance ≡ spec.instance_of candidate.now atom.now) }
 {
     match part_of(candidate.parts.as_slice(), atom) {

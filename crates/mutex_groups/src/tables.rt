@@ -4,6 +4,7 @@ ghost use Rattle.names.specs.Names.{is_same};
 ghost use Rattle.mutex_groups.specs.Found.{told_more, is_one, weight_in};
 
 use indexmap::IndexMap;
+use normal_task::Object;
 use std::alloc::{AllocError, Global};
 use std::marker::Model;
 
@@ -39,7 +40,7 @@ impl Weights {
     }
 
     /// Counts one atom more that the instance covers.
-    pub(crate) fn count(&mut self, instance: Vec<u64>) -> Result<(), AllocError>
+    pub(crate) fn count(&mut self, instance: Vec<Object>) -> Result<(), AllocError>
         ensures { OnOk result ((other : Items ℕ) → weight_in self.new other ≡ (if is_same other instance.items then told_more (weight_in self.old other) else weight_in self.old other)) }
     {
         let weight = match self.weight(instance.as_slice()) {
@@ -51,14 +52,14 @@ impl Weights {
     }
 
     /// Whether the instance covers exactly one atom.
-    pub(crate) fn weighs_one(&self, instance: &[u64]) -> bool
+    pub(crate) fn weighs_one(&self, instance: &[Object]) -> bool
         ensures { result ≡ is_one (weight_in self.now instance.now) }
     {
         matches!(self.weight(instance), Some(Weight::One))
     }
 
     /// The weight of the instance.
-    fn weight(&self, instance: &[u64]) -> Option<Weight>
+    fn weight(&self, instance: &[Object]) -> Option<Weight>
         ensures { result ≡ weight_in self.now instance.now }
     {
         self.table.get(instance).copied()

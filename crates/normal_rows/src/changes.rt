@@ -4,14 +4,14 @@ ghost use Rattle.normal_rows.specs.Changes.{changed_row};
 
 use crate::parts::copied_places;
 use lists::List;
-use normal_task::{EffectRow, Part, Place};
+use normal_task::{EffectRow, Part, Place, Predicate};
 use std::alloc::{AllocError, Global};
 
 /// An atom that is added or deleted, by its number, and the places of its arguments.
 #[derive(Clone, Copy)]
 pub struct Change<'a> {
     pub adds: bool,
-    pub predicate: u64,
+    pub predicate: Predicate,
     pub places: &'a [Place],
 }
 

@@ -5,7 +5,7 @@ ghost use Rattle.normal_task.specs.Parts as spec;
 use crate::moved::moved_places;
 use crate::parts::{push_copied, push_moved, push_ranges};
 use lists::List;
-use normal_task::{AxiomRow, EffectRow, Literal, ObjectRange, Part};
+use normal_task::{AxiomRow, EffectRow, Literal, ObjectRange, Part, Predicate};
 use std::alloc::{AllocError, Global};
 
 /// The first list, and the second behind it.
@@ -96,7 +96,7 @@ pub fn moved_rows(
 /// An axiom of the predicate, whose arguments range over these lists, for the part.
 fn axiom_row(
     alloc: Global,
-    predicate: u64,
+    predicate: Predicate,
     arguments: &[ObjectRange],
     part: &Part,
 ) -> Result<AxiomRow, AllocError>
@@ -122,7 +122,7 @@ fn axiom_row(
 /// Adds an axiom of the predicate for each part.
 pub fn push_axioms(
     rows: &mut Vec<AxiomRow>,
-    predicate: u64,
+    predicate: Predicate,
     arguments: &[ObjectRange],
     parts: &[Part],
 ) -> Result<(), AllocError>

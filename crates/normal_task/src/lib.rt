@@ -9,6 +9,6 @@ mod task;
 pub use parts::{Fresh, Part};
 pub use range::ObjectRange;
 pub use task::{
-    AxiomRow, CostRow, EffectRow, GroundAtom, Literal, Normal, Place, PredicateRow, Schema,
-    ValueRow,
+    AxiomRow, CostRow, EffectRow, GroundAtom, Literal, Normal, Object, Place, Predicate,
+    PredicateRow, Schema, ValueRow,
 };

@@ -1,6 +1,7 @@
 // The objects that parameters and variables range over.
 ghost use Rattle.std.specs.Prelude.{◌≡◌, IfOk};
 
+use crate::task::Object;
 use std::alloc::{AllocError, Global};
 use std::marker::Model;
 use std::rc::Rc;
@@ -9,7 +10,7 @@ use std::rc::Rc;
 /// see the numbers, in order.
 #[derive(Drop)]
 pub struct ObjectRange {
-    objects: Rc<Vec<u64>>,
+    objects: Rc<Vec<Object>>,
 }
 
 impl Model for ObjectRange {
@@ -22,7 +23,7 @@ impl Model for ObjectRange {
 
 impl ObjectRange {
     /// The range of these objects.
-    pub fn from_vec(alloc: Global, objects: Vec<u64>) -> Result<ObjectRange, AllocError>
+    pub fn from_vec(alloc: Global, objects: Vec<Object>) -> Result<ObjectRange, AllocError>
         ensures { IfOk result (λ range. range ≡ objects.items) }
     {
         Ok(ObjectRange {
@@ -40,7 +41,7 @@ impl ObjectRange {
     }
 
     /// The objects.
-    pub fn as_slice(&self) -> &[u64]
+    pub fn as_slice(&self) -> &[Object]
         ensures { result.now ≡ self.now }
     {
         self.objects.as_ref().as_slice()

@@ -6,11 +6,11 @@ ghost use Rattle.sas_task.specs.Pairs.{pair};
 ghost use Rattle.pass_possible.specs.Possible as possible;
 ghost use Rattle.pass_h2.specs.Facts as words;
 
-use sas_task::{Effect, Operator, Pair, SasTask};
+use sas_task::{Effect, Operator, Pair, SasTask, Value, Var};
 use std::alloc::{AllocError, Global};
 
 /// Adds the facts of the variable with this many values.
-fn add_facts(facts: &mut Vec<Pair>, var: u64, count: u64) -> Result<(), AllocError>
+fn add_facts(facts: &mut Vec<Pair>, var: Var, count: u64) -> Result<(), AllocError>
     ensures { OnOk result (facts.new.items ≡ facts.old.items ++ map (pair var) (range_with_len 0 count)) }
 {
     for val in 0..count {
@@ -19,7 +19,7 @@ fn add_facts(facts: &mut Vec<Pair>, var: u64, count: u64) -> Result<(), AllocErr
     Ok(())
 }
 
-fn add_facts_of(facts: &mut Vec<Pair>, task: &SasTask, var: u64) -> Result<(), AllocError>
+fn add_facts_of(facts: &mut Vec<Pair>, task: &SasTask, var: Var) -> Result<(), AllocError>
     requires { var < length task.now.variables }
     ensures { OnOk result (facts.new.items ≡ facts.old.items ++ words.facts_at task.now var) }
 {
@@ -112,7 +112,7 @@ pub(crate) fn is_plain(task: &SasTask) -> bool
 }
 
 /// Whether the value is in the goal.
-pub(crate) fn is_in_goal(goal: &[Pair], var: u64, val: u64) -> bool
+pub(crate) fn is_in_goal(goal: &[Pair], var: Var, val: Value) -> bool
     ensures { result ≡ list_any (λ p. (p.var == var) && (p.val == val)) goal.now }
 {
     goal.iter().any(|pair| pair.var == var && pair.val == val)

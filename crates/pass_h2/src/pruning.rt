@@ -14,11 +14,11 @@ use crate::search::{is_possible, mark_possible};
 use crate::table::Table;
 use lists::List;
 use sas_restriction::{Chosen, Once, numbers_below, restrict};
-use sas_task::{Operator, Pair, SasTask, is_valid};
+use sas_task::{Operator, Pair, SasTask, Value, Var, is_valid};
 use std::alloc::{AllocError, Global};
 
 /// Whether the value is possible or in the goal.
-fn is_wanted(table: &Table, goal: &[Pair], var: u64, val: u64) -> bool
+fn is_wanted(table: &Table, goal: &[Pair], var: Var, val: Value) -> bool
     ensures { result ≡ (found table.now (record { var = var; val = val }) (record { var = var; val = val }) || list_any (λ p. (p.var == var) && (p.val == val)) goal.now) }
 {
     let fact = Pair { var, val };
@@ -30,9 +30,9 @@ fn wanted_below(
     alloc: Global,
     table: &Table,
     goal: &[Pair],
-    var: u64,
+    var: Var,
     count: u64,
-) -> Result<Vec<u64>, AllocError>
+) -> Result<Vec<Value>, AllocError>
     ensures { IfOk result (λ values. values.items ≡ filter (λ val. found table.now (record { var = var; val = val }) (record { var = var; val = val }) || list_any (λ p. (p.var == var) && (p.val == val)) goal.now) (range_with_len 0 count)) }
 {
     (0..count)
@@ -41,7 +41,7 @@ fn wanted_below(
 }
 
 /// The values of the variable that are possible or in the goal.
-fn wanted(alloc: Global, table: &Table, task: &SasTask, var: u64) -> Result<List<u64>, AllocError>
+fn wanted(alloc: Global, table: &Table, task: &SasTask, var: Var) -> Result<List<Value>, AllocError>
     requires { var < length task.now.variables }
     ensures { IfOk result (λ values. values ≡ filter (pruned.is_wanted (found table.now) task.now var) (all_values task.now var)) }
 {
@@ -55,7 +55,7 @@ fn wanted_of_each(
     alloc: Global,
     table: &Table,
     task: &SasTask,
-) -> Result<Vec<List<u64>>, AllocError>
+) -> Result<Vec<List<Value>>, AllocError>
     ensures { IfOk result (λ values. values.items ≡ map (λ var. filter (pruned.is_wanted (found table.now) task.now var) (all_values task.now var)) (range_with_len 0 (length task.now.variables))) }
 {
     let mut values = Vec::new(alloc);

@@ -7,11 +7,11 @@ ghost use Rattle.sas_restriction.specs.Relevant.{AreRelevant};
 use crate::influences::influences;
 use graph_search::reached;
 use lists::checked_sum;
-use sas_task::{Pair, SasTask};
+use sas_task::{Pair, SasTask, Var};
 use std::alloc::{AllocError, Global};
 
 /// The variables of the pairs.
-fn variables_of(alloc: Global, pairs: &[Pair]) -> Result<Vec<u64>, AllocError>
+fn variables_of(alloc: Global, pairs: &[Pair]) -> Result<Vec<Var>, AllocError>
     ensures { IfOk result (λ vars. vars.items ≡ map (λ p. p.var) pairs.now) }
 {
     pairs.iter().map(|pair| pair.var).collect(alloc)
@@ -29,7 +29,7 @@ fn below(alloc: Global, numbers: &[u64], count: u64) -> Result<Vec<u64>, AllocEr
 }
 
 /// The relevant variables, in order.
-pub(crate) fn relevant_variables(alloc: Global, task: &SasTask) -> Result<Vec<u64>, AllocError>
+pub(crate) fn relevant_variables(alloc: Global, task: &SasTask) -> Result<Vec<Var>, AllocError>
     requires { IsValid task.now }
     ensures { IfOk result (λ vars. AreRelevant task.now vars.items) }
 {

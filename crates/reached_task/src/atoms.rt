@@ -5,15 +5,16 @@ ghost use Rattle.reached_task.specs.AtomKeys.{atom_of};
 ghost use Rattle.reached_task.specs.Reachable.{is_among, number_of, fact_cmp};
 ghost use Rattle.reached_task.specs.Rules.{added};
 
+use crate::types::FactNumber;
 use indexmap::IndexSet;
-use normal_task::GroundAtom;
+use normal_task::{GroundAtom, Object, Predicate};
 use std::alloc::{AllocError, Global};
 use std::marker::Model;
 
 /// A set of atoms, each as its predicate and its objects. A look-up goes through a table. Contracts see the atoms, each once,
 /// in the order in which they stand.
 pub struct Atoms<'a> {
-    table: IndexSet<(u64, &'a [u64])>,
+    table: IndexSet<(Predicate, &'a [Object])>,
 }
 
 impl Drop for Atoms<'_> {
@@ -32,7 +33,7 @@ impl<'a> Model for Atoms<'a> {
     ghost view = { λ atoms. map atom_of atoms.table.keys };
 }
 
-fn key<'a>(atom: &'a GroundAtom) -> (u64, &'a [u64])
+fn key<'a>(atom: &'a GroundAtom) -> (Predicate, &'a [Object])
     ensures { atom_of result ≡ atom.now }
 {
     (atom.predicate, atom.objects.as_slice())
@@ -56,7 +57,7 @@ impl<'a> Atoms<'a> {
     }
 
     /// The atoms, each as its predicate and its objects.
-    pub fn as_slice(&self) -> &[(u64, &'a [u64])]
+    pub fn as_slice(&self) -> &[(Predicate, &'a [Object])]
         ensures { map atom_of result.now ≡ self.now }
     {
         self.table.as_slice()
@@ -80,7 +81,7 @@ impl<'a> Atoms<'a> {
     }
 
     /// The atom at the position.
-    pub fn at(&self, place: usize) -> (u64, &'a [u64])
+    pub fn at(&self, place: usize) -> (Predicate, &'a [Object])
         requires { place < length self.now }
         ensures { atom_of result ≡ slice_index_or self.now place (atom_of result) }
     {
@@ -88,7 +89,7 @@ impl<'a> Atoms<'a> {
     }
 
     /// The atom's position, or how many atoms there are if it isn't in the set.
-    pub fn position(&self, atom: (u64, &[u64])) -> usize
+    pub fn position(&self, atom: (Predicate, &[Object])) -> usize
         ensures { result ≡ number_of self.now (atom_of atom.entry) }
     {
         match self.table.get_index_of(&atom) {
@@ -98,7 +99,7 @@ impl<'a> Atoms<'a> {
     }
 
     /// The atom's position, counted from 0, if it is in the set.
-    pub fn number(&self, atom: &GroundAtom) -> Option<u64>
+    pub fn number(&self, atom: &GroundAtom) -> Option<FactNumber>
         ensures { result ≡ (if is_among self.now atom.now then Some (number_of self.now atom.now) else None) }
     {
         match self.table.get_index_of(&key(atom)) {

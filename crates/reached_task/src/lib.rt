@@ -10,4 +10,4 @@ mod types;
 pub use atoms::Atoms;
 pub use shown::facts;
 pub use steps::Steps;
-pub use types::{Fact, Reached, ReachedAction, ReachedAxiom, ReachedEffect};
+pub use types::{Fact, FactNumber, Reached, ReachedAction, ReachedAxiom, ReachedEffect};

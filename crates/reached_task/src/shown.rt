@@ -8,11 +8,11 @@ use crate::types::Fact;
 use atom_objects::Objects;
 use ground_task::{Ground, is_derived};
 use lists::{List, Text};
-use normal_task::GroundAtom;
+use normal_task::{GroundAtom, Object, Predicate};
 use std::alloc::{AllocError, Global};
 
 /// Adds the object's name to the text.
-fn push_object(text: &mut Vec<u8>, task: &Ground, object: u64) -> Result<(), AllocError>
+fn push_object(text: &mut Vec<u8>, task: &Ground, object: Object) -> Result<(), AllocError>
     ensures { OnOk result (text.new.items ≡ text.old.items ++ object_of task.now object) }
 {
     if let Some(name) = task.objects.as_slice().get(object as usize) {
@@ -22,7 +22,7 @@ fn push_object(text: &mut Vec<u8>, task: &Ground, object: u64) -> Result<(), All
 }
 
 /// Adds each object's name to the text, after a comma and a space.
-fn push_more(text: &mut Vec<u8>, task: &Ground, objects: &[u64]) -> Result<(), AllocError>
+fn push_more(text: &mut Vec<u8>, task: &Ground, objects: &[Object]) -> Result<(), AllocError>
     ensures { OnOk result (text.new.items ≡ text.old.items ++ flat_map (λ object. codes ", " ++ object_of task.now object) objects.now) }
 {
     for object in objects {
@@ -33,7 +33,7 @@ fn push_more(text: &mut Vec<u8>, task: &Ground, objects: &[u64]) -> Result<(), A
 }
 
 /// Adds the objects' names to the text, with a comma and a space between any two.
-fn push_joined(text: &mut Vec<u8>, task: &Ground, objects: &[u64]) -> Result<(), AllocError>
+fn push_joined(text: &mut Vec<u8>, task: &Ground, objects: &[Object]) -> Result<(), AllocError>
     ensures { OnOk result (text.new.items ≡ text.old.items ++ joined task.now objects.now) }
 {
     if let [first, more @ ..] = objects {
@@ -44,7 +44,7 @@ fn push_joined(text: &mut Vec<u8>, task: &Ground, objects: &[u64]) -> Result<(),
 }
 
 /// The name of the atom's predicate.
-fn push_predicate(text: &mut Vec<u8>, task: &Ground, predicate: u64) -> Result<(), AllocError>
+fn push_predicate(text: &mut Vec<u8>, task: &Ground, predicate: Predicate) -> Result<(), AllocError>
     ensures { OnOk result (text.new.items ≡ text.old.items ++ predicate_name task.now predicate) }
 {
     if let Some(row) = task.normal_predicates.as_slice().get(predicate as usize) {
@@ -57,8 +57,8 @@ fn push_predicate(text: &mut Vec<u8>, task: &Ground, predicate: u64) -> Result<(
 fn show(
     text: &mut Vec<u8>,
     task: &Ground,
-    predicate: u64,
-    objects: &[u64],
+    predicate: Predicate,
+    objects: &[Object],
 ) -> Result<(), AllocError>
     ensures { OnOk result (text.new.items ≡ shown_atom task.now (record { predicate = predicate; objects = objects.now })) }
 {
@@ -74,8 +74,8 @@ fn fact(
     alloc: Global,
     room: &mut Vec<u8>,
     task: &Ground,
-    predicate: u64,
-    objects: &[u64],
+    predicate: Predicate,
+    objects: &[Object],
 ) -> Result<Fact, AllocError>
     ensures { IfOk result (λ fact. fact ≡ fact_of task.now (record { predicate = predicate; objects = objects.now })) }
 {

@@ -6,6 +6,9 @@ use ground_task::{Cond, GoalRow};
 use lists::{List, Text};
 use normal_task::GroundAtom;
 
+/// A fact, by its position among the facts of a reached task.
+pub type FactNumber = u64;
+
 /// A reachable atom. It is shown as `p(a, b)`.
 #[derive(Drop)]
 pub struct Fact {
@@ -17,16 +20,16 @@ pub struct Fact {
 /// An effect that adds or deletes a fact where its own condition holds.
 #[derive(Drop)]
 pub struct ReachedEffect {
-    pub condition: Cond<u64>,
+    pub condition: Cond<FactNumber>,
     pub adds: bool,
-    pub fact: u64,
+    pub fact: FactNumber,
 }
 
 /// An action with objects that can be reached.
 #[derive(Drop)]
 pub struct ReachedAction {
     pub name: Text,
-    pub condition: Cond<u64>,
+    pub condition: Cond<FactNumber>,
     pub effects: List<ReachedEffect>,
     pub cost: u64,
 }
@@ -34,17 +37,17 @@ pub struct ReachedAction {
 /// An axiom with objects that can be reached: its fact is true where its condition holds.
 #[derive(Drop)]
 pub struct ReachedAxiom {
-    pub fact: u64,
-    pub condition: Cond<u64>,
+    pub fact: FactNumber,
+    pub condition: Cond<FactNumber>,
 }
 
 /// A reached task. Each number but a cost is a position in `facts`.
 pub struct Reached {
     pub facts: List<Fact>,
-    pub init: List<u64>,
+    pub init: List<FactNumber>,
     pub actions: List<ReachedAction>,
     pub axioms: List<ReachedAxiom>,
-    pub goal: GoalRow<u64>,
+    pub goal: GoalRow<FactNumber>,
     pub metric: bool,
 }
 
@@ -63,7 +66,7 @@ impl Drop for Reached {
 
 impl Reached {
     /// Whether the fact is derived. A number that no fact has is none.
-    pub fn is_derived(&self, fact: u64) -> bool
+    pub fn is_derived(&self, fact: FactNumber) -> bool
         ensures { result ≡ is_derived self.now.facts fact }
     {
         match self.facts.as_slice().get(fact as usize) {

@@ -13,7 +13,7 @@ use crate::parts::{conditions, effect_conditions, value};
 use crate::reader::Reader;
 use crate::requirements::Requirements;
 use crate::values::{is_value, layer_of};
-use sas_task::{Effect, List, Operator, Pair, Variable};
+use sas_task::{Effect, List, Operator, Pair, Value, Var, Variable};
 use std::alloc::Global;
 
 /// The line of an operator's name, which may have one space more at its end.
@@ -30,8 +30,8 @@ fn name<'a>(reader: &mut Reader<'a>) -> Result<&'a [u8], ReadTaskEnd>
 fn required_value(
     reader: &mut Reader<'_>,
     variables: &[Variable],
-    var: u64,
-) -> Result<Option<u64>, ReadTaskEnd>
+    var: Var,
+) -> Result<Option<Value>, ReadTaskEnd>
     ensures { Gives (λ x. x) result reader.new (operators.required_value (so_far variables.now []) var reader.old) }
 {
     let required = reader.number_or_none()?;
@@ -50,7 +50,7 @@ fn effect_words(
     reader: &mut Reader<'_>,
     variables: &[Variable],
     required: &Requirements,
-) -> Result<(Effect, Option<u64>), ReadTaskEnd>
+) -> Result<(Effect, Option<Value>), ReadTaskEnd>
     ensures { Gives (λ x. x) result reader.new (operators.effect (so_far variables.now []) required.now.0 required.now.1 reader.old) }
 {
     let conditions = effect_conditions(alloc, reader, variables)?;
@@ -72,7 +72,7 @@ fn effect_line(
     reader: &mut Reader<'_>,
     variables: &[Variable],
     required: &Requirements,
-) -> Result<(Effect, Option<u64>), ReadTaskEnd>
+) -> Result<(Effect, Option<Value>), ReadTaskEnd>
     ensures { Gives (λ x. x) result reader.new (line (operators.effect (so_far variables.now []) required.now.0 required.now.1) reader.old) }
 {
     reader.begin_words()?;

@@ -9,7 +9,7 @@ ghost use Rattle.sas_reader.specs.Pairs as parts;
 use crate::fault::ReadTaskEnd;
 use crate::reader::Reader;
 use crate::values::{is_next_condition, is_next_fact, is_value};
-use sas_task::{List, Pair, Variable};
+use sas_task::{List, Pair, Value, Var, Variable};
 use std::alloc::Global;
 
 /// A word that is a value of the variable.
@@ -17,8 +17,8 @@ use std::alloc::Global;
 pub(crate) fn value(
     reader: &mut Reader<'_>,
     variables: &[Variable],
-    var: u64,
-) -> Result<u64, ReadTaskEnd>
+    var: Var,
+) -> Result<Value, ReadTaskEnd>
     ensures { Gives (λ x. x) result reader.new (parts.value (so_far variables.now []) var reader.old) }
 {
     let val = reader.number()?;

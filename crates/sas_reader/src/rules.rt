@@ -13,7 +13,7 @@ use crate::parts::{conditions, value};
 use crate::reader::Reader;
 use crate::tables::note;
 use crate::values::{is_below, layer_of};
-use sas_task::{List, Pair, Rule, Variable};
+use sas_task::{List, Pair, Rule, Var, Variable};
 use std::alloc::{AllocError, Global};
 use std::collections::BTreeMap;
 use std::marker::Model;
@@ -58,7 +58,7 @@ impl RulesSoFar {
     }
 
     /// Whether the new value is that of the earlier rules for the variable.
-    fn is_same_after(&self, var: u64, after: u64) -> bool
+    fn is_same_after(&self, var: Var, after: u64) -> bool
         ensures { result ≡ option_map_or (λ same. same.after == after) (find (λ same. same.var == var) self.now) true }
     {
         match self.afters.get(&var) {
@@ -89,14 +89,14 @@ impl RulesSoFar {
 }
 
 /// Whether the conditions are on basic variables and on variables of lower layers than this one's.
-fn are_below(variables: &[Variable], var: u64, conditions: &[Pair]) -> bool
+fn are_below(variables: &[Variable], var: Var, conditions: &[Pair]) -> bool
     ensures { result ≡ list_all (is_below (so_far variables.now []) var) conditions.now }
 {
     conditions.iter().all(|pair| is_below(variables, var, pair))
 }
 
 /// Whether the number is the value of the variable in the state.
-fn is_default(state: &[u64], var: u64, value: u64) -> bool
+fn is_default(state: &[u64], var: Var, value: u64) -> bool
     ensures { var < length state.now → result ≡ (value == slice_index state.now var) }
 {
     state.get(var as usize).copied() == Some(value)

@@ -13,7 +13,7 @@ use crate::numbers::{is_name, number, text};
 use crate::parts::{conditions, fact_lines};
 use crate::reader::Reader;
 use crate::values::is_value;
-use sas_task::{Group, List, Pair, Text, Variable};
+use sas_task::{Group, List, Pair, Text, Value, Var, Variable};
 use std::alloc::Global;
 
 /// The section of the version.
@@ -174,8 +174,8 @@ pub(crate) fn group_section(
 fn state_value(
     reader: &mut Reader<'_>,
     variables: &[Variable],
-    var: u64,
-) -> Result<u64, ReadTaskEnd>
+    var: Var,
+) -> Result<Value, ReadTaskEnd>
     ensures { Gives (λ x. x) result reader.new (sections.state_value (so_far variables.now []) var reader.old) }
 {
     let val = reader.number_line()?;
@@ -187,7 +187,7 @@ fn state_values(
     alloc: Global,
     reader: &mut Reader<'_>,
     variables: &[Variable],
-) -> Result<List<u64>, ReadTaskEnd>
+) -> Result<List<Value>, ReadTaskEnd>
     ensures { Gives (λ x. x) result reader.new (listed (λ before. sections.state_value (so_far variables.now []) (length before)) (length variables.now) [] reader.old) }
 {
     let mut values = Vec::new(alloc);
@@ -203,7 +203,7 @@ pub(crate) fn state_section(
     alloc: Global,
     reader: &mut Reader<'_>,
     variables: &[Variable],
-) -> Result<List<u64>, ReadTaskEnd>
+) -> Result<List<Value>, ReadTaskEnd>
     ensures { Gives (λ x. x) result reader.new (sections.state (so_far variables.now []) reader.old) }
 {
     reader.fixed(b"begin_state")?;

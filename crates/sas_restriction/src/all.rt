@@ -6,7 +6,7 @@ ghost use Rattle.sas_restriction.specs.Everything as everything;
 
 use crate::chosen::Chosen;
 use lists::List;
-use sas_task::SasTask;
+use sas_task::{SasTask, Value, Var};
 use std::alloc::{AllocError, Global};
 
 /// The numbers below this one, in order.
@@ -17,7 +17,7 @@ pub fn numbers_below(alloc: Global, count: u64) -> Result<Vec<u64>, AllocError>
 }
 
 /// All values of the variable.
-fn values_of(alloc: Global, task: &SasTask, var: u64) -> Result<List<u64>, AllocError>
+fn values_of(alloc: Global, task: &SasTask, var: Var) -> Result<List<Value>, AllocError>
     requires { var < length task.now.variables }
     ensures { IfOk result (λ values. values ≡ everything.all_values task.now var) }
 {
@@ -26,7 +26,7 @@ fn values_of(alloc: Global, task: &SasTask, var: u64) -> Result<List<u64>, Alloc
 }
 
 /// All values of each variable.
-fn values_of_each(alloc: Global, task: &SasTask) -> Result<Vec<List<u64>>, AllocError>
+fn values_of_each(alloc: Global, task: &SasTask) -> Result<Vec<List<Value>>, AllocError>
     ensures { IfOk result (λ values. values.items ≡ map (everything.all_values task.now) (range_with_len 0 (length task.now.variables))) }
 {
     let mut values = Vec::new(alloc);
@@ -38,7 +38,7 @@ fn values_of_each(alloc: Global, task: &SasTask) -> Result<Vec<List<u64>>, Alloc
 }
 
 /// These variables of the task, by their old numbers in their new order, with all their values.
-pub fn all_values(alloc: Global, task: &SasTask, vars: Vec<u64>) -> Result<Chosen, AllocError>
+pub fn all_values(alloc: Global, task: &SasTask, vars: Vec<Var>) -> Result<Chosen, AllocError>
     requires { All (λ v. v < length task.now.variables) vars.items }
     ensures { IfOk result (λ new. new ≡ everything.everything_of task.now vars.items) }
 {

@@ -11,11 +11,11 @@ ghost use Rattle.sas_restriction.specs.Restriction as restriction;
 
 use crate::chosen::{Chosen, Once};
 use lists::{List, Text};
-use sas_task::{Effect, Operator, Pair, Rule, SasTask, Variable, arrange};
+use sas_task::{Effect, Operator, Pair, Rule, SasTask, Value, Var, Variable, arrange};
 use std::alloc::{AllocError, Global};
 
 /// A copy of the fact of this value.
-fn fact_at(alloc: Global, facts: &[Text], val: u64) -> Result<Text, AllocError>
+fn fact_at(alloc: Global, facts: &[Text], val: Value) -> Result<Text, AllocError>
     ensures { IfOk result (λ fact. fact ≡ slice_index_or facts.now val []) }
 {
     let fact = match facts.get(val as usize) {
@@ -26,7 +26,7 @@ fn fact_at(alloc: Global, facts: &[Text], val: u64) -> Result<Text, AllocError>
 }
 
 /// Copies of the facts of these values.
-fn facts_at(alloc: Global, facts: &[Text], values: &[u64]) -> Result<Vec<Text>, AllocError>
+fn facts_at(alloc: Global, facts: &[Text], values: &[Value]) -> Result<Vec<Text>, AllocError>
     ensures { IfOk result (λ names. names.items ≡ map (λ val. slice_index_or facts.now val []) values.now) }
 {
     let mut names = Vec::with_capacity(alloc, values.len())?;
@@ -41,7 +41,7 @@ fn new_variable(
     alloc: Global,
     shown: &Chosen,
     task: &SasTask,
-    var: u64,
+    var: Var,
 ) -> Result<Variable, AllocError>
     requires { var < length task.now.variables }
     ensures { IfOk result (λ variable. variable ≡ choice.new_variable (chosen shown.now) task.now var) }

@@ -13,11 +13,11 @@ ghost use Rattle.sas_restriction.specs.Restriction as restriction;
 use crate::chosen::{Chosen, Once};
 use crate::parts::{all_variables, goal, rules_left, whole_operators};
 use lists::List;
-use sas_task::{Group, Operator, Pair, Rule, SasTask, Variable, arrange, is_valid};
+use sas_task::{Group, Operator, Pair, Rule, SasTask, Value, Variable, arrange, is_valid};
 use std::alloc::{AllocError, Global};
 
 /// The initial values of the variables that are shown.
-fn new_state(alloc: Global, shown: &Chosen, task: &SasTask) -> Result<Vec<u64>, AllocError>
+fn new_state(alloc: Global, shown: &Chosen, task: &SasTask) -> Result<Vec<Value>, AllocError>
     requires { All (λ v. v < length task.now.variables) shown.now.vars }
     ensures { IfOk result (λ state. state.items ≡ map (λ var. choice.new_val (chosen shown.now) var (slice_index task.now.state var)) shown.now.vars) }
 {
@@ -28,7 +28,7 @@ fn new_state(alloc: Global, shown: &Chosen, task: &SasTask) -> Result<Vec<u64>, 
     Ok(state)
 }
 
-fn add_start(state: &mut Vec<u64>, holder: Option<u64>) -> Result<(), AllocError>
+fn add_start(state: &mut Vec<Value>, holder: Option<u64>) -> Result<(), AllocError>
     ensures { OnOk result (state.new.items ≡ state.old.items ++ option_map_or (λ start. start ∷ []) holder []) }
 {
     if let Some(start) = holder {
@@ -38,7 +38,7 @@ fn add_start(state: &mut Vec<u64>, holder: Option<u64>) -> Result<(), AllocError
 }
 
 /// The values at the start, and the holder's.
-fn whole_state(alloc: Global, shown: &Chosen, task: &SasTask) -> Result<List<u64>, AllocError>
+fn whole_state(alloc: Global, shown: &Chosen, task: &SasTask) -> Result<List<Value>, AllocError>
     requires { All (λ v. v < length task.now.variables) shown.now.vars }
     ensures { IfOk result (λ state. state ≡ map (λ var. choice.new_val (chosen shown.now) var (slice_index task.now.state var)) shown.now.vars ++ option_map_or (λ start. start ∷ []) shown.now.holder []) }
 {
@@ -98,7 +98,7 @@ struct Beside {
     metric: bool,
     variables: List<Variable>,
     groups: List<Group>,
-    state: List<u64>,
+    state: List<Value>,
     goal: List<Pair>,
     rules: List<Rule>,
 }

@@ -4,11 +4,11 @@ ghost use Rattle.std.specs.Prelude.{◌≡◌, map, IfOk};
 ghost use Rattle.sas_task.specs.Effects.{fact_of};
 ghost use Rattle.sas_task.specs.Effects as meaning;
 
-use crate::parts::{Effect, Operator, Pair};
+use crate::parts::{Effect, Operator, Pair, Var};
 use std::alloc::{AllocError, Global};
 
 /// Whether the operator changes the variable: whether some effect of it is on the variable.
-pub fn changes(operator: &Operator, var: u64) -> bool
+pub fn changes(operator: &Operator, var: Var) -> bool
     ensures { result ≡ meaning.changes operator.now var }
 {
     operator

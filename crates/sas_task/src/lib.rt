@@ -12,5 +12,5 @@ pub mod task;
 pub use effects::{changes, facts_set};
 pub use lists::{List, Text};
 pub use order::{Ranked, arrange, each_once, list_order, ordered};
-pub use parts::{Effect, Group, Operator, Pair, Rule, Variable};
+pub use parts::{Effect, Group, Operator, Pair, Rule, Value, Var, Variable};
 pub use task::{SasTask, is_valid};

@@ -11,7 +11,7 @@ use crate::lines::{
     push_line, push_next_number, push_next_number_or_none, push_next_pairs, push_number,
     push_number_line, push_pairs,
 };
-use sas_task::{Effect, Operator, Pair, SasTask};
+use sas_task::{Effect, Operator, Pair, SasTask, Value, Var};
 use std::alloc::{AllocError, Global};
 
 /// What is found of an operator before its lines are written. The lists are filled again for each operator, so that none takes
@@ -91,7 +91,7 @@ fn find_prevail(room: &mut Room, operator: &Operator) -> Result<(), AllocError>
 }
 
 /// The value that conditions, sorted by variable, require of a variable.
-fn value_in(conditions: &[Pair], var: u64) -> Option<u64>
+fn value_in(conditions: &[Pair], var: Var) -> Option<Value>
     requires { IsStrictlyIncreasing (map (λ p. p.var) conditions.now) }
     ensures { result ≡ option_map (λ p. p.val) (find (λ p. p.var == var) conditions.now) }
 {

@@ -16,14 +16,14 @@ use crate::shown::shown_objects;
 use crate::tables::Tables;
 use ground_task::GroundAction;
 use lists::List;
-use normal_task::Schema;
+use normal_task::{Object, Schema};
 use std::alloc::{AllocError, Global};
 
 /// A schema with an object for each parameter, of which an instance may be made.
 #[derive(Drop)]
 pub struct Candidate<'a> {
     pub schema: &'a Schema,
-    pub objects: List<u64>,
+    pub objects: List<Object>,
 }
 
 impl<'a> Candidate<'a> {

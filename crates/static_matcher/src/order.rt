@@ -6,10 +6,11 @@ ghost use Rattle.static_matcher.specs.Partial as spec;
 ghost use Rattle.static_matcher.specs.Partial.{HasOpenVariables};
 
 use crate::partial::{Scope, is_about, is_settled};
+use normal_task::Object;
 use std::alloc::{AllocError, Global};
 
 /// Whether the variable is one that has no object.
-pub(crate) fn is_open(partial: &[Option<u64>], variable: usize) -> bool
+pub(crate) fn is_open(partial: &[Option<Object>], variable: usize) -> bool
     ensures { result ≡ spec.is_open_variable partial.now variable }
 {
     match partial.get(variable) {
@@ -19,7 +20,7 @@ pub(crate) fn is_open(partial: &[Option<u64>], variable: usize) -> bool
 }
 
 /// The first of the variables that has no object.
-pub(crate) fn first_open(partial: &[Option<u64>], order: &[usize]) -> Option<usize>
+pub(crate) fn first_open(partial: &[Option<Object>], order: &[usize]) -> Option<usize>
     ensures { result ≡ find (spec.is_open_variable partial.now) order.now }
 {
     order
@@ -36,7 +37,7 @@ impl<'a> Scope<'a> {
     }
 
     /// The variables without objects that some equality or static literal is about.
-    fn tested(&self, alloc: Global, partial: &[Option<u64>]) -> Result<Vec<usize>, AllocError> {
+    fn tested(&self, alloc: Global, partial: &[Option<Object>]) -> Result<Vec<usize>, AllocError> {
         (0..partial.len())
             .filter(|variable| is_open(partial, *variable) && self.is_tested(*variable))
             .collect(alloc)
@@ -47,7 +48,7 @@ impl<'a> Scope<'a> {
     pub(crate) fn order(
         &self,
         alloc: Global,
-        partial: &[Option<u64>],
+        partial: &[Option<Object>],
     ) -> Result<Vec<usize>, AllocError>
         ensures { IfOk result (λ order. HasOpenVariables partial.now order.items) }
     {

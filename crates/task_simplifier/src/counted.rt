@@ -6,7 +6,7 @@ ghost use Rattle.sas_restriction.specs.Reordered as meaning;
 ghost use Rattle.task_simplifier.specs.Counted.{no_tally, counted_cmp, counted_total, counted_by};
 
 use crate::tallies::{Tally, tallies};
-use sas_task::{Ranked, SasTask, ordered};
+use sas_task::{Ranked, SasTask, Var, ordered};
 use std::alloc::{AllocError, Global};
 use std::cmp::Ordering;
 
@@ -14,7 +14,7 @@ use std::cmp::Ordering;
 #[derive(Drop)]
 pub(crate) struct Counted {
     pub operators: u64,
-    pub var: u64,
+    pub var: Var,
 }
 
 impl Ranked for Counted {
@@ -30,7 +30,7 @@ impl Ranked for Counted {
 }
 
 /// How many operators a tally has counted, and 0 where there is no tally.
-fn operators_at(tallies: &[Tally], var: u64) -> u64
+fn operators_at(tallies: &[Tally], var: Var) -> u64
     ensures { result ≡ (slice_index_or tallies.now var no_tally).operators }
 {
     match tallies.get(var as usize) {
@@ -52,14 +52,14 @@ fn all_counted(alloc: Global, tallies: &[Tally], count: u64) -> Result<Vec<Count
 }
 
 /// The variables alone.
-fn variables_of(alloc: Global, all: &[Counted]) -> Result<Vec<u64>, AllocError>
+fn variables_of(alloc: Global, all: &[Counted]) -> Result<Vec<Var>, AllocError>
     ensures { IfOk result (λ variables. variables.items ≡ map (λ c. c.var) all.now) }
 {
     all.iter().map(|counted| counted.var).collect(alloc)
 }
 
 /// The variables, those that fewer operators change first.
-pub(crate) fn variable_order(alloc: Global, task: &SasTask) -> Result<Vec<u64>, AllocError>
+pub(crate) fn variable_order(alloc: Global, task: &SasTask) -> Result<Vec<Var>, AllocError>
     ensures { IfOk result (λ order. order.items ≡ meaning.variable_order task.now) }
 {
     let tallies = tallies(alloc, task)?;

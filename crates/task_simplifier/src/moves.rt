@@ -8,20 +8,20 @@ ghost use Rattle.task_simplifier.specs.Moves.{move_to, moves_on, moves_of_effect
 ghost use Rattle.task_simplifier.specs.Moves as words;
 
 use lists::Rows;
-use sas_task::{Effect, Operator, Pair, Rule, SasTask};
+use sas_task::{Effect, Operator, Pair, Rule, SasTask, Value, Var};
 use std::alloc::{AllocError, Global};
 
 /// A move of a variable.
 #[derive(Clone, Copy)]
 pub(crate) struct Move {
     /// The value from which it leads, or none where it leads from each.
-    pub(crate) from: Option<u64>,
+    pub(crate) from: Option<Value>,
     /// The value to which it leads.
-    pub(crate) to: u64,
+    pub(crate) to: Value,
 }
 
 /// The first value that the conditions name for the variable.
-fn named(conditions: &[Pair], var: u64) -> Option<u64>
+fn named(conditions: &[Pair], var: Var) -> Option<Value>
     ensures { result ≡ value_in conditions.now var }
 {
     conditions
@@ -31,7 +31,7 @@ fn named(conditions: &[Pair], var: u64) -> Option<u64>
 }
 
 /// Whether the conditions leave this value for the variable.
-fn leave(conditions: &[Pair], var: u64, val: u64) -> bool
+fn leave(conditions: &[Pair], var: Var, val: Value) -> bool
     ensures { result ≡ words.leave conditions.now var val }
 {
     conditions
@@ -41,7 +41,7 @@ fn leave(conditions: &[Pair], var: u64, val: u64) -> bool
 
 /// The move of the variable to the value, from what both lists of conditions leave. There is none where they name
 /// several values of the variable.
-fn move_to(var: u64, to: u64, first: &[Pair], second: &[Pair]) -> Option<Move>
+fn move_to(var: Var, to: Value, first: &[Pair], second: &[Pair]) -> Option<Move>
     ensures { result ≡ words.move_to var to first.now second.now }
 {
     let from = named(first, var).or(named(second, var));
@@ -53,8 +53,8 @@ fn move_to(var: u64, to: u64, first: &[Pair], second: &[Pair]) -> Option<Move>
 
 fn add_move(
     moves: &mut Rows<Move>,
-    var: u64,
-    to: u64,
+    var: Var,
+    to: Value,
     first: &[Pair],
     second: &[Pair],
 ) -> Result<(), AllocError>

@@ -4,7 +4,7 @@ ghost use Rattle.std.specs.Prelude.{◌≡◌, ◌==◌, IfOk, All, length};
 ghost use Rattle.sas_task.specs.Effects.{changes};
 ghost use Rattle.task_simplifier.specs.Tallies.{IsTally, AreCounted, AreTallies, counted_in};
 
-use sas_task::{Operator, SasTask};
+use sas_task::{Operator, SasTask, Var};
 use std::alloc::{AllocError, Global};
 
 /// How many operators were found to change a variable, and the turn of the last of them. Turns count from 1.
@@ -31,7 +31,7 @@ impl Tally {
 }
 
 /// Counts a change of the variable, if it has a tally.
-fn count_change(tallies: &mut [Tally], turn: u64, var: u64)
+fn count_change(tallies: &mut [Tally], turn: u64, var: Var)
     requires { All (IsTally turn) tallies.old }
     ensures { AreCounted turn (λ v. var == v) tallies.old tallies.new }
 {
