@@ -144,7 +144,7 @@ pub(crate) fn cut_wanted<'n, 'a>(
             let conclusion = conclusion.get();
             let are_first = are_made(premise, !positive, wanted, !positive);
             let first = cut_wanted(alloc, here, premise, !positive, are_first, next)?;
-            let start = checked_sum(next, first.fresh.as_slice().len() as u64)?;
+            let start = checked_sum(next, first.fresh.len() as u64)?;
             let are_second = are_made(conclusion, positive, wanted, !positive);
             let second = cut_wanted(alloc, here, conclusion, positive, are_second, start)?;
             let are_paired = both(wanted, !positive);
@@ -194,7 +194,7 @@ fn cut_members<'n, 'a>(
     let are_paired = both(wanted, every);
     let mut made = neutral(alloc, are_paired)?;
     for member in members {
-        let start = checked_sum(next, made.fresh.as_slice().len() as u64)?;
+        let start = checked_sum(next, made.fresh.len() as u64)?;
         let are_more = are_made(member, positive, wanted, every);
         let more = cut_wanted(alloc, here, member, positive, are_more, start)?;
         made = joined_made(alloc, are_paired, here.around, made, more)?;

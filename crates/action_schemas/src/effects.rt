@@ -80,7 +80,7 @@ fn cut_required<'n, 'a>(
     let wanted = all_have_parts(required);
     let mut made = neutral(alloc, wanted)?;
     for one in required {
-        let start = checked_sum(next, made.fresh.as_slice().len() as u64)?;
+        let start = checked_sum(next, made.fresh.len() as u64)?;
         let more = cut_one(alloc, numbering, one, around, wanted, start)?;
         made = joined_made(alloc, wanted, around, made, more)?;
     }
@@ -283,7 +283,7 @@ fn rows_of_all<'n, 'a>(
 {
     let mut made = nothing_made(alloc);
     for member in members {
-        let start = checked_sum(next, made.fresh.as_slice().len() as u64)?;
+        let start = checked_sum(next, made.fresh.len() as u64)?;
         let more = rows_of(alloc, numbering, member, around, start)?;
         made = made_behind(made, more)?;
     }

@@ -35,8 +35,8 @@ fn schema(
 ) -> Result<Schema, AllocError>
     ensures { IfOk result (λ schema. schema ≡ shared_schema numbering.now.domain numbering.now.problem shared.now part) }
 {
-    let shown = shared.action.parameters.as_slice().len() as u64;
-    let more = part.variables.as_slice().len() as u64;
+    let shown = shared.action.parameters.len() as u64;
+    let more = part.variables.len() as u64;
     Ok(Schema {
         action: Text::from_vec(Vec::from_slice(alloc, shared.action.name.name.as_slice())?),
         shown,
@@ -96,14 +96,14 @@ fn schemas_in<'n, 'a>(
 ) -> Result<Made<Schema>, AllocError>
     ensures { IfOk result (IsMadeOf (schemas_in_scope numbering.now.domain numbering.now.problem action.now scope.now next)) }
 {
-    let around = action.parameters.as_slice().len() as u64;
+    let around = action.parameters.len() as u64;
     let here = Here {
         numbering,
         scope,
         around,
     };
     let parts = cut(alloc, &here, &action.precondition, true, next)?;
-    let start = checked_sum(next, parts.fresh.as_slice().len() as u64)?;
+    let start = checked_sum(next, parts.fresh.len() as u64)?;
     let around = Around {
         required: &[],
         scope,
@@ -140,7 +140,7 @@ pub fn schemas_of<'n, 'a>(
 {
     let mut made = nothing_made(alloc);
     for action in actions {
-        let start = checked_sum(next, made.fresh.as_slice().len() as u64)?;
+        let start = checked_sum(next, made.fresh.len() as u64)?;
         let more = schemas(alloc, numbering, action, start)?;
         made = made_behind(made, more)?;
     }

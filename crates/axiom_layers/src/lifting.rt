@@ -89,7 +89,7 @@ pub fn layers(alloc: Global, reached: &Reached) -> Result<Vec<u64>, AllocError>
     ensures layers { IfOk result (λ layers. AreLayers reached.now layers.items) }
     ensures small { IfOk result (λ layers. All (λ layer. layer < 2 ^ 63) layers.items) }
 {
-    let facts = reached.facts.as_slice().len();
+    let facts = reached.facts.len();
     let arcs = arcs(alloc, reached)?;
     let order = order(alloc, facts, arcs.as_slice())?;
     let mut layers = vec![in alloc; 0u64; facts]?;

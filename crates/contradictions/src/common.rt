@@ -80,7 +80,7 @@ fn member_of<'a>(ranges: &Ranges<'a>, term: &Place) -> Option<Member<'a>>
 }
 
 /// The first object of the term from this number on.
-fn first_from(member: &Member<'_>, least: u64) -> Option<Object>
+fn first_from(member: &Member<'_>, least: Object) -> Option<Object>
     ensures { IsFirstFrom (objects_in member.now) least result }
 {
     match member {
@@ -90,7 +90,7 @@ fn first_from(member: &Member<'_>, least: u64) -> Option<Object>
 }
 
 /// The least number from this one on that isn't passed over by some term; none where a term has no object left.
-fn next_shared(class: &[Member<'_>], least: u64) -> Option<Object>
+fn next_shared(class: &[Member<'_>], least: Object) -> Option<Object>
     ensures { IsNextShared (map objects_in class.now) least result }
 {
     let mut next = least;

@@ -25,7 +25,7 @@ impl<'a> Rising<'a> {
     }
 
     /// The first object from this number on.
-    pub(crate) fn first_from(&self, least: u64) -> Option<Object>
+    pub(crate) fn first_from(&self, least: Object) -> Option<Object>
         ensures { IsFirstFrom self.now.objects.now least result }
     {
         match self.objects.binary_search(&least) {

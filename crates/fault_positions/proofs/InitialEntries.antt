@@ -1,6 +1,6 @@
 -- What the entries of `:init` say, one entry more.
 use Rattle.std.proofs.Common.{◌≡◌, ℕ, ◌+◌, ◌<◌, Bool, true, false, ◌||◌, List, [], ◌∷◌, ◌++◌, take, length, get_or, Option, None, Some, if◌then◌else◌, refl, sym, ap, ◌∙◌, append_assoc}
-use Rattle.std.specs.List.{list_any}
+use Rattle.std.specs.List.{list_any, flat_map}
 use Rattle.std.specs.Option.{option_or}
 use Rattle.std.proofs.Math.Bool.{or-false}
 use Rattle.std.proofs.lemmas.List.{append-nil, take_more}
@@ -13,7 +13,7 @@ use Rattle.pddl_syntax.specs.Holds.{GroundAtom, is_same_atom, ground}
 use Rattle.pddl_syntax.specs.Plan.{is_stated}
 use Rattle.pddl_syntax.specs.Step.{value_in}
 use Rattle.pddl_syntax.proofs.SameAtoms.{same_atom}
-use Rattle.fault_positions.specs.Initial.{revalued_position, revalued_after}
+use Rattle.fault_positions.specs.Initial.{denies, denied_position, revalued_position, revalued_after}
 use Rattle.fault_positions.specs.Positions.{earlier, earliest}
 use Rattle.fault_positions.proofs.Earliest.{earliest_append}
 
@@ -70,3 +70,10 @@ revalued_more entries i entry within =
     ap (λ (known : List Init). earliest (revalued_after [] known)) (take_more entries i entry within)
     ∙ ap earliest (revalued_then [] (take i entries) (get_or entries i entry))
     ∙ earliest_append (revalued_after [] (take i entries)) (revalued_position (take i entries) (get_or entries i entry))
+
+-- where no entry denies an atom, none denies one that is stated
+pub none_denied : (init entries : List Init) → list_any denies entries ≡ false → flat_map (denied_position init) entries ≡ []
+none_denied init [] none = refl
+none_denied init (Holds atom ∷ more) none = none_denied init more none
+none_denied init (HoldsNot atom at ∷ more) none = absurd cc
+none_denied init (Value term value at ∷ more) none = none_denied init more none

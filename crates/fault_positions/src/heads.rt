@@ -92,10 +92,7 @@ fn key_of(head: &Head) -> (&[u8], u64)
     ensures name { result.0.now ≡ head.now.name.name }
     ensures arity { result.1 ≡ length head.now.variables }
 {
-    (
-        head.name.name.as_slice(),
-        head.variables.as_slice().len() as u64,
-    )
+    (head.name.name.as_slice(), head.variables.len() as u64)
 }
 
 /// The declared predicates and functions of a domain. Contracts see the domain.

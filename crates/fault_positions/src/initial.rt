@@ -1,5 +1,6 @@
 // Entries of `:init` that contradict others.
 ghost use Rattle.std.specs.Prelude.{◌≡◌, List, ◌∷◌, [], ◌++◌, IfOk, OnOk};
+ghost use Rattle.std.specs.List.{list_any};
 ghost use Rattle.pddl_syntax.specs.declared.types.Init.{Init as Entry};
 ghost use Rattle.pddl_syntax.specs.Holds.{object_of, ground};
 ghost use Rattle.fault_positions.specs.AtomTables.{names_of, names_in, HasStated, HasValues};
@@ -20,6 +21,35 @@ pub fn first_denied(alloc: Global, problem: &Problem) -> Result<Option<At>, Allo
     ensures { IfOk result (λ at. at ≡ earliest (spec.denied_positions problem.now.init)) }
 {
     let init = problem.init.as_slice();
+    if some_denies(init) {
+        first_denied_of(alloc, init)
+    } else {
+        Ok(None)
+    }
+}
+
+/// Whether one of the entries denies an atom.
+fn some_denies(init: &[Init]) -> bool
+    ensures { result ≡ list_any spec.denies init.now }
+{
+    init.iter().any(|entry| denies(entry))
+}
+
+/// Whether the entry denies an atom.
+fn denies(entry: &Init) -> bool
+    ensures { result ≡ spec.denies entry.now }
+{
+    match entry {
+        Init::Holds(_) => false,
+        Init::HoldsNot(_, _) => true,
+        Init::Value(_, _, _) => false,
+    }
+}
+
+/// The first position of an entry that denies an atom which one of the entries states.
+fn first_denied_of(alloc: Global, init: &[Init]) -> Result<Option<At>, AllocError>
+    ensures { IfOk result (λ at. at ≡ earliest (spec.denied_positions init.now)) }
+{
     let stated = stated_atoms(alloc, init)?;
     try_first_of(init, |entry| denied_position(alloc, &stated, entry))
 }

@@ -30,7 +30,7 @@ impl<'a> Usage<'a> {
     {
         Usage {
             name: &atom.predicate,
-            arity: atom.terms.as_slice().len() as u64,
+            arity: atom.terms.len() as u64,
         }
     }
 
@@ -39,7 +39,7 @@ impl<'a> Usage<'a> {
     {
         Usage {
             name: &head.name,
-            arity: head.variables.as_slice().len() as u64,
+            arity: head.variables.len() as u64,
         }
     }
 

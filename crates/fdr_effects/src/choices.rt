@@ -92,8 +92,8 @@ fn copy_with(
 fn is_alone(literals: &Cond<FactNumber>) -> bool
     ensures { result ≡ is_alone literals.now }
 {
-    let positive = literals.positive.as_slice().len();
-    let negative = literals.negative.as_slice().len();
+    let positive = literals.positive.len();
+    let negative = literals.negative.len();
     (positive == 1 && negative == 0) || (positive == 0 && negative == 1)
 }
 

@@ -9,14 +9,14 @@ ghost use Rattle.fdr_effects.specs.Marks as marks;
 
 use lists::{List, Rows};
 use reached_task::FactNumber;
-use sas_task::{Pair, Var};
+use sas_task::{Pair, Value, Var};
 use std::alloc::{AllocError, Global};
 use std::marker::Model;
 
 /// A cover with the places of each fact, seen as the cover.
 #[derive(Drop)]
 pub struct Index<'a> {
-    sets: &'a [List<u64>],
+    sets: &'a [List<FactNumber>],
     of_fact: Rows<Pair>,
 }
 
@@ -33,7 +33,7 @@ impl<'a> Model for Index<'a> {
 }
 
 /// Adds the places of a variable's facts.
-fn push_set(rows: &mut Rows<Pair>, var: Var, set: &[u64]) -> Result<(), AllocError>
+fn push_set(rows: &mut Rows<Pair>, var: Var, set: &[FactNumber]) -> Result<(), AllocError>
     requires { IsStrictlyIncreasing set.now }
     ensures { OnOk result (Adds (marks.place_in var set.now) rows.old rows.new) }
 {
@@ -49,7 +49,11 @@ fn push_set(rows: &mut Rows<Pair>, var: Var, set: &[u64]) -> Result<(), AllocErr
 
 impl<'a> Index<'a> {
     /// The places of the facts with numbers below `facts` in these sets.
-    pub fn new(alloc: Global, facts: u64, sets: &'a [List<u64>]) -> Result<Index<'a>, AllocError>
+    pub fn new(
+        alloc: Global,
+        facts: u64,
+        sets: &'a [List<FactNumber>],
+    ) -> Result<Index<'a>, AllocError>
         requires facts { All (λ set. All (λ fact. fact < facts) set) sets.now }
         requires apart { All IsStrictlyIncreasing sets.now }
         ensures { IfOk result (λ index. index ≡ sets.now) }
@@ -62,7 +66,7 @@ impl<'a> Index<'a> {
     }
 
     /// The sets.
-    pub fn sets(&self) -> &[List<u64>]
+    pub fn sets(&self) -> &[List<FactNumber>]
         ensures { result.now ≡ self.now }
     {
         self.sets
@@ -83,7 +87,11 @@ impl<'a> Index<'a> {
     }
 
     /// All places of the facts.
-    pub(crate) fn all_places(&self, alloc: Global, facts: &[u64]) -> Result<Vec<Pair>, AllocError>
+    pub(crate) fn all_places(
+        &self,
+        alloc: Global,
+        facts: &[FactNumber],
+    ) -> Result<Vec<Pair>, AllocError>
         ensures { IfOk result (λ all. all.items ≡ flat_map (cover.places self.now) facts.now) }
     {
         let mut all = Vec::with_capacity(alloc, facts.len())?;
@@ -94,7 +102,11 @@ impl<'a> Index<'a> {
     }
 
     /// The first place of each fact.
-    pub(crate) fn first_places(&self, alloc: Global, facts: &[u64]) -> Result<Vec<Pair>, AllocError>
+    pub(crate) fn first_places(
+        &self,
+        alloc: Global,
+        facts: &[FactNumber],
+    ) -> Result<Vec<Pair>, AllocError>
         ensures { IfOk result (λ all. all.items ≡ filter_map (cover.first_place self.now) facts.now) }
     {
         facts
@@ -121,11 +133,11 @@ impl<'a> Index<'a> {
     }
 
     /// The last value of a variable.
-    pub fn last_value(&self, var: Var) -> u64
+    pub fn last_value(&self, var: Var) -> Value
         ensures { result ≡ cover.last_value self.now var }
     {
         match self.sets.get(var as usize) {
-            Some(set) => set.as_slice().len() as u64,
+            Some(set) => set.len() as u64,
             None => 0,
         }
     }

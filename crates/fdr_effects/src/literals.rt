@@ -9,7 +9,7 @@ use crate::on::on;
 use crate::splits::by_variable;
 use ground_task::Cond;
 use reached_task::FactNumber;
-use sas_task::Pair;
+use sas_task::{Pair, Value};
 use std::alloc::{AllocError, Global};
 use std::marker::Model;
 
@@ -41,13 +41,13 @@ impl<'a> Model for Marked<'a> {
     ghost invariant = { λ marked. AreMarks record { cover = marked.index.now; literals = marked.literals.now } marked.wanted.items marked.barred.items };
 }
 
-fn some_at(marks: &[Pair], val: u64) -> bool
+fn some_at(marks: &[Pair], val: Value) -> bool
     ensures { result ≡ list_any (λ p. p.val == val) marks.now }
 {
     marks.iter().any(|place| place.val == val)
 }
 
-fn some_beside(marks: &[Pair], val: u64) -> bool
+fn some_beside(marks: &[Pair], val: Value) -> bool
     ensures { result ≡ list_any (λ p. not (p.val == val)) marks.now }
 {
     marks.iter().any(|place| place.val != val)
@@ -126,7 +126,7 @@ impl<'a> Marked<'a> {
         }
     }
 
-    fn rules_out_each(&self, facts: &[u64], truth: bool) -> bool
+    fn rules_out_each(&self, facts: &[FactNumber], truth: bool) -> bool
         ensures { result ≡ list_all (λ fact. words.rules_out self.now record { fact = fact; truth = truth }) facts.now }
     {
         facts
@@ -134,7 +134,7 @@ impl<'a> Marked<'a> {
             .all(|fact| self.rules_out(Literal { fact: *fact, truth }))
     }
 
-    fn rules_out_one(&self, facts: &[u64], truth: bool) -> bool
+    fn rules_out_one(&self, facts: &[FactNumber], truth: bool) -> bool
         ensures { result ≡ list_any (λ fact. words.rules_out self.now record { fact = fact; truth = truth }) facts.now }
     {
         facts

@@ -123,7 +123,7 @@ fn framed<'a>(
     ensures index { IfOk result (λ frame. frame.index ≡ cover.now.sets) }
     ensures frames { IfOk result (Frames cover.now.sets groups.now.groups layers.now reached.now) }
 {
-    let facts = reached.facts.as_slice().len() as u64;
+    let facts = reached.facts.len() as u64;
     let index = Index::new(alloc, facts, cover.sets.as_slice())?;
     let goal = goal_form(alloc, &index, &reached.goal)?;
     frame_over(
@@ -196,11 +196,7 @@ fn state(
     requires { IsLawful reached.now }
     ensures { (var layer : ℕ) → IfOk result (λ all. all ≡ values_in index.now (initial (reached_task reached.now)) ++ (goal_part_in var layer goal.now).values) }
 {
-    let truths = flags(
-        alloc,
-        reached.init.as_slice(),
-        reached.facts.as_slice().len(),
-    )?;
+    let truths = flags(alloc, reached.init.as_slice(), reached.facts.len())?;
     let mut all = start(alloc, truths.as_slice(), index.sets())?;
     goal.push_value(&mut all)?;
     Ok(List::from_vec(all))

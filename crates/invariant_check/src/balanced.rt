@@ -243,7 +243,7 @@ fn balances_given(
 ) -> Result<bool, AllocError>
     ensures { IfOk result (λ answer. answer ≡ words.balances_given normal.now candidate.now add.now.schema.now add.now.row.now add.now.required.now add.now.instance.now delete.now given.now) }
 {
-    let parameters = add.schema.parameters.as_slice().len() as u64;
+    let parameters = add.schema.parameters.len() as u64;
     let row = renamed_row(alloc, &Renaming::Given(parameters, given), delete)?;
     if !is_required(normal, candidate, add, delete, given, &row) {
         return Ok(false);

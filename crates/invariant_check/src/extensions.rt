@@ -28,7 +28,7 @@ fn is_changing(normal: &Normal, predicate: Predicate) -> bool
 fn changing(alloc: Global, normal: &Normal) -> Result<Vec<Predicate>, AllocError>
     ensures { IfOk result (λ predicates. predicates.items ≡ spec.changing normal.now) }
 {
-    let count = normal.predicates.as_slice().len() as u64;
+    let count = normal.predicates.len() as u64;
     (0..count)
         .filter(|predicate| is_changing(normal, *predicate))
         .collect(alloc)
@@ -252,7 +252,7 @@ fn place_of(part: &Part, parameter: usize) -> u64
 fn place_beside(first: &Part, part: &Part, place: u64) -> u64
     ensures { result ≡ get_or part.now.places (position_or_len (nat_eq place) first.now.places) 0 }
 {
-    let parameter = parameter_at(first, place).unwrap_or(first.places.as_slice().len());
+    let parameter = parameter_at(first, place).unwrap_or(first.places.len());
     place_of(part, parameter)
 }
 

@@ -99,10 +99,7 @@ pub(crate) fn ranges_of<'a>(
 pub(crate) fn apart(schema: &Schema, first: &EffectRow) -> Renaming<'static>
     ensures { result ≡ Apart (length schema.now.parameters) (length first.now.variables) }
 {
-    Renaming::Apart(
-        schema.parameters.as_slice().len() as u64,
-        first.variables.as_slice().len() as u64,
-    )
+    Renaming::Apart(schema.parameters.len() as u64, first.variables.len() as u64)
 }
 
 /// An add effect of a schema, with the part of its predicate.
@@ -148,7 +145,7 @@ fn add_one_atom(schema: &Schema, one: &EffectRow, other: &EffectRow) -> bool
 {
     one.predicate == other.predicate
         && are_kept(
-            schema.parameters.as_slice().len() as u64,
+            schema.parameters.len() as u64,
             one.places.as_slice(),
             other.places.as_slice(),
         )

@@ -32,8 +32,7 @@ fn is_fitting(normal: &Normal, ranges: &Ranges<'_>, term: &Place, range: &[u64])
     match term {
         Place::Variable(number) => *number < count(ranges)
             && are_among(range, range_of(ranges, *number)),
-        Place::Object(object) => *object < normal.objects.as_slice().len() as u64
-            && is_among(range, *object),
+        Place::Object(object) => *object < normal.objects.len() as u64 && is_among(range, *object),
     }
 }
 
@@ -65,7 +64,7 @@ fn all_terms(alloc: Global, normal: &Normal, count: u64) -> Result<Vec<Place>, A
     for number in 0..count {
         all.push(Place::Variable(number))?;
     }
-    for object in 0..normal.objects.as_slice().len() as u64 {
+    for object in 0..normal.objects.len() as u64 {
         all.push(Place::Object(object))?;
     }
     Ok(all)
@@ -82,7 +81,7 @@ fn push_some_terms(
     ensures { OnOk result (terms.new.items ≡ terms.old.items ++ words.some_terms normal.now (all_ranges ranges.now) range.now) }
 {
     match range.first() {
-        Some(object) if *object < normal.objects.as_slice().len() as u64 => {
+        Some(object) if *object < normal.objects.len() as u64 => {
             terms.push(Place::Object(*object))?;
         }
         _ => {

@@ -1,5 +1,5 @@
 //! Lists and texts that contracts see as what they hold, so that a value made of them is plain data:
-//! a contract can say that it equals what a definition gives.
+//! a contract can say that it equals what a definition gives; and why a call has no answer.
 #![tactic(auto)]
 
 mod list;

@@ -17,7 +17,7 @@ use std::alloc::{AllocError, Global};
 pub(crate) fn fresh_number(numbering: &Numbering<'_>, next: u64) -> Result<u64, AllocError>
     ensures { IfOk result (λ number. number ≡ parts.fresh_number numbering.now.domain numbering.now.problem next) }
 {
-    checked_sum(numbering.domain().predicates.as_slice().len() as u64, next)
+    checked_sum(numbering.domain().predicates.len() as u64, next)
 }
 
 /// An axiom of the predicate for each part.
@@ -57,7 +57,7 @@ fn parts_in<'n, 'a>(
     let here = Here {
         numbering,
         scope,
-        around: rule.head.variables.as_slice().len() as u64,
+        around: rule.head.variables.len() as u64,
     };
     cut(alloc, &here, &rule.body, true, next)
 }
@@ -102,7 +102,7 @@ pub(crate) fn axioms_of<'n, 'a>(
 {
     let mut made = nothing_made(alloc);
     for rule in rules {
-        let start = checked_sum(next, made.fresh.as_slice().len() as u64)?;
+        let start = checked_sum(next, made.fresh.len() as u64)?;
         let more = axiom_rows(alloc, numbering, rule, start)?;
         made = made_behind(made, more)?;
     }

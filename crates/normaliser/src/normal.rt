@@ -92,9 +92,9 @@ fn make_all(alloc: Global, numbering: &Numbering<'_>) -> Result<MadeAll, AllocEr
 {
     let domain = numbering.domain();
     let schemas = schemas_of(alloc, numbering, domain.actions.as_slice(), 0)?;
-    let after_schemas = schemas.fresh.as_slice().len() as u64;
+    let after_schemas = schemas.fresh.len() as u64;
     let axioms = axioms_of(alloc, numbering, domain.axioms.as_slice(), after_schemas)?;
-    let after_axioms = checked_sum(after_schemas, axioms.fresh.as_slice().len() as u64)?;
+    let after_axioms = checked_sum(after_schemas, axioms.fresh.len() as u64)?;
     let goal = goal_made(alloc, numbering, after_axioms)?;
     let all = all_made(schemas, axioms, goal)?;
     Ok(all)

@@ -33,7 +33,7 @@ fn fresh_row(alloc: Global, number: u64, fresh: &Fresh) -> Result<PredicateRow, 
 {
     Ok(PredicateRow {
         name: fresh_name(alloc, number)?,
-        arity: fresh.arguments.as_slice().len() as u64,
+        arity: fresh.arguments.len() as u64,
         derived: true,
         fixed: false,
     })
@@ -117,7 +117,7 @@ fn declared_row(
     let is_derived = derived.has(name);
     Ok(PredicateRow {
         name: Text::from_vec(Vec::from_slice(alloc, name)?),
-        arity: head.variables.as_slice().len() as u64,
+        arity: head.variables.len() as u64,
         derived: is_derived,
         fixed: !is_derived && !changed.has(name),
     })

@@ -241,7 +241,7 @@ impl<'a> Numbering<'a> {
     pub fn domain_predicates(&self) -> u64
         ensures { result ≡ length self.now.domain.predicates }
     {
-        self.domain().predicates.as_slice().len() as u64
+        self.domain().predicates.len() as u64
     }
 
     /// The numbers of the objects that the variable ranges over, in their order.

@@ -23,7 +23,7 @@ fn add_facts_of(facts: &mut Vec<Pair>, task: &SasTask, var: Var) -> Result<(), A
     requires { var < length task.now.variables }
     ensures { OnOk result (facts.new.items ≡ facts.old.items ++ words.facts_at task.now var) }
 {
-    let count = task.variable(var).facts.as_slice().len() as u64;
+    let count = task.variable(var).facts.len() as u64;
     add_facts(facts, var, count)?;
     Ok(())
 }

@@ -45,7 +45,7 @@ fn wanted(alloc: Global, table: &Table, task: &SasTask, var: Var) -> Result<List
     requires { var < length task.now.variables }
     ensures { IfOk result (λ values. values ≡ filter (pruned.is_wanted (found table.now) task.now var) (all_values task.now var)) }
 {
-    let count = task.variable(var).facts.as_slice().len() as u64;
+    let count = task.variable(var).facts.len() as u64;
     let values = wanted_below(alloc, table, task.goal(), var, count)?;
     Ok(List::from_vec(values))
 }

@@ -6,7 +6,6 @@ use Rattle.std.specs.Vec.{vec_len}
 use Rattle.pddl_lexer.specs.declared.scanner.Scanner.{Scanner}
 use Rattle.pddl_lexer.specs.declared.scanner.Mark.{Mark}
 use Rattle.pddl_lexer.specs.declared.fault.Kind.{Kind}
-use Rattle.pddl_lexer.specs.declared.fault.Fault.{Fault}
 use Rattle.pddl_lexer.specs.declared.builder.Builder.{Builder}
 use Rattle.pddl_lexer.specs.Text.{line_feed, mark, line, position}
 use Rattle.pddl_lexer.specs.declared.position.At.{At}
@@ -14,7 +13,8 @@ use Rattle.pddl_lexer.specs.Scanner.{StandsAfter}
 use Rattle.pddl_lexer.specs.Members.{Members, lowered_members}
 use Rattle.pddl_lexer.specs.Nodes.{AreNodesOf}
 use Rattle.pddl_lexer.specs.Tokens.{leading_word, spelled, written, IsTreeOf}
-use Rattle.pddl_lexer.specs.Faults.{kind_at, kind_at_end, faults_at, faults_from, tree_faults, IsFirst}
+use Rattle.lists.specs.Stops.{IsFirst}
+use Rattle.pddl_lexer.specs.Faults.{kind_at, kind_at_end, faults_at, faults_from, tree_faults}
 use Rattle.pddl_lexer.specs.Builder.{Partial, depth, with_mark, entries_so_far, Represents, IsShallow, Counts}
 use Rattle.pddl_lexer.proofs.Building.{length-places, length-shown}
 use Rattle.pddl_lexer.proofs.Reading.{Agrees, IsRead, shallow_on, read_more, read_whole, tree_of}
@@ -85,13 +85,6 @@ fault_end text scanner b rest p kind rest_is is = (
       ∙ ap (λ (o : Option Kind). faults_at o (position p.behind)) (sym is)
       ∙ ap (λ (l : At). faults_at (Some kind) l) (sym p.stands.at_is),
 )
-
--- faults have one first
-pub first_same : (faults : List Fault) (f g : Fault) → IsFirst faults f → IsFirst faults g → f ≡ g
-first_same faults f g a b = let same : f ∷ a.0 ≡ g ∷ b.0 = sym a.1 ∙ b.1 in cc
-
-pub some_first : (faults : List Fault) (f : Fault) → IsFirst faults f → faults ≡ [] → ⊥
-some_first faults f a none = let same : f ∷ a.0 ≡ [] = sym a.1 ∙ none in cc
 
 pub passed_more : (text : List ℕ) (scanner : Scanner) (b : Builder) (rest : List ℕ) (p : Passed text scanner b rest) (byte : ℕ) (after : List ℕ) (m : Mark) (scanner' : Scanner) (b' : Builder) → rest ≡ byte ∷ after → m ≡ mark p.behind byte → None ≡ kind_at m p.behind
     → StandsAfter scanner' (byte ∷ p.behind) → ((partial : Partial) → Represents b partial → Represents b' (with_mark m scanner.at (leading_word rest) partial)) → Passed text scanner' b' after

@@ -1,12 +1,10 @@
 -- The tree faults of a text, in reading order.
-use Rattle.std.specs.Prelude.{◌≡◌, ℕ, ◌+◌, Bool, true, false, List, [], ◌∷◌, ◌++◌, Option, Some, None, Result, Ok, Err, nat_le, nat_lt, ◌&&◌, ◌||◌, not, if◌then◌else◌}
+use Rattle.std.specs.Prelude.{ℕ, ◌+◌, Bool, true, false, List, [], ◌∷◌, ◌++◌, Option, Some, None, nat_le, nat_lt, ◌&&◌, ◌||◌, not, if◌then◌else◌}
 use Rattle.pddl_lexer.specs.declared.scanner.Mark.{Mark}
 use Rattle.pddl_lexer.specs.declared.scanner.Mark.TheVariants.{Nothing, Bad, Opening, Closing, Beginning}
 use Rattle.pddl_lexer.specs.declared.fault.Kind.{Kind}
 use Rattle.pddl_lexer.specs.declared.fault.Kind.TheVariants.{BadByte, StrayClose, MissingClose, TooDeep, TextAfterEnd, NoList}
 use Rattle.pddl_lexer.specs.declared.fault.Fault.{Fault}
-use Rattle.pddl_lexer.specs.declared.fault.TreeEnd.{TreeEnd}
-use Rattle.pddl_lexer.specs.declared.fault.TreeEnd.TheVariants as ends
 use Rattle.pddl_lexer.specs.Text.{mark, position}
 use Rattle.pddl_lexer.specs.declared.position.At.{At}
 
@@ -84,19 +82,3 @@ faults_from behind (b ∷ after) = faults_at (kind_at (mark behind b) behind) (p
 -- The tree faults of a text, in order, each with its position: that of the place, or at the end the place after the last byte.
 abbrev pub tree_faults : List ℕ → List Fault
 tree_faults text = faults_from [] text
-
--- the fault is the first of these
-abbrev pub IsFirst : List Fault → Fault → Type 0
-IsFirst faults fault = (more : List Fault) × (faults ≡ fault ∷ more)
-
--- the fact holds of the fault that is answered, if one is
-abbrev pub IfFault : {A : Type 0} → Result A TreeEnd → (Fault → Type 0) → Type 0
-IfFault (Ok x) fact = Unit {0}
-IfFault (Err (ends.Fault fault)) fact = fact fault
-IfFault (Err ends.NoMemory) fact = Unit {0}
-
--- the fact holds, unless memory ran out
-abbrev pub UnlessNoMemory : {A : Type 0} → Result A TreeEnd → Type 0 → Type 0
-UnlessNoMemory (Ok x) fact = fact
-UnlessNoMemory (Err (ends.Fault fault)) fact = fact
-UnlessNoMemory (Err ends.NoMemory) fact = Unit {0}

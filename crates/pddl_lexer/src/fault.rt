@@ -2,10 +2,10 @@
 
 ghost use Rattle.std.specs.Prelude.{◌≡◌};
 ghost use Rattle.pddl_lexer.specs.Kinds.{number, text, place_text};
-ghost use Rattle.pddl_lexer.specs.declared.fault.TreeEnd.TheVariants.{NoMemory};
+ghost use Rattle.lists.specs.declared.stop.Stop.TheVariants as stops;
 
 use crate::position::At;
-use std::alloc::{AllocError, AllocFailed};
+use lists::Stop;
 
 /// What a fault is about. The kinds stand in the order of their numbers.
 #[derive(Clone, Copy, PartialEq, Eq)]
@@ -207,25 +207,10 @@ pub struct Fault {
     pub at: At,
 }
 
-/// Why a text gave no tree: its first fault, or memory ran out.
-#[derive(Drop)]
-pub enum TreeEnd {
-    Fault(Fault),
-    NoMemory,
-}
+impl From<Fault> for Stop<Fault> {
+    ghost from_gives = { λ fault stop. stop ≡ stops.Fault fault };
 
-impl From<AllocError> for TreeEnd {
-    ghost from_gives = { λ _ e. e ≡ NoMemory };
-
-    fn from(_e: AllocError) -> TreeEnd {
-        TreeEnd::NoMemory
-    }
-}
-
-impl<T: Drop> From<AllocFailed<T>> for TreeEnd {
-    ghost from_gives = { λ _ e. e ≡ NoMemory };
-
-    fn from(_e: AllocFailed<T>) -> TreeEnd {
-        TreeEnd::NoMemory
+    fn from(fault: Fault) -> Stop<Fault> {
+        Stop::Fault(fault)
     }
 }

@@ -9,7 +9,7 @@ mod reader;
 mod scanner;
 mod tree;
 
-pub use fault::{Fault, Kind, ShapePlace, TreeEnd};
+pub use fault::{Fault, Kind, ShapePlace};
 pub use laws::{has_tree, lowering, one_tree, some_member, worked_examples};
 pub use position::At;
 pub use reader::read_tree;

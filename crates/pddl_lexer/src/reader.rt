@@ -1,16 +1,18 @@
 //! The one pass over a text.
 
 ghost use Rattle.std.specs.Prelude.{◌≡◌, List, [], ◌∷◌, IsOk, IfOk, OnOk, Err};
+ghost use Rattle.lists.specs.Stops.{IfFault, UnlessNoMemory, IsFirst};
 ghost use Rattle.pddl_lexer.specs.Members.{lowered_members};
 ghost use Rattle.pddl_lexer.specs.Nested.{tree};
 ghost use Rattle.pddl_lexer.specs.Tokens.{spelled, written, IsTreeOf};
-ghost use Rattle.pddl_lexer.specs.Faults.{tree_faults, IsFirst, IfFault, UnlessNoMemory};
+ghost use Rattle.pddl_lexer.specs.Faults.{tree_faults};
 ghost use Rattle.pddl_lexer.specs.declared.fault.Fault.{Fault};
 
 use crate::builder::Builder;
-use crate::fault::{Fault, TreeEnd};
+use crate::fault::Fault;
 use crate::scanner::Scanner;
 use crate::tree::Tree;
+use lists::Stop;
 use std::alloc::Global;
 
 /// Reads the one nested list of a text, in one pass. Its words are slices of the text, as they are written there.
@@ -19,7 +21,7 @@ use std::alloc::Global;
 /// that ends before the next line feed, and any byte may stand in it. A word is a longest run of bytes 33 to 126
 /// without `(`, `)` and `;`, and a `?` begins a new word. Lists may be nested 100 deep. Lines are counted from 1,
 /// and so are the bytes of each line.
-pub fn read_tree<'a>(alloc: Global, bytes: &'a [u8]) -> Result<Tree<'a>, TreeEnd>
+pub fn read_tree<'a>(alloc: Global, bytes: &'a [u8]) -> Result<Tree<'a>, Stop<Fault>>
     // What is read is the tree of the text, once its words are lowered.
     ensures tree { IfOk result (λ tree. IsTreeOf bytes.now (lowered_members tree)) }
     // Each word is a slice of the text at its place, as written.
@@ -35,7 +37,7 @@ pub fn read_tree<'a>(alloc: Global, bytes: &'a [u8]) -> Result<Tree<'a>, TreeEnd
     // Unless memory runs out, a text without faults gives a tree, and one with faults gives the first.
     ensures ok { tree_faults bytes.now ≡ [] → UnlessNoMemory result (IsOk result) }
     ensures fault { (fault : Fault) → IsFirst (tree_faults bytes.now) fault
-        → UnlessNoMemory result (result ≡ Err (TreeEnd.Fault fault)) }
+        → UnlessNoMemory result (result ≡ Err (Stop.Fault fault)) }
 {
     let mut scanner = Scanner::new();
     let mut builder = Builder::new(alloc);
@@ -43,7 +45,7 @@ pub fn read_tree<'a>(alloc: Global, bytes: &'a [u8]) -> Result<Tree<'a>, TreeEnd
     while let [byte, after @ ..] = text {
         let mark = scanner.mark(*byte);
         if let Some(kind) = builder.kind_at(mark) {
-            return Err(TreeEnd::Fault(Fault {
+            return Err(Stop::Fault(Fault {
                 kind,
                 at: scanner.at,
             }));
@@ -53,7 +55,7 @@ pub fn read_tree<'a>(alloc: Global, bytes: &'a [u8]) -> Result<Tree<'a>, TreeEnd
         text = after;
     }
     match builder.kind_at_end() {
-        Some(kind) => Err(TreeEnd::Fault(Fault {
+        Some(kind) => Err(Stop::Fault(Fault {
             kind,
             at: scanner.at,
         })),

@@ -2,8 +2,8 @@
 use Rattle.std.proofs.Common.{◌≡◌, true, false, List, Ok, Err, refl, ap}
 use Rattle.pddl_lexer.specs.Members.{Members, is_empty, is_list, position, inside, rest}
 use Rattle.pddl_lexer.specs.declared.fault.Fault.{Fault}
-use Rattle.pddl_syntax.specs.declared.end.ParseEnd.{ParseEnd}
-use Rattle.pddl_syntax.specs.declared.end.ParseEnd.TheVariants as ends
+use Rattle.lists.specs.declared.stop.Stop.{Stop}
+use Rattle.lists.specs.declared.stop.Stop.TheVariants as stops
 use Rattle.pddl_syntax.specs.declared.types.Head.{Head}
 use Rattle.pddl_syntax.specs.declared.types.Named.{Named}
 use Rattle.pddl_syntax.specs.declared.types.Typed.{Typed}
@@ -19,10 +19,10 @@ passed (Ok none) (Reads others) e = refl
 passed (Ok none) (Faults fault others) e = refl
 passed (Err fault) more e = absurd cc
 
-failed : (check : Check) (fault : Fault) (more : Reading (Unit {0})) → check ≡ Err fault → first (both (λ one others. others) (own check (Reads (tt {0}))) more) ≡ Err (ends.Fault fault)
+failed : (check : Check) (fault : Fault) (more : Reading (Unit {0})) → check ≡ Err fault → first (both (λ one others. others) (own check (Reads (tt {0}))) more) ≡ Err (stops.Fault fault)
 failed (Ok none) fault more e = absurd cc
-failed (Err other) fault (Reads others) e = let same : other ≡ fault = cc in ap (λ (f : Fault). Err (ends.Fault f)) same
-failed (Err other) fault (Faults later others) e = let same : other ≡ fault = cc in ap (λ (f : Fault). Err (ends.Fault f)) same
+failed (Err other) fault (Reads others) e = let same : other ≡ fault = cc in ap (λ (f : Fault). Err (stops.Fault f)) same
+failed (Err other) fault (Faults later others) e = let same : other ≡ fault = cc in ap (λ (f : Fault). Err (stops.Fault f)) same
 
 pub of_none : (m : Members) → is_empty m ≡ true → first (eithers m) ≡ Ok (tt {0})
 of_none m none = rw (none_left m none) refl
@@ -33,7 +33,7 @@ of_word m some no_list = rw (word_then m some no_list) refl
 pub of_list : (m : Members) → is_list m ≡ true → check_either (position m) (inside m) ≡ passes → first (eithers m) ≡ first (eithers (rest m))
 of_list m is e = rw (list_then m is) (passed (check_either (position m) (inside m)) (eithers (rest m)) e)
 
-pub at_fault : (m : Members) (fault : Fault) → is_list m ≡ true → check_either (position m) (inside m) ≡ Err fault → first (eithers m) ≡ Err (ends.Fault fault)
+pub at_fault : (m : Members) (fault : Fault) → is_list m ≡ true → check_either (position m) (inside m) ≡ Err fault → first (eithers m) ≡ Err (stops.Fault fault)
 at_fault m fault is e = rw (list_then m is) (failed (check_either (position m) (inside m)) fault (eithers (rest m)) e)
 
 -- what stands there where no list is at fault
@@ -41,9 +41,9 @@ pub made_of : {A : Type 0} (x : A) (reading : Reading (Unit {0})) → first read
 made_of x (Reads none) e = refl
 made_of x (Faults fault more) e = absurd cc
 
-pub made_fails : {A : Type 0} (x : A) (reading : Reading (Unit {0})) (end : ParseEnd) → first reading ≡ Err end → first (made (λ none. x) reading) ≡ Err end
+pub made_fails : {A : Type 0} (x : A) (reading : Reading (Unit {0})) (end : Stop Fault) → first reading ≡ Err end → first (made (λ none. x) reading) ≡ Err end
 made_fails x (Reads none) end e = absurd cc
-made_fails x (Faults fault more) end e = let same : ends.Fault fault ≡ end = cc in ap (λ (f : ParseEnd). Err f) same
+made_fails x (Faults fault more) end e = let same : stops.Fault fault ≡ end = cc in ap (λ (f : Stop Fault). Err f) same
 
 abbrev headed : Named → List Typed → Head
 headed name variables = record { name = name; variables = variables }

@@ -3,8 +3,8 @@ use Rattle.std.proofs.Common.{◌≡◌, ◌<◌, ◌≤◌, true, false, List, 
 use Rattle.std.proofs.lemmas.List.{append_assoc, append-nil}
 use Rattle.pddl_lexer.specs.Members.{Members, NoMore, WordThen, ListThen, is_empty, is_list, position, word, inside, rest, count}
 use Rattle.pddl_lexer.specs.declared.fault.Fault.{Fault}
-use Rattle.pddl_syntax.specs.declared.end.ParseEnd.{ParseEnd}
-use Rattle.pddl_syntax.specs.declared.end.ParseEnd.TheVariants as ends
+use Rattle.lists.specs.declared.stop.Stop.{Stop}
+use Rattle.lists.specs.declared.stop.Stop.TheVariants as stops
 use Rattle.pddl_syntax.specs.Outcome.{Reading, Reads, Faults, both, every, at_each, Outcome, first}
 
 -- what stands there, by the tests that the code makes
@@ -51,7 +51,7 @@ module _ {A : Type 0} (rule : Members → A) where
 -- what was read before, and then the rest
 abbrev pub after : {A : Type 0} → List A → Reading (List A) → Outcome (List A)
 after xs (Reads ys) = Ok (xs ++ ys)
-after xs (Faults fault more) = Err (ends.Fault fault)
+after xs (Faults fault more) = Err (stops.Fault fault)
 
 module _ {A : Type 0} where
   pub after_both : (xs : List A) (x : A) (one : Reading A) (more : Reading (List A)) → first one ≡ Ok x →
@@ -63,10 +63,10 @@ module _ {A : Type 0} where
   after_both xs x (Faults fault others) (Reads ys) read = absurd cc
   after_both xs x (Faults fault others) (Faults other more) read = absurd cc
 
-  same_end : (fault : Fault) (e : ParseEnd) → ◌≡◌ {A = Outcome A} (Err (ends.Fault fault)) (Err e) → ◌≡◌ {A = Outcome (List A)} (Err (ends.Fault fault)) (Err e)
-  same_end fault e read = let same : ends.Fault fault ≡ e = cc in ap (λ (x : ParseEnd). Err x) same
+  same_end : (fault : Fault) (e : Stop Fault) → ◌≡◌ {A = Outcome A} (Err (stops.Fault fault)) (Err e) → ◌≡◌ {A = Outcome (List A)} (Err (stops.Fault fault)) (Err e)
+  same_end fault e read = let same : stops.Fault fault ≡ e = cc in ap (λ (x : Stop Fault). Err x) same
 
-  pub after_fails : (xs : List A) (e : ParseEnd) (one : Reading A) (more : Reading (List A)) → first one ≡ Err e →
+  pub after_fails : (xs : List A) (e : Stop Fault) (one : Reading A) (more : Reading (List A)) → first one ≡ Err e →
       after xs (both (λ y ys. y ∷ ys) one more) ≡ Err e
   after_fails xs e (Reads y) more read = absurd cc
   after_fails xs e (Faults fault others) (Reads ys) read = same_end fault e read
@@ -84,7 +84,7 @@ module _ {A : Type 0} (rule : Members → Reading A) where
   pub turn : (xs : List A) (x : A) (m : Members) → is_empty m ≡ false → first (rule m) ≡ Ok x → after (xs ++ x ∷ []) (every rule (rest m)) ≡ after xs (every rule m)
   turn xs x m some read = after_both xs x (rule m) (every rule (rest m)) read ∙ ap (after xs) (sym (every_first m some))
 
-  pub fails : (xs : List A) (e : ParseEnd) (m : Members) → is_empty m ≡ false → first (rule m) ≡ Err e → after xs (every rule m) ≡ Err e
+  pub fails : (xs : List A) (e : Stop Fault) (m : Members) → is_empty m ≡ false → first (rule m) ≡ Err e → after xs (every rule m) ≡ Err e
   fails xs e m some read = ap (after xs) (every_first m some) ∙ after_fails xs e (rule m) (every rule (rest m)) read
 
   pub ended : (xs : List A) (m : Members) → is_empty m ≡ true → after xs (every rule m) ≡ Ok xs

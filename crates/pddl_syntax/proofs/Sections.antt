@@ -5,7 +5,8 @@ use Rattle.std.proofs.lemmas.List.{append-nil}
 use Rattle.pddl_lexer.specs.declared.position.At.{At}
 use Rattle.pddl_lexer.specs.declared.fault.ShapePlace.TheVariants as places
 use Rattle.pddl_lexer.specs.Members.{Members, NoMore, WordThen, ListThen, is_empty, is_list, position, word, inside, rest}
-use Rattle.pddl_syntax.specs.declared.end.ParseEnd.{ParseEnd}
+use Rattle.lists.specs.declared.stop.Stop.{Stop}
+use Rattle.pddl_lexer.specs.declared.fault.Fault.{Fault}
 use Rattle.pddl_syntax.specs.Outcome.{Reading, Reads, both, refused, first}
 use Rattle.pddl_syntax.specs.Reading.{is_repeated, keyed_section, section, sections}
 use Rattle.pddl_syntax.specs.Shapes.{unsupported, repeated, malformed}
@@ -24,7 +25,7 @@ module _ {S : Type 0} (one : List Name → Members → Reading S) where
   turn earlier xs x m listed read =
       after_both xs x (one earlier m) (sections one (earlier ++ word (inside m) ∷ []) (rest m)) read ∙ ap (after xs) (sym (section_first earlier m listed))
 
-  pub fails : (earlier : List Name) (xs : List S) (e : ParseEnd) (m : Members) → is_list m ≡ true → first (one earlier m) ≡ Err e → after xs (sections one earlier m) ≡ Err e
+  pub fails : (earlier : List Name) (xs : List S) (e : Stop Fault) (m : Members) → is_list m ≡ true → first (one earlier m) ≡ Err e → after xs (sections one earlier m) ≡ Err e
   fails earlier xs e m listed read =
       ap (after xs) (section_first earlier m listed) ∙ after_fails xs e (one earlier m) (sections one (earlier ++ word (inside m) ∷ []) (rest m)) read
 

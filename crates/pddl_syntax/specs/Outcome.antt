@@ -2,8 +2,8 @@
 use Rattle.std.specs.Prelude.{◌≡◌, ◌≢◌, List, [], ◌∷◌, ◌++◌, Result, Ok, Err}
 use Rattle.pddl_lexer.specs.Members.{Members, NoMore, WordThen, ListThen}
 use Rattle.pddl_lexer.specs.declared.fault.Fault.{Fault}
-use Rattle.pddl_syntax.specs.declared.end.ParseEnd.{ParseEnd}
-use Rattle.pddl_syntax.specs.declared.end.ParseEnd.TheVariants as ends
+use Rattle.lists.specs.declared.stop.Stop.{Stop}
+use Rattle.lists.specs.declared.stop.Stop.TheVariants as stops
 
 -- a value; or a first fault and those after it
 pub data Reading (A : Type 0) : Type 0 where
@@ -55,15 +55,15 @@ every rule members = joined (at_each rule members)
 -- ---- what the code answers
 
 abbrev pub Outcome : Type 0 → Type 0
-Outcome A = Result A ParseEnd
+Outcome A = Result A (Stop Fault)
 
 -- the value, or the first fault
 abbrev pub first : {A : Type 0} → Reading A → Outcome A
 first (Reads x) = Ok x
-first (Faults fault more) = Err (ends.Fault fault)
+first (Faults fault more) = Err (stops.Fault fault)
 
 -- What a function that reads gives is the value exactly where there is no fault, and else the first fault. Only where memory
 -- runs out it gives `NoMemory` in place of either.
 abbrev pub Gives : {A : Type 0} → Outcome A → Outcome A → Type 0
 Gives (Ok x) reading = reading ≡ Ok x
-Gives (Err e) reading = e ≢ ends.NoMemory → reading ≡ Err e
+Gives (Err e) reading = e ≢ stops.NoMemory → reading ≡ Err e

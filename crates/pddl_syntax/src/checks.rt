@@ -5,9 +5,9 @@ ghost use Rattle.pddl_syntax.specs.Shapes as spec;
 ghost use Rattle.pddl_syntax.specs.Values.{eithers};
 
 use crate::cursor::Cursor;
-use crate::end::ParseEnd;
 use crate::expected::{Expected, check_member, check_type, malformed};
 use crate::words::is_dash;
+use lists::Stop;
 use pddl_lexer::{At, Fault, ShapePlace};
 
 /// Each member is as expected.
@@ -97,7 +97,7 @@ fn check_either(at: At, members: &Cursor<'_>) -> Result<(), Fault>
 
 /// The lists in a list of variables are lists of types.
 #[tactic(auto, using(crate::proofs::Eithers::of_none, crate::proofs::Eithers::of_word, crate::proofs::Eithers::of_list, crate::proofs::Eithers::at_fault, crate::proofs::Rows::fewer))]
-pub(crate) fn check_eithers(members: &Cursor<'_>) -> Result<(), ParseEnd>
+pub(crate) fn check_eithers(members: &Cursor<'_>) -> Result<(), Stop<Fault>>
     ensures { result ≡ first (eithers members.now) }
 {
     let mut cursor = members.copy();

@@ -12,13 +12,12 @@ ghost use Rattle.pddl_syntax.specs.declared.types.Condition.TheVariants as kinds
 use crate::boxes::boxed;
 use crate::checks::{check_all, check_exact};
 use crate::cursor::Cursor;
-use crate::end::ParseEnd;
 use crate::expected::{Expected, malformed, unsupported};
 use crate::types::{Condition, Typed};
 use crate::values::{atom, term, variables};
 use crate::words::spells;
-use lists::{Boxed, List};
-use pddl_lexer::{At, ShapePlace};
+use lists::{Boxed, List, Stop};
+use pddl_lexer::{At, Fault, ShapePlace};
 use std::alloc::Global;
 
 /// What the first word of a condition says.
@@ -80,7 +79,7 @@ pub(crate) fn bound(
     place: ShapePlace,
     at: At,
     members: &Cursor<'_>,
-) -> Result<List<Typed>, ParseEnd>
+) -> Result<List<Typed>, Stop<Fault>>
     ensures { Gives result (first (own (check_exact place at (expected.List places.VariableList ∷ expected.List place ∷ []) members.now) (variables members.now))) }
 {
     check_exact(place, at, &[VARIABLES, Expected::List(place)], members)?;
@@ -88,7 +87,7 @@ pub(crate) fn bound(
 }
 
 /// The equation of two members of a list at this position.
-fn equation(alloc: Global, at: At, members: &Cursor<'_>) -> Result<Condition, ParseEnd>
+fn equation(alloc: Global, at: At, members: &Cursor<'_>) -> Result<Condition, Stop<Fault>>
     ensures { Gives result (first (own (check_exact places.Condition at (expected.Term ∷ expected.Term ∷ []) members.now) (Reads (kinds.Equal (term_of members.now) (term_of (rest members.now)) at)))) }
 {
     let terms = [Expected::Term, Expected::Term];
@@ -99,7 +98,7 @@ fn equation(alloc: Global, at: At, members: &Cursor<'_>) -> Result<Condition, Pa
 }
 
 /// The atom of these members of a list at this position.
-fn atomic(alloc: Global, at: At, members: &Cursor<'_>) -> Result<Condition, ParseEnd>
+fn atomic(alloc: Global, at: At, members: &Cursor<'_>) -> Result<Condition, Stop<Fault>>
     ensures { Gives result (first (made kinds.Atom (atom_of expected.Term places.Condition at members.now))) }
 {
     let atom = atom(alloc, Expected::Term, ShapePlace::Condition, at, members)?;
@@ -128,7 +127,7 @@ fn junction(conjunctive: bool, members: List<Condition>, at: At) -> Condition
 
 /// The condition here.
 #[cycle(condition)]
-pub fn condition(alloc: Global, cursor: &Cursor<'_>) -> Result<Condition, ParseEnd>
+pub fn condition(alloc: Global, cursor: &Cursor<'_>) -> Result<Condition, Stop<Fault>>
     ensures { Gives result (first (spec.condition cursor.now)) }
 {
     let at = cursor.at();
@@ -155,7 +154,7 @@ fn by_head(
     at: At,
     members: &Cursor<'_>,
     others: &Cursor<'_>,
-) -> Result<Condition, ParseEnd>
+) -> Result<Condition, Stop<Fault>>
     ensures { Gives result (first (spec.by_head head at members.now others.now (every spec.condition others.now) (spec.condition others.now) (spec.condition (rest others.now)))) }
 {
     match head {
@@ -174,7 +173,7 @@ fn by_head(
 /// The negation of the only member of a list at this position.
 #[cycle(condition)]
 #[tactic(auto, using(crate::proofs::Readings::first_own_made))]
-fn negation(alloc: Global, at: At, members: &Cursor<'_>) -> Result<Condition, ParseEnd>
+fn negation(alloc: Global, at: At, members: &Cursor<'_>) -> Result<Condition, Stop<Fault>>
     ensures { Gives result (first (own (check_exact places.Condition at (expected.List places.Condition ∷ []) members.now) (made (λ condition. kinds.Not condition at) (spec.condition members.now)))) }
 {
     check_exact(ShapePlace::Condition, at, &[CONDITION], members)?;
@@ -184,7 +183,7 @@ fn negation(alloc: Global, at: At, members: &Cursor<'_>) -> Result<Condition, Pa
 
 /// The implication of two members of a list at this position.
 #[cycle(condition)]
-fn implication(alloc: Global, at: At, members: &Cursor<'_>) -> Result<Condition, ParseEnd>
+fn implication(alloc: Global, at: At, members: &Cursor<'_>) -> Result<Condition, Stop<Fault>>
     ensures { Gives result (first (own (check_exact places.Condition at (expected.List places.Condition ∷ expected.List places.Condition ∷ []) members.now) (both (λ premise conclusion. kinds.Imply premise conclusion at) (spec.condition members.now) (spec.condition (rest members.now))))) }
 {
     check_exact(ShapePlace::Condition, at, &[CONDITION, CONDITION], members)?;
@@ -200,7 +199,7 @@ fn quantified(
     universal: bool,
     at: At,
     members: &Cursor<'_>,
-) -> Result<Condition, ParseEnd>
+) -> Result<Condition, Stop<Fault>>
     ensures { Gives result (first (own (check_exact places.Condition at (expected.List places.VariableList ∷ expected.List places.Condition ∷ []) members.now) (both (λ bound inner. if universal then kinds.Forall bound inner at else kinds.Exists bound inner at) (variables members.now) (spec.condition (rest members.now))))) }
 {
     let bound = bound(alloc, ShapePlace::Condition, at, members)?;
@@ -215,7 +214,7 @@ fn joined(
     conjunctive: bool,
     at: At,
     members: &Cursor<'_>,
-) -> Result<Condition, ParseEnd>
+) -> Result<Condition, Stop<Fault>>
     ensures { Gives result (first (made (λ conditions. if conjunctive then kinds.And conditions at else kinds.Or conditions at) (own (check_all (expected.List places.Condition) members.now) (every spec.condition members.now)))) }
 {
     check_all(CONDITION, members)?;

@@ -15,13 +15,12 @@ use crate::boxes::boxed;
 use crate::checks::{check_all, check_exact};
 use crate::condition::{CONDITION, bound, condition};
 use crate::cursor::Cursor;
-use crate::end::ParseEnd;
 use crate::expected::{Expected, malformed, unsupported};
 use crate::types::{Atom, Condition, Cost, Effect};
 use crate::values::{atom, number};
 use crate::words::spells;
-use lists::{Boxed, List};
-use pddl_lexer::{At, ShapePlace};
+use lists::{Boxed, List, Stop};
+use pddl_lexer::{At, Fault, ShapePlace};
 use std::alloc::Global;
 
 /// What the first word of an effect says.
@@ -69,7 +68,7 @@ fn is_unsupported(word: &[u8]) -> bool
 pub(crate) const EFFECT: Expected = Expected::List(ShapePlace::Effect);
 
 /// The atom here, or the function that is increased.
-fn changed_atom(alloc: Global, cursor: &Cursor<'_>) -> Result<Atom, ParseEnd>
+fn changed_atom(alloc: Global, cursor: &Cursor<'_>) -> Result<Atom, Stop<Fault>>
     ensures { Gives result (first (spec.changed_atom cursor.now)) }
 {
     let at = cursor.at();
@@ -83,7 +82,7 @@ fn checked_atom(
     at: At,
     expected: &[Expected],
     members: &Cursor<'_>,
-) -> Result<Atom, ParseEnd>
+) -> Result<Atom, Stop<Fault>>
     ensures { Gives result (first (own (check_exact places.Effect at expected.now members.now) (spec.changed_atom members.now))) }
 {
     check_exact(ShapePlace::Effect, at, expected, members)?;
@@ -91,7 +90,7 @@ fn checked_atom(
 }
 
 /// The effect that deletes an atom: the only member of a list at this position.
-fn deletion(alloc: Global, at: At, members: &Cursor<'_>) -> Result<Effect, ParseEnd>
+fn deletion(alloc: Global, at: At, members: &Cursor<'_>) -> Result<Effect, Stop<Fault>>
     ensures { Gives result (first (own (check_exact places.Effect at (expected.List places.Effect ∷ []) members.now) (made kinds.Delete (spec.changed_atom members.now)))) }
 {
     let deleted = checked_atom(alloc, at, &[EFFECT], members)?;
@@ -99,7 +98,7 @@ fn deletion(alloc: Global, at: At, members: &Cursor<'_>) -> Result<Effect, Parse
 }
 
 /// The effect that adds the atom of these members of a list at this position.
-fn addition(alloc: Global, at: At, members: &Cursor<'_>) -> Result<Effect, ParseEnd>
+fn addition(alloc: Global, at: At, members: &Cursor<'_>) -> Result<Effect, Stop<Fault>>
     ensures { Gives result (first (made kinds.Add (atom_of expected.Term places.Effect at members.now))) }
 {
     let added = atom(alloc, Expected::Term, ShapePlace::Effect, at, members)?;
@@ -107,7 +106,7 @@ fn addition(alloc: Global, at: At, members: &Cursor<'_>) -> Result<Effect, Parse
 }
 
 /// The condition of a `when` at this position, which stands before an effect.
-fn guard(alloc: Global, at: At, members: &Cursor<'_>) -> Result<Condition, ParseEnd>
+fn guard(alloc: Global, at: At, members: &Cursor<'_>) -> Result<Condition, Stop<Fault>>
     ensures { Gives result (first (own (check_exact places.Effect at (expected.List places.Condition ∷ expected.List places.Effect ∷ []) members.now) (condition members.now))) }
 {
     check_exact(ShapePlace::Effect, at, &[CONDITION, EFFECT], members)?;
@@ -117,9 +116,9 @@ fn guard(alloc: Global, at: At, members: &Cursor<'_>) -> Result<Condition, Parse
 /// The effect of a `when` at this position, if its inner effect was read.
 fn conditional(
     condition: Condition,
-    inner: Result<Boxed<Effect>, ParseEnd>,
+    inner: Result<Boxed<Effect>, Stop<Fault>>,
     at: At,
-) -> Result<Effect, ParseEnd>
+) -> Result<Effect, Stop<Fault>>
     ensures { (effect : Reading Read) → Gives inner (first effect) → Gives result (first (made (λ inner. kinds.When condition inner at) effect)) }
 {
     match inner {
@@ -133,7 +132,7 @@ fn conditional(
 }
 
 /// The cost here.
-fn cost(alloc: Global, cursor: &Cursor<'_>) -> Result<Cost, ParseEnd>
+fn cost(alloc: Global, cursor: &Cursor<'_>) -> Result<Cost, Stop<Fault>>
     ensures { Gives result (first (spec.cost cursor.now)) }
 {
     if !cursor.is_list() {
@@ -146,7 +145,7 @@ fn cost(alloc: Global, cursor: &Cursor<'_>) -> Result<Cost, ParseEnd>
 }
 
 /// The increase of a function by a cost: the members of a list at this position.
-fn increase(alloc: Global, at: At, members: &Cursor<'_>) -> Result<Effect, ParseEnd>
+fn increase(alloc: Global, at: At, members: &Cursor<'_>) -> Result<Effect, Stop<Fault>>
     ensures { Gives result (first (own (check_exact places.Effect at (expected.List places.Effect ∷ expected.Cost ∷ []) members.now) (both (λ increased by. kinds.Increase increased by at) (spec.changed_atom members.now) (spec.cost (rest members.now))))) }
 {
     let increased = checked_atom(alloc, at, &[EFFECT, Expected::Cost], members)?;
@@ -156,7 +155,7 @@ fn increase(alloc: Global, at: At, members: &Cursor<'_>) -> Result<Effect, Parse
 
 /// The effect here.
 #[cycle(effect)]
-pub fn effect(alloc: Global, cursor: &Cursor<'_>) -> Result<Effect, ParseEnd>
+pub fn effect(alloc: Global, cursor: &Cursor<'_>) -> Result<Effect, Stop<Fault>>
     ensures { Gives result (first (spec.effect cursor.now)) }
 {
     let at = cursor.at();
@@ -183,7 +182,7 @@ fn by_head(
     at: At,
     members: &Cursor<'_>,
     others: &Cursor<'_>,
-) -> Result<Effect, ParseEnd>
+) -> Result<Effect, Stop<Fault>>
     ensures { Gives result (first (spec.by_head head at members.now others.now (every spec.effect others.now) (spec.effect (rest others.now)))) }
 {
     match head {
@@ -199,7 +198,7 @@ fn by_head(
 
 /// The effect of a `when` at this position, with its condition.
 #[cycle(effect)]
-fn guarded(alloc: Global, at: At, members: &Cursor<'_>) -> Result<Effect, ParseEnd>
+fn guarded(alloc: Global, at: At, members: &Cursor<'_>) -> Result<Effect, Stop<Fault>>
     ensures { Gives result (first (own (check_exact places.Effect at (expected.List places.Condition ∷ expected.List places.Effect ∷ []) members.now) (both (λ condition inner. kinds.When condition inner at) (condition members.now) (spec.effect (rest members.now))))) }
 {
     let condition = guard(alloc, at, members)?;
@@ -209,7 +208,7 @@ fn guarded(alloc: Global, at: At, members: &Cursor<'_>) -> Result<Effect, ParseE
 
 /// The effect of a `forall` at this position, with its variables.
 #[cycle(effect)]
-fn for_all(alloc: Global, at: At, members: &Cursor<'_>) -> Result<Effect, ParseEnd>
+fn for_all(alloc: Global, at: At, members: &Cursor<'_>) -> Result<Effect, Stop<Fault>>
     ensures { Gives result (first (own (check_exact places.Effect at (expected.List places.VariableList ∷ expected.List places.Effect ∷ []) members.now) (both (λ bound inner. kinds.Forall bound inner at) (variables members.now) (spec.effect (rest members.now))))) }
 {
     let bound = bound(alloc, ShapePlace::Effect, at, members)?;
@@ -219,7 +218,7 @@ fn for_all(alloc: Global, at: At, members: &Cursor<'_>) -> Result<Effect, ParseE
 
 /// The conjunction of all members of a list at this position.
 #[cycle(effect)]
-fn conjunction(alloc: Global, at: At, members: &Cursor<'_>) -> Result<Effect, ParseEnd>
+fn conjunction(alloc: Global, at: At, members: &Cursor<'_>) -> Result<Effect, Stop<Fault>>
     ensures { Gives result (first (made (λ effects. kinds.And effects at) (own (check_all (expected.List places.Effect) members.now) (every spec.effect members.now)))) }
 {
     check_all(EFFECT, members)?;

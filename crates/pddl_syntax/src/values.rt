@@ -5,12 +5,11 @@ ghost use Rattle.pddl_syntax.specs.Values as spec;
 
 use crate::checks::{check_atom, check_eithers, check_head, check_typed};
 use crate::cursor::Cursor;
-use crate::end::ParseEnd;
 use crate::expected::Expected;
 use crate::number::number_of;
 use crate::types::{Atom, Head, Named, Term, Typed};
 use crate::words::{begins_with_question_mark, is_dash};
-use lists::{List, Text};
+use lists::{List, Stop, Text};
 use pddl_lexer::{At, Fault, Kind, ShapePlace};
 use std::alloc::{AllocError, Global};
 
@@ -36,12 +35,25 @@ pub(crate) fn term(alloc: Global, cursor: &Cursor<'_>) -> Result<Term, AllocErro
     }
 }
 
+/// How many members there are, or the greatest `usize` where there are more.
+#[tactic(auto, using(crate::proofs::Rows::fewer))]
+fn member_count(members: &Cursor<'_>) -> usize {
+    let mut cursor = members.copy();
+    let mut count: usize = 0;
+    while !cursor.is_empty() {
+        count = count.saturating_add(1);
+        cursor = cursor.rest();
+    }
+    count
+}
+
+/// The arguments. Their list has room for no more, since a problem may have millions of atoms.
 #[tactic(auto, using(crate::proofs::Rows::each_turn, crate::proofs::Rows::each_ended, crate::proofs::Rows::fewer))]
 fn terms(alloc: Global, members: &Cursor<'_>) -> Result<List<Term>, AllocError>
     ensures { IfOk result (λ terms. terms ≡ at_each spec.term members.now) }
 {
     let mut cursor = members.copy();
-    let mut terms = Vec::new(alloc);
+    let mut terms = Vec::with_capacity(alloc, member_count(members))?;
     while !cursor.is_empty() {
         terms.push(term(alloc, &cursor)?)?;
         cursor = cursor.rest();
@@ -56,7 +68,7 @@ pub fn atom(
     place: ShapePlace,
     at: At,
     members: &Cursor<'_>,
-) -> Result<Atom, ParseEnd>
+) -> Result<Atom, Stop<Fault>>
     ensures { Gives result (first (spec.atom argument place at members.now)) }
 {
     check_atom(argument, place, at, members)?;
@@ -68,12 +80,12 @@ pub fn atom(
 }
 
 /// The number here.
-pub fn number(cursor: &Cursor<'_>) -> Result<u64, ParseEnd>
+pub fn number(cursor: &Cursor<'_>) -> Result<u64, Stop<Fault>>
     ensures { Gives result (first (spec.number cursor.now)) }
 {
     match number_of(cursor.word()) {
         Some(number) => Ok(number),
-        None => Err(ParseEnd::Fault(Fault {
+        None => Err(Stop::Fault(Fault {
             kind: Kind::NumberTooLarge,
             at: cursor.at(),
         })),
@@ -160,7 +172,7 @@ pub(crate) fn typed_list(alloc: Global, members: &Cursor<'_>) -> Result<List<Typ
 }
 
 /// A list of names, the members of a section at this position.
-pub fn names(alloc: Global, at: At, members: &Cursor<'_>) -> Result<List<Typed>, ParseEnd>
+pub fn names(alloc: Global, at: At, members: &Cursor<'_>) -> Result<List<Typed>, Stop<Fault>>
     ensures { Gives result (first (spec.names at members.now)) }
 {
     let name = Expected::Name(ShapePlace::NameList);
@@ -170,7 +182,7 @@ pub fn names(alloc: Global, at: At, members: &Cursor<'_>) -> Result<List<Typed>,
 
 /// Variables with their types, of which those that are lists were not looked at.
 #[tactic(auto, using(crate::proofs::Eithers::made_of, crate::proofs::Eithers::made_fails))]
-fn typed_variables(alloc: Global, members: &Cursor<'_>) -> Result<List<Typed>, ParseEnd>
+fn typed_variables(alloc: Global, members: &Cursor<'_>) -> Result<List<Typed>, Stop<Fault>>
     ensures { Gives result (first (made (λ _. spec.typed members.now) (spec.eithers members.now))) }
 {
     check_eithers(members)?;
@@ -178,7 +190,7 @@ fn typed_variables(alloc: Global, members: &Cursor<'_>) -> Result<List<Typed>, P
 }
 
 /// The list of variables here.
-pub fn variables(alloc: Global, cursor: &Cursor<'_>) -> Result<List<Typed>, ParseEnd>
+pub fn variables(alloc: Global, cursor: &Cursor<'_>) -> Result<List<Typed>, Stop<Fault>>
     ensures { Gives result (first (spec.variables cursor.now)) }
 {
     let at = cursor.at();
@@ -189,7 +201,7 @@ pub fn variables(alloc: Global, cursor: &Cursor<'_>) -> Result<List<Typed>, Pars
 
 /// The head here.
 #[tactic(auto, unfolding(crate::specs::Values::head), using(crate::proofs::Eithers::made_head))]
-pub fn head(alloc: Global, cursor: &Cursor<'_>) -> Result<Head, ParseEnd>
+pub fn head(alloc: Global, cursor: &Cursor<'_>) -> Result<Head, Stop<Fault>>
     ensures { Gives result (first (spec.head cursor.now)) }
 {
     let inside = cursor.inside();

@@ -3,4 +3,3 @@ mod Cuts
 mod SolutionCosts
 mod CostTables
 mod PassedLines
-mod Ends

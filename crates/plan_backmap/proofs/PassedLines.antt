@@ -1,12 +1,15 @@
 -- What the loop over the lines of a plan file keeps.
-use Rattle.std.proofs.Common.{◌≡◌, ℕ, ◌+◌, ◌*◌, ◌≤◌, List, [], ◌∷◌, ◌++◌, length, Option, Some, None, refl, sym, ap, ◌∙◌, arith, append_assoc, append-nil}
+use Rattle.std.proofs.Common.{◌≡◌, ℕ, ◌+◌, ◌*◌, ◌≤◌, List, [], ◌∷◌, ◌++◌, length, Option, Some, None, Err, refl, sym, ap, ◌∙◌, arith, append_assoc, append-nil}
 use Rattle.std.specs.Prelude.{IfSome}
 use Rattle.std.specs.List.{cons_option, flat_map}
 use Rattle.std.specs.Option.{option_to_list}
 use Rattle.std.proofs.lemmas.List.Concat.{flat_map-append}
 use Rattle.std.proofs.lemmas.List.Sums.{sum_by-append}
 use Rattle.plan_backmap.proofs.Cuts.{next_line, shorter}
-use Rattle.plan_backmap.specs.declared.end.MapEnd.{MapEnd}
+use Rattle.lists.specs.Stops.{IfFault, IsFirst}
+use Rattle.lists.specs.declared.stop.Stop.{Stop}
+use Rattle.lists.specs.declared.stop.Stop.TheVariants as stops
+use Rattle.plan_backmap.specs.declared.fault.PlanFault.{PlanFault}
 use Rattle.plan_backmap.specs.Lines.{plan_lines, trimmed}
 use Rattle.plan_backmap.specs.FirstLine.{first_line, after_line}
 use Rattle.plan_backmap.specs.PlanText.{step_line}
@@ -45,14 +48,15 @@ module _ (operators : List Operator) (text : List ℕ) (number : ℕ) (steps : L
       p.taken ∙ ap (λ ls. steps ++ spec.steps operators ls) (next_line rest some)
       ∙ ap (λ l. steps ++ cons_option (spec.step_of operators l) (spec.steps operators (plan_lines (after_line rest)))) (sym line_is)
 
-  first_here : (fault : spec.PlanFault) → spec.fault_of operators (number + 1) line ≡ Some fault → spec.IsFirst (spec.faults operators (plan_lines text)) fault
+  first_here : (fault : PlanFault) → spec.fault_of operators (number + 1) line ≡ Some fault → IsFirst (spec.faults operators (plan_lines text)) fault
   first_here fault here =
       let after = spec.faults_from (number + 1 + 1) operators (plan_lines (after_line rest)) in
       (after, faults_split ∙ ap (λ found. cons_option found after) here)
 
   -- a fault that is found here is the first
-  pub fault_here : (end : MapEnd) → spec.IfFault end (λ fault. spec.fault_of operators (number + 1) line ≡ Some fault) → spec.IfFault end (spec.IsFirst (spec.faults operators (plan_lines text)))
-  fault_here end here fault is = first_here fault (here fault is)
+  pub fault_here : (A B : Type 0) (stop : Stop PlanFault) → IfFault {A = A} (Err stop) (λ fault. spec.fault_of operators (number + 1) line ≡ Some fault) → IfFault {A = B} (Err stop) (IsFirst (spec.faults operators (plan_lines text)))
+  fault_here A B (stops.Fault fault) here = first_here fault here
+  fault_here A B stops.NoMemory here = tt
 
   -- one line more
   pub passed_line : (after : List ℕ) → after ≡ after_line rest → spec.fault_of operators (number + 1) line ≡ None →
@@ -95,7 +99,7 @@ none_written operators text before = record {
 
 module _ (operators : List Operator) (text : List ℕ) (number total : ℕ) (rest before written : List ℕ) (w : Written operators text number total rest before written) (some : 1 ≤ length rest)
     (line : List ℕ) (line_is : line ≡ trimmed (first_line rest)) where
-  pub written_fault : (end : MapEnd) → spec.IfFault end (λ fault. spec.fault_of operators (number + 1) line ≡ Some fault) → spec.IfFault end (spec.IsFirst (spec.faults operators (plan_lines text)))
+  pub written_fault : (A B : Type 0) (stop : Stop PlanFault) → IfFault {A = A} (Err stop) (λ fault. spec.fault_of operators (number + 1) line ≡ Some fault) → IfFault {A = B} (Err stop) (IsFirst (spec.faults operators (plan_lines text)))
   written_fault = fault_here operators text number w.steps total rest w.passed some line line_is
 
   pub written_line : (after : List ℕ) → after ≡ after_line rest → spec.fault_of operators (number + 1) line ≡ None →

@@ -2,7 +2,8 @@
 use Rattle.std.specs.Prelude.{◌≡◌, ℕ, true, false, List, [], ◌∷◌, ◌++◌, codes}
 use Rattle.sas_task.specs.declared.parts.Operator.{Operator}
 use Rattle.plan_backmap.specs.Lines.{lines, trimmed, plan_lines, is_comment, is_step, words, name}
-use Rattle.plan_backmap.specs.Plans.{BadLine, UnknownStep, faults, mapped}
+use Rattle.plan_backmap.specs.declared.fault.PlanFault.TheVariants.{BadLine, UnknownStep}
+use Rattle.plan_backmap.specs.Plans.{faults, mapped}
 use Rattle.plan_backmap.specs.declared.plan.Step.{Step}
 
 abbrev pub operator : List ℕ → ℕ → Operator

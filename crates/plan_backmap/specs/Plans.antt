@@ -1,5 +1,5 @@
 -- What a plan file comes to for a task's operators: its steps with their costs, or its first faulty line.
-use Rattle.std.specs.Prelude.{◌≡◌, ◌≢◌, ℕ, List, [], ◌∷◌, Option, Some, None, Result, Err, is_some, not, if◌then◌else◌}
+use Rattle.std.specs.Prelude.{ℕ, List, [], ◌∷◌, Option, Some, None, is_some, not, if◌then◌else◌}
 use Rattle.std.specs.List.{enumerate_from, filter_map, sum_by}
 use Rattle.std.specs.Option.{option_map}
 use Rattle.names.specs.Names.{Name, is_same}
@@ -7,8 +7,8 @@ use Rattle.sas_task.specs.declared.parts.Operator.{Operator}
 use Rattle.plan_backmap.specs.Lines.{is_comment, is_step, words, name}
 use Rattle.plan_backmap.specs.declared.plan.Step.{Step}
 use Rattle.plan_backmap.specs.declared.plan.Mapped.{Mapped}
-use Rattle.plan_backmap.specs.declared.end.MapEnd.{MapEnd}
-use Rattle.plan_backmap.specs.declared.end.MapEnd.TheVariants as ends
+use Rattle.plan_backmap.specs.declared.fault.PlanFault.{PlanFault}
+use Rattle.plan_backmap.specs.declared.fault.PlanFault.TheVariants.{BadLine, UnknownStep}
 
 -- a line of a text: 1 is the first
 abbrev pub Line : Type 0
@@ -26,11 +26,6 @@ step_of operators line = if is_step line then option_map (λ cost. record { word
 -- the steps of trimmed lines, in order
 abbrev pub steps : List Operator → List (List ℕ) → List Step
 steps operators plan = filter_map (step_of operators) plan
-
--- a faulty line of a plan file: it is no comment and no step, or it is a step whose name no operator has
-pub data PlanFault : Type 0 where
-  BadLine : (line : Line) → PlanFault
-  UnknownStep : (line : Line) → PlanFault
 
 -- the fault of a trimmed line with this number, if it has one
 abbrev pub fault_of : List Operator → Line → List ℕ → Option PlanFault
@@ -55,20 +50,3 @@ total steps = sum_by (λ step. step.cost) steps
 -- the steps of trimmed lines, and what they cost together
 abbrev pub mapped : List Operator → List (List ℕ) → Mapped
 mapped operators plan = record { steps = steps operators plan; total = total (steps operators plan) }
-
--- the fault is the first of these
-abbrev pub IsFirst : List PlanFault → PlanFault → Type 0
-IsFirst faults fault = (more : List PlanFault) × (faults ≡ fault ∷ more)
-
--- what is answered for a fault
-abbrev pub end_of : PlanFault → MapEnd
-end_of (BadLine line) = ends.BadLine line
-end_of (UnknownStep line) = ends.UnknownStep line
-
--- the fact holds of the fault for which the end is answered, if it is for one
-abbrev pub IfFault : MapEnd → (PlanFault → Type 0) → Type 0
-IfFault end fact = (fault : PlanFault) → end ≡ end_of fault → fact fault
-
--- the fact holds, unless memory ran out
-abbrev pub UnlessNoMemory : {A : Type 0} → Result A MapEnd → Type 0 → Type 0
-UnlessNoMemory result fact = result ≢ Err ends.NoMemory → fact

@@ -2,7 +2,7 @@
 #![tactic(auto)]
 
 mod costs;
-mod end;
+mod fault;
 mod laws;
 mod lines;
 mod mapping;
@@ -10,7 +10,7 @@ mod plan;
 mod text;
 mod writing;
 
-pub use end::MapEnd;
+pub use fault::PlanFault;
 pub use laws::{solutions_cost_the_total, worked_lines, worked_plans};
 pub use mapping::map_plan;
 pub use plan::{Mapped, Step};

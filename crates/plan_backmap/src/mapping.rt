@@ -1,15 +1,17 @@
 //! A plan file, line by line.
 
-ghost use Rattle.std.specs.Prelude.{◌≡◌, ◌≤◌, ◌<◌, ◌^◌, [], ◌++◌, length, None, Some, IsOk, Err, IfOk, IfErr, IfSome, OnOk};
+ghost use Rattle.std.specs.Prelude.{◌≡◌, ◌≤◌, ◌<◌, ◌^◌, [], ◌++◌, length, None, Some, IsOk, Err, IfOk, IfSome, OnOk};
 ghost use Rattle.std.specs.Option.{option_to_list};
+ghost use Rattle.lists.specs.Stops.{IfFault, UnlessNoMemory, IsFirst};
+ghost use Rattle.plan_backmap.specs.declared.fault.PlanFault.{PlanFault};
 ghost use Rattle.plan_backmap.specs.Lines.{plan_lines};
-ghost use Rattle.plan_backmap.specs.Plans.{PlanFault, step_of, fault_of, faults, mapped, total, IsFirst, end_of, IfFault, UnlessNoMemory};
+ghost use Rattle.plan_backmap.specs.Plans.{step_of, fault_of, faults, mapped, total};
 
 use crate::costs::Costs;
-use crate::end::MapEnd;
+use crate::fault::PlanFault;
 use crate::lines::{after_line, first_line, inside, is_comment, is_step, name, trimmed, words};
 use crate::plan::{Mapped, Step};
-use lists::List;
+use lists::{List, Stop};
 use sas_task::SasTask;
 use std::alloc::{AllocError, Global};
 
@@ -19,23 +21,23 @@ pub(crate) fn step_of(
     costs: &Costs,
     number: u64,
     line: &[u8],
-) -> Result<Option<Step>, MapEnd>
+) -> Result<Option<Step>, Stop<PlanFault>>
     ensures step { IfOk result (λ step. step ≡ step_of costs.now.operators line.now) }
     ensures small { IfOk result (λ step. IfSome step (λ step. step.cost ≤ 2147483647)) }
     ensures faultless { OnOk result (fault_of costs.now.operators number line.now ≡ None) }
-    ensures fault { IfErr result (λ end. IfFault end (λ fault. fault_of costs.now.operators number line.now ≡ Some fault)) }
+    ensures fault { IfFault result (λ fault. fault_of costs.now.operators number line.now ≡ Some fault) }
 {
     if is_comment(line) {
         return Ok(None);
     }
     if !is_step(line) {
-        return Err(MapEnd::BadLine(number));
+        return Err(Stop::Fault(PlanFault::BadLine(number)));
     }
     let words = words(alloc, inside(line))?;
     let name = name(alloc, words.as_slice())?;
     match costs.cost(name.as_slice()) {
         Some(cost) => Ok(Some(Step { words, cost })),
-        None => Err(MapEnd::UnknownStep(number)),
+        None => Err(Stop::Fault(PlanFault::UnknownStep(number))),
     }
 }
 
@@ -62,11 +64,11 @@ fn add_step(steps: &mut Vec<Step>, found: Option<Step>) -> Result<(), AllocError
 }
 
 /// The steps of a plan file, in one pass over its lines.
-fn map_lines(alloc: Global, costs: &Costs, bytes: &[u8]) -> Result<Mapped, MapEnd>
+fn map_lines(alloc: Global, costs: &Costs, bytes: &[u8]) -> Result<Mapped, Stop<PlanFault>>
     requires { length bytes.now < 2 ^ 32 }
     ensures mapped { IfOk result (λ answer. answer ≡ mapped costs.now.operators (plan_lines bytes.now)) }
     ensures faultless { OnOk result (faults costs.now.operators (plan_lines bytes.now) ≡ []) }
-    ensures first { IfErr result (λ end. IfFault end (IsFirst (faults costs.now.operators (plan_lines bytes.now)))) }
+    ensures first { IfFault result (IsFirst (faults costs.now.operators (plan_lines bytes.now))) }
 {
     let mut steps = Vec::new(alloc);
     let mut total = 0;
@@ -76,7 +78,7 @@ fn map_lines(alloc: Global, costs: &Costs, bytes: &[u8]) -> Result<Mapped, MapEn
         number += 1;
         let found = match step_of(alloc, costs, number, trimmed(first_line(rest))) {
             Ok(found) => found,
-            Err(end) => return Err(end),
+            Err(stop) => return Err(stop),
         };
         total += step_cost(&found);
         add_step(&mut steps, found)?;
@@ -98,20 +100,20 @@ fn map_lines(alloc: Global, costs: &Costs, bytes: &[u8]) -> Result<Mapped, MapEn
 /// such line ends the mapping.
 ///
 /// Whether the steps can be taken one after another, and reach the goal, isn't looked at.
-#[tactic(auto, using(crate::proofs::Ends::is_mapped, crate::proofs::Ends::is_fault))]
-pub fn map_plan(alloc: Global, task: &SasTask, bytes: &[u8]) -> Result<Mapped, MapEnd>
+#[tactic(auto, using(lists::proofs::Stops::is_answered, lists::proofs::Stops::is_fault))]
+pub fn map_plan(alloc: Global, task: &SasTask, bytes: &[u8]) -> Result<Mapped, Stop<PlanFault>>
     requires { length bytes.now < 2 ^ 32 }
     // What is answered is the steps and their total cost.
     ensures mapped { IfOk result (λ answer. answer ≡ mapped task.now.operators (plan_lines bytes.now)) }
     // Only a plan without faulty lines is mapped.
     ensures faultless { OnOk result (faults task.now.operators (plan_lines bytes.now) ≡ []) }
     // A faulty line that is answered is the first.
-    ensures first { IfErr result (λ end. IfFault end (IsFirst (faults task.now.operators (plan_lines bytes.now)))) }
+    ensures first { IfFault result (IsFirst (faults task.now.operators (plan_lines bytes.now))) }
 
     // Unless memory runs out, a plan without faulty lines is mapped, and one with faulty lines gives the first.
     ensures ok { faults task.now.operators (plan_lines bytes.now) ≡ [] → UnlessNoMemory result (IsOk result) }
     ensures fault { (fault : PlanFault) → IsFirst (faults task.now.operators (plan_lines bytes.now)) fault
-        → UnlessNoMemory result (result ≡ Err (end_of fault)) }
+        → UnlessNoMemory result (result ≡ Err (Stop.Fault fault)) }
 {
     let costs = Costs::of(alloc, task)?;
     map_lines(alloc, &costs, bytes)

@@ -3,6 +3,7 @@
 ghost use Rattle.pddl_syntax.specs.Spelled.{IsWellSpelled, IsWellSpelledProblem};
 
 use crate::reading::{domain_of, problem_of};
+use lists::Stop;
 use pddl_lexer::Kind::{
     self, CostForm, DerivedWritten, DuplicateName, InitConflict, RecursiveDerived, TooManyParts,
     TypeCycle, UnboundVariable, UnknownFunction, UnknownObject, UnknownPredicate, UnknownType,
@@ -13,7 +14,7 @@ use pddl_syntax::{Domain, Problem};
 use std::alloc::Global;
 use std::process::Abort;
 use std::test::*;
-use type_checker::{CheckEnd, Side, check};
+use type_checker::{Side, check};
 
 /// A fault that is answered, with its line and column, or none where both files are accepted.
 type Answer = Option<(Side, Kind, u64, u64)>;
@@ -28,7 +29,7 @@ fn is_fault(
 
 /// How the check ends that doesn't accept the pair.
 // It says nothing of what it does, so that no proof of a test carries it.
-fn end_of(alloc: Global, domain: Domain, problem: Problem) -> Option<CheckEnd>
+fn end_of(alloc: Global, domain: Domain, problem: Problem) -> Option<Stop<(Side, Fault)>>
     requires domain { IsWellSpelled domain }
     requires problem { IsWellSpelledProblem problem }
 {
@@ -41,7 +42,7 @@ fn is_answer(alloc: Global, domain: Domain, problem: Problem, expected: Answer) 
 {
     match (end_of(alloc, domain, problem), expected) {
         (None, None) => true,
-        (Some(CheckEnd::Fault(side, fault)), Some(wanted)) => is_fault(side, fault, wanted),
+        (Some(Stop::Fault((side, fault))), Some(wanted)) => is_fault(side, fault, wanted),
         _ => false,
     }
 }

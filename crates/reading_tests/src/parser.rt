@@ -37,7 +37,7 @@ fn is_flip(actions: &[Action]) -> bool {
         [action] => {
             is_at(&action.name, "flip", 3, 10)
                 && is_atom(&action.precondition, "off", 4, 17)
-                && matches!(&action.effect, Effect::And(members, At { line: 5, column: 10 }) if members.as_slice().len() == 2)
+                && matches!(&action.effect, Effect::And(members, At { line: 5, column: 10 }) if members.len() == 2)
         }
         _ => false,
     }
@@ -48,7 +48,7 @@ fn is_off(init: &[Init]) -> bool {
 }
 
 fn is_switch(domain: &Domain) -> bool {
-    domain.predicates.as_slice().len() == 2 && is_flip(domain.actions.as_slice())
+    domain.predicates.len() == 2 && is_flip(domain.actions.as_slice())
 }
 
 fn is_lamp(problem: &Problem) -> bool {
@@ -68,7 +68,7 @@ fn are_typed(constants: &[Typed]) -> bool {
 
 /// Whether the second of two functions has two variables.
 fn are_functions(functions: &[Head]) -> bool {
-    matches!(functions, [_, far] if far.variables.as_slice().len() == 2)
+    matches!(functions, [_, far] if far.variables.len() == 2)
 }
 
 fn is_exists(axioms: &[Derived]) -> bool {
@@ -97,7 +97,7 @@ fn is_forall(actions: &[Action]) -> bool {
 
 fn is_typed(domain: &Domain) -> bool {
     are_typed(domain.constants.as_slice())
-        && domain.types.as_slice().len() == 1
+        && domain.types.len() == 1
         && are_functions(domain.functions.as_slice())
         && is_exists(domain.axioms.as_slice())
         && is_forall(domain.actions.as_slice())

@@ -3,22 +3,23 @@
 ghost use Rattle.std.specs.Prelude.{IfOk};
 ghost use Rattle.pddl_syntax.specs.Spelled.{IsWellSpelled, IsWellSpelledProblem};
 
+use lists::Stop;
 use pddl_lexer::{Fault, read_tree};
 use pddl_parser::{parse_domain, parse_problem};
-use pddl_syntax::{Domain, ParseEnd, Problem};
+use pddl_syntax::{Domain, Problem};
 use std::alloc::Global;
 
-pub(crate) fn domain_of(alloc: Global, text: &str) -> Result<Domain, ParseEnd>
+pub(crate) fn domain_of(alloc: Global, text: &str) -> Result<Domain, Stop<Fault>>
     ensures { IfOk result IsWellSpelled }
 {
-    let tree = read_tree(alloc, text.as_bytes()).map_err(|_| ParseEnd::NoMemory)?;
+    let tree = read_tree(alloc, text.as_bytes()).map_err(|_| Stop::NoMemory)?;
     parse_domain(alloc, &tree)
 }
 
-pub(crate) fn problem_of(alloc: Global, text: &str) -> Result<Problem, ParseEnd>
+pub(crate) fn problem_of(alloc: Global, text: &str) -> Result<Problem, Stop<Fault>>
     ensures { IfOk result IsWellSpelledProblem }
 {
-    let tree = read_tree(alloc, text.as_bytes()).map_err(|_| ParseEnd::NoMemory)?;
+    let tree = read_tree(alloc, text.as_bytes()).map_err(|_| Stop::NoMemory)?;
     parse_problem(alloc, &tree)
 }
 
@@ -35,5 +36,5 @@ pub(crate) fn has_first_fault(alloc: Global, file: File, text: &str, expected: F
         File::Domain => domain_of(alloc, text).err(),
         File::Problem => problem_of(alloc, text).err(),
     };
-    matches!(end, Some(ParseEnd::Fault(fault)) if fault == expected)
+    matches!(end, Some(Stop::Fault(fault)) if fault == expected)
 }

@@ -1,6 +1,7 @@
 //! The nested list of a text, its first fault, and the number and the text of each kind of fault.
 
-use pddl_lexer::{At, Kind, ShapePlace, Tree, TreeEnd, read_tree};
+use lists::Stop;
+use pddl_lexer::{At, Kind, ShapePlace, Tree, read_tree};
 use std::alloc::Global;
 use std::process::Abort;
 use std::test::*;
@@ -8,7 +9,7 @@ use std::test::*;
 /// Whether this is the first fault of the text.
 fn has_fault(alloc: Global, text: &[u8], kind: Kind, line: u64, column: u64) -> bool {
     match read_tree(alloc, text) {
-        Err(TreeEnd::Fault(fault)) => fault.kind == kind && fault.at == At { line, column },
+        Err(Stop::Fault(fault)) => fault.kind == kind && fault.at == At { line, column },
         _ => false,
     }
 }

@@ -28,24 +28,33 @@ fn run_task_translates()
     ensures { (pair : FilePair) (settings : Settings) (found : Found) (task : Task) → IsChecked pair → IsFound (normal pair.domain pair.problem) settings.max_candidates found →
         IsRunTask settings.full_encoding (normal pair.domain pair.problem) found task → TranslatesPair [] pair task }
 {
+    // The pair: steps that change nothing can be left out of its plans.
     idle_steps();
-    same_task();
+    // The normal task: it is lawful, and its plans are the pair's.
     normal_task::laws::lawful();
+    same_task();
+    // The ground task: it is lawful, no axiom needs itself, and its plans are the normal task's.
     ground_task::laws::lawful();
-    reached_task::laws::lawful();
-    ground_task::laws::same_meaning();
     ground_task::laws::statics_kept();
     ground_task::laws::instances_ranked();
     ground_task::laws::no_recursion();
+    ground_task::laws::same_meaning();
+    // The reached task: it is lawful, and its plans are the ground task's.
+    reached_task::laws::lawful();
     reached_task::laws::same_meaning();
+    // The invariants: they hold, so at most one fact of a group is ever true.
     finds();
     groups_are_exclusive();
     groups_of_facts();
+    // The cover: its sets have every fact, and at most one fact of a set is ever true.
     covers();
     exclusive_covers();
+    // The encoding: it is valid, and its plans are the reached task's.
     validity();
     simulation();
+    // The projection: it is valid, and its plans are the encoding's.
     projection_keeps();
+    // The costs: names tell what operators cost, so plans cost what their steps do.
     names_tell_costs();
     operators_tell_costs();
     solutions_cost_the_total();

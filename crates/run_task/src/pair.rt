@@ -108,7 +108,7 @@ fn encoded(
 fn facts_of(reached: &Reached) -> u64
     ensures { result ≡ length reached.now.facts }
 {
-    reached.facts.as_slice().len() as u64
+    reached.facts.len() as u64
 }
 
 /// What can be reached of the normal task's instances.

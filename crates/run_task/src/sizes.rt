@@ -13,7 +13,7 @@ pub fn summary(found: &Found, task: &SasTask) -> Summary
 {
     Summary {
         candidates: found.tried,
-        invariants: found.accepted.as_slice().len() as u64,
+        invariants: found.accepted.len() as u64,
         variables: task.variables(),
         facts: facts(task),
         mutex_groups: task.groups(),
@@ -37,5 +37,5 @@ fn facts(task: &SasTask) -> u128
 fn range(variable: &Variable) -> u64
     ensures { result ≡ length variable.now.facts }
 {
-    variable.facts.as_slice().len() as u64
+    variable.facts.len() as u64
 }

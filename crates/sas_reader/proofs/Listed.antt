@@ -1,7 +1,8 @@
 -- Items that are read one after the other, as a loop does.
 use Rattle.std.proofs.Common.{◌≡◌, ℕ, suc, ◌-◌, ◌+◌, ◌≤◌, ◌<◌, List, [], ◌∷◌, ◌++◌, Ok, Err, refl, sym, ap, ◌∙◌, arith}
-use Rattle.sas_reader.specs.declared.fault.ReadTaskEnd.{ReadTaskEnd}
-use Rattle.sas_reader.specs.declared.fault.ReadTaskEnd.TheVariants as ends
+use Rattle.lists.specs.declared.stop.Stop.{Stop}
+use Rattle.sas_reader.specs.declared.fault.SasFault.{SasFault}
+use Rattle.lists.specs.declared.stop.Stop.TheVariants as ends
 use Rattle.sas_reader.specs.Answers.{Fails}
 use Rattle.sas_reader.specs.Forms.{Unread, Reading, Form, followed, listed}
 
@@ -19,7 +20,7 @@ goes_on one count i items seen longer x now after total within same pushed read 
     ap (λ l. listed one (count - (i + 1)) l after) pushed ∙ sym step ∙ so_far
 
 -- where an item fails, all do
-pub fails : {A : Type 0} (one : List A → Form A) (e : ReadTaskEnd) (count i : ℕ) (items seen : List A) (now : Unread) (total : Reading (List A))
+pub fails : {A : Type 0} (one : List A → Form A) (e : Stop SasFault) (count i : ℕ) (items seen : List A) (now : Unread) (total : Reading (List A))
     → i < count → seen ≡ items → Fails e (one seen now) → GoesOn one count i items now total → Fails e total
 unfolding listed
 fails one ends.NoMemory count i items seen now total within same failed so_far = tt
@@ -37,6 +38,6 @@ is_done one count i items now total past so_far =
     sym so_far ∙ step
 
 -- where the first of two forms fails, both do
-pub stops : {A B : Type 0} (e : ReadTaskEnd) (reading : Reading A) (more : A → Form B) → Fails e reading → Fails e (followed reading more)
+pub stops : {A B : Type 0} (e : Stop SasFault) (reading : Reading A) (more : A → Form B) → Fails e reading → Fails e (followed reading more)
 stops ends.NoMemory reading more failed = tt
 stops (ends.Fault fault) reading more failed = ap (λ r. followed r more) failed

@@ -2,9 +2,9 @@
 
 ghost use Rattle.std.specs.Prelude.{◌≡◌};
 ghost use Rattle.sas_reader.specs.Places.{text};
-ghost use Rattle.sas_reader.specs.declared.fault.ReadTaskEnd.TheVariants as ends;
+ghost use Rattle.lists.specs.declared.stop.Stop.TheVariants as stops;
 
-use std::alloc::{AllocError, AllocFailed};
+use lists::Stop;
 
 /// A section of the text. What stands after the last one is at its end.
 #[derive(Clone, Copy)]
@@ -46,33 +46,10 @@ pub struct SasFault {
     pub place: SasPlace,
 }
 
-/// Why no task was read.
-#[derive(Clone, Copy)]
-pub enum ReadTaskEnd {
-    Fault(SasFault),
-    NoMemory,
-}
+impl From<SasFault> for Stop<SasFault> {
+    ghost from_gives = { λ fault stop. stop ≡ stops.Fault fault };
 
-impl From<SasFault> for ReadTaskEnd {
-    ghost from_gives = { λ fault end. end ≡ ends.Fault fault };
-
-    fn from(fault: SasFault) -> ReadTaskEnd {
-        ReadTaskEnd::Fault(fault)
-    }
-}
-
-impl From<AllocError> for ReadTaskEnd {
-    ghost from_gives = { λ _ end. end ≡ ends.NoMemory };
-
-    fn from(_: AllocError) -> ReadTaskEnd {
-        ReadTaskEnd::NoMemory
-    }
-}
-
-impl<T: Drop> From<AllocFailed<T>> for ReadTaskEnd {
-    ghost from_gives = { λ _ end. end ≡ ends.NoMemory };
-
-    fn from(_: AllocFailed<T>) -> ReadTaskEnd {
-        ReadTaskEnd::NoMemory
+    fn from(fault: SasFault) -> Stop<SasFault> {
+        Stop::Fault(fault)
     }
 }

@@ -15,6 +15,6 @@ mod tables;
 mod task;
 mod values;
 
-pub use fault::{ReadTaskEnd, SasFault, SasPlace};
+pub use fault::{SasFault, SasPlace};
 pub use laws::{first_faults, texts};
 pub use task::read_task;

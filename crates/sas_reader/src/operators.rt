@@ -7,18 +7,19 @@ ghost use Rattle.sas_reader.specs.Contexts.{so_far};
 ghost use Rattle.sas_reader.specs.Operators as operators;
 ghost use Rattle.sas_reader.specs.Tables as steps;
 
-use crate::fault::ReadTaskEnd;
+use crate::fault::SasFault;
 use crate::numbers::{is_name, less_space, text};
 use crate::parts::{conditions, effect_conditions, value};
 use crate::reader::Reader;
 use crate::requirements::Requirements;
 use crate::values::{is_value, layer_of};
+use lists::Stop;
 use sas_task::{Effect, List, Operator, Pair, Value, Var, Variable};
 use std::alloc::Global;
 
 /// The line of an operator's name, which may have one space more at its end.
 #[tactic(auto, unfolding(crate::specs::Operators::name))]
-fn name<'a>(reader: &mut Reader<'a>) -> Result<&'a [u8], ReadTaskEnd>
+fn name<'a>(reader: &mut Reader<'a>) -> Result<&'a [u8], Stop<SasFault>>
     ensures { Gives (λ name. name.now) result reader.new (operators.name reader.old) }
 {
     let name = less_space(reader.next_line()?);
@@ -31,7 +32,7 @@ fn required_value(
     reader: &mut Reader<'_>,
     variables: &[Variable],
     var: Var,
-) -> Result<Option<Value>, ReadTaskEnd>
+) -> Result<Option<Value>, Stop<SasFault>>
     ensures { Gives (λ x. x) result reader.new (operators.required_value (so_far variables.now []) var reader.old) }
 {
     let required = reader.number_or_none()?;
@@ -50,7 +51,7 @@ fn effect_words(
     reader: &mut Reader<'_>,
     variables: &[Variable],
     required: &Requirements,
-) -> Result<(Effect, Option<Value>), ReadTaskEnd>
+) -> Result<(Effect, Option<Value>), Stop<SasFault>>
     ensures { Gives (λ x. x) result reader.new (operators.effect (so_far variables.now []) required.now.0 required.now.1 reader.old) }
 {
     let conditions = effect_conditions(alloc, reader, variables)?;
@@ -72,7 +73,7 @@ fn effect_line(
     reader: &mut Reader<'_>,
     variables: &[Variable],
     required: &Requirements,
-) -> Result<(Effect, Option<Value>), ReadTaskEnd>
+) -> Result<(Effect, Option<Value>), Stop<SasFault>>
     ensures { Gives (λ x. x) result reader.new (line (operators.effect (so_far variables.now []) required.now.0 required.now.1) reader.old) }
 {
     reader.begin_words()?;
@@ -88,7 +89,7 @@ fn effect_lines(
     variables: &[Variable],
     prevail: List<Pair>,
     count: u64,
-) -> Result<Requirements, ReadTaskEnd>
+) -> Result<Requirements, Stop<SasFault>>
     ensures read { Gives (λ r. r.1) result reader.new (listed (λ earlier. line (operators.effect (so_far variables.now []) prevail earlier)) count [] reader.old) }
     ensures prevail { IfOk result (λ r. r.0 ≡ prevail) }
 {
@@ -102,7 +103,7 @@ fn effect_lines(
 
 /// The line of an operator's cost.
 #[tactic(auto, unfolding(crate::specs::Operators::cost))]
-fn cost(reader: &mut Reader<'_>, metric: bool) -> Result<u64, ReadTaskEnd>
+fn cost(reader: &mut Reader<'_>, metric: bool) -> Result<u64, Stop<SasFault>>
     ensures { Gives (λ x. x) result reader.new (operators.cost metric reader.old) }
 {
     let cost = reader.number_line()?;
@@ -117,7 +118,7 @@ fn after_name(
     metric: bool,
     variables: &[Variable],
     name: &[u8],
-) -> Result<Operator, ReadTaskEnd>
+) -> Result<Operator, Stop<SasFault>>
     ensures { Gives (λ x. x) result reader.new (steps.after_name metric (so_far variables.now []) name.now reader.old) }
 {
     let prevail = conditions(alloc, reader, variables)?;
@@ -142,7 +143,7 @@ fn operator(
     reader: &mut Reader<'_>,
     metric: bool,
     variables: &[Variable],
-) -> Result<Operator, ReadTaskEnd>
+) -> Result<Operator, Stop<SasFault>>
     ensures { Gives (λ x. x) result reader.new (operators.operator metric (so_far variables.now []) reader.old) }
 {
     reader.fixed(b"begin_operator")?;
@@ -157,7 +158,7 @@ fn operators(
     metric: bool,
     variables: &[Variable],
     count: u64,
-) -> Result<List<Operator>, ReadTaskEnd>
+) -> Result<List<Operator>, Stop<SasFault>>
     ensures { Gives (λ x. x) result reader.new (listed (λ _. operators.operator metric (so_far variables.now [])) count [] reader.old) }
 {
     let mut operators = Vec::new(alloc);
@@ -174,7 +175,7 @@ pub(crate) fn operator_section(
     reader: &mut Reader<'_>,
     metric: bool,
     variables: &[Variable],
-) -> Result<List<Operator>, ReadTaskEnd>
+) -> Result<List<Operator>, Stop<SasFault>>
     ensures { Gives (λ x. x) result reader.new (operators.operators metric (so_far variables.now []) reader.old) }
 {
     let count = reader.number_line()?;

@@ -6,9 +6,10 @@ ghost use Rattle.sas_reader.specs.Forms.{listed, line};
 ghost use Rattle.sas_reader.specs.Contexts.{so_far};
 ghost use Rattle.sas_reader.specs.Pairs as parts;
 
-use crate::fault::ReadTaskEnd;
+use crate::fault::SasFault;
 use crate::reader::Reader;
 use crate::values::{is_next_condition, is_next_fact, is_value};
+use lists::Stop;
 use sas_task::{List, Pair, Value, Var, Variable};
 use std::alloc::Global;
 
@@ -18,7 +19,7 @@ pub(crate) fn value(
     reader: &mut Reader<'_>,
     variables: &[Variable],
     var: Var,
-) -> Result<Value, ReadTaskEnd>
+) -> Result<Value, Stop<SasFault>>
     ensures { Gives (λ x. x) result reader.new (parts.value (so_far variables.now []) var reader.old) }
 {
     let val = reader.number()?;
@@ -27,7 +28,7 @@ pub(crate) fn value(
 
 /// Two words: a variable, and a value of it.
 #[tactic(auto, unfolding(crate::specs::Pairs::pair))]
-fn pair(reader: &mut Reader<'_>, variables: &[Variable]) -> Result<Pair, ReadTaskEnd>
+fn pair(reader: &mut Reader<'_>, variables: &[Variable]) -> Result<Pair, Stop<SasFault>>
     ensures { Gives (λ x. x) result reader.new (parts.pair (so_far variables.now []) reader.old) }
 {
     let var = reader.number()?;
@@ -41,7 +42,7 @@ fn condition(
     reader: &mut Reader<'_>,
     variables: &[Variable],
     before: &[Pair],
-) -> Result<Pair, ReadTaskEnd>
+) -> Result<Pair, Stop<SasFault>>
     ensures { Gives (λ x. x) result reader.new (parts.condition (so_far variables.now []) before.now reader.old) }
 {
     let pair = pair(reader, variables)?;
@@ -53,7 +54,7 @@ fn condition_line(
     reader: &mut Reader<'_>,
     variables: &[Variable],
     before: &[Pair],
-) -> Result<Pair, ReadTaskEnd>
+) -> Result<Pair, Stop<SasFault>>
     ensures { Gives (λ x. x) result reader.new (line (parts.condition (so_far variables.now []) before.now) reader.old) }
 {
     reader.begin_words()?;
@@ -68,7 +69,7 @@ fn fact_line(
     reader: &mut Reader<'_>,
     variables: &[Variable],
     before: &[Pair],
-) -> Result<Pair, ReadTaskEnd>
+) -> Result<Pair, Stop<SasFault>>
     ensures { Gives (λ x. x) result reader.new (line (parts.fact (so_far variables.now []) before.now) reader.old) }
 {
     reader.begin_words()?;
@@ -84,7 +85,7 @@ fn condition_words(
     reader: &mut Reader<'_>,
     variables: &[Variable],
     count: u64,
-) -> Result<List<Pair>, ReadTaskEnd>
+) -> Result<List<Pair>, Stop<SasFault>>
     ensures { Gives (λ x. x) result reader.new (listed (parts.condition (so_far variables.now [])) count [] reader.old) }
 {
     let mut pairs = Vec::new(alloc);
@@ -100,7 +101,7 @@ fn condition_lines(
     reader: &mut Reader<'_>,
     variables: &[Variable],
     count: u64,
-) -> Result<List<Pair>, ReadTaskEnd>
+) -> Result<List<Pair>, Stop<SasFault>>
     ensures { Gives (λ x. x) result reader.new (listed (λ before. line (parts.condition (so_far variables.now []) before)) count [] reader.old) }
 {
     let mut pairs = Vec::new(alloc);
@@ -116,7 +117,7 @@ pub(crate) fn fact_lines(
     reader: &mut Reader<'_>,
     variables: &[Variable],
     count: u64,
-) -> Result<List<Pair>, ReadTaskEnd>
+) -> Result<List<Pair>, Stop<SasFault>>
     ensures { Gives (λ x. x) result reader.new (listed (λ before. line (parts.fact (so_far variables.now []) before)) count [] reader.old) }
 {
     let mut pairs = Vec::new(alloc);
@@ -132,7 +133,7 @@ pub(crate) fn effect_conditions(
     alloc: Global,
     reader: &mut Reader<'_>,
     variables: &[Variable],
-) -> Result<List<Pair>, ReadTaskEnd>
+) -> Result<List<Pair>, Stop<SasFault>>
     ensures { Gives (λ x. x) result reader.new (parts.effect_conditions (so_far variables.now []) reader.old) }
 {
     let count = reader.number()?;
@@ -145,7 +146,7 @@ pub(crate) fn conditions(
     alloc: Global,
     reader: &mut Reader<'_>,
     variables: &[Variable],
-) -> Result<List<Pair>, ReadTaskEnd>
+) -> Result<List<Pair>, Stop<SasFault>>
     ensures { Gives (λ x. x) result reader.new (parts.conditions (so_far variables.now []) reader.old) }
 {
     let count = reader.number_line()?;

@@ -7,8 +7,9 @@ ghost use Rattle.sas_reader.specs.Forms as form;
 ghost use Rattle.sas_reader.specs.Forms.{pieces_of};
 ghost use Rattle.sas_reader.specs.Numbers as numbers;
 
-use crate::fault::{ReadTaskEnd, SasFault, SasPlace};
+use crate::fault::{SasFault, SasPlace};
 use crate::numbers::{number, number_or_none};
+use lists::Stop;
 use std::marker::Model;
 
 /// What is still to be read of a text. Contracts see its pieces between line feeds and its words between spaces.
@@ -99,7 +100,7 @@ impl<'a> Reader<'a> {
     }
 
     /// The value, where its line meets its rule.
-    pub fn passing<T: Drop>(&self, test: bool, value: T) -> Result<T, ReadTaskEnd>
+    pub fn passing<T: Drop>(&self, test: bool, value: T) -> Result<T, Stop<SasFault>>
         ensures { Gives (λ x. x) result self.now (form.passing test value self.now) }
     {
         if test {
@@ -110,7 +111,7 @@ impl<'a> Reader<'a> {
     }
 
     /// The value that a line has by its rule, if it meets it.
-    fn met<T: Drop>(&self, value: Option<T>) -> Result<T, ReadTaskEnd>
+    fn met<T: Drop>(&self, value: Option<T>) -> Result<T, Stop<SasFault>>
         ensures { Gives (λ x. x) result self.now (form.met value self.now) }
     {
         match value {
@@ -120,7 +121,7 @@ impl<'a> Reader<'a> {
     }
 
     /// The next line, whole.
-    pub fn next_line(&mut self) -> Result<&'a [u8], ReadTaskEnd>
+    pub fn next_line(&mut self) -> Result<&'a [u8], Stop<SasFault>>
         ensures { Gives (λ line. line.now) result self.new (form.next_line self.old) }
     {
         match cut(self.rest, b'\n') {
@@ -135,7 +136,7 @@ impl<'a> Reader<'a> {
 
     /// Begins the next line, which is read word by word.
     #[tactic(auto, unfolding(crate::specs::Forms::begin_words))]
-    pub fn begin_words(&mut self) -> Result<(), ReadTaskEnd>
+    pub fn begin_words(&mut self) -> Result<(), Stop<SasFault>>
         ensures { Gives (λ x. x) result self.new (form.begin_words self.old) }
     {
         let line = self.next_line()?;
@@ -144,7 +145,7 @@ impl<'a> Reader<'a> {
     }
 
     /// The next word of the line.
-    fn word(&mut self) -> Result<&'a [u8], ReadTaskEnd>
+    fn word(&mut self) -> Result<&'a [u8], Stop<SasFault>>
         ensures { Gives (λ word. word.now) result self.new (form.word self.old) }
     {
         let Some(words) = self.words else {
@@ -163,7 +164,7 @@ impl<'a> Reader<'a> {
     }
 
     /// Ends the line, which has no word left.
-    pub fn end_words(&mut self) -> Result<(), ReadTaskEnd>
+    pub fn end_words(&mut self) -> Result<(), Stop<SasFault>>
         ensures { Gives (λ x. x) result self.new (form.end_words self.old) }
     {
         match self.words {
@@ -173,7 +174,7 @@ impl<'a> Reader<'a> {
     }
 
     /// The end of the text.
-    pub fn end(&mut self) -> Result<(), ReadTaskEnd>
+    pub fn end(&mut self) -> Result<(), Stop<SasFault>>
         ensures { Gives (λ x. x) result self.new (form.end self.old) }
     {
         if self.rest.is_empty() {
@@ -185,7 +186,7 @@ impl<'a> Reader<'a> {
 
     /// A line of fixed words.
     #[tactic(auto, unfolding(crate::specs::Forms::fixed))]
-    pub fn fixed(&mut self, words: &[u8]) -> Result<(), ReadTaskEnd>
+    pub fn fixed(&mut self, words: &[u8]) -> Result<(), Stop<SasFault>>
         ensures { Gives (λ x. x) result self.new (form.fixed words.now self.old) }
     {
         let line = self.next_line()?;
@@ -194,7 +195,7 @@ impl<'a> Reader<'a> {
 
     /// A line with a number.
     #[tactic(auto, unfolding(crate::specs::Numbers::number_line))]
-    pub fn number_line(&mut self) -> Result<u64, ReadTaskEnd>
+    pub fn number_line(&mut self) -> Result<u64, Stop<SasFault>>
         ensures { Gives (λ x. x) result self.new (numbers.number_line self.old) }
     {
         let line = self.next_line()?;
@@ -203,7 +204,7 @@ impl<'a> Reader<'a> {
 
     /// A line with a number that isn't too small.
     #[tactic(auto, unfolding(crate::specs::Numbers::at_least))]
-    pub fn at_least(&mut self, least: u64) -> Result<u64, ReadTaskEnd>
+    pub fn at_least(&mut self, least: u64) -> Result<u64, Stop<SasFault>>
         ensures { Gives (λ x. x) result self.new (numbers.at_least least self.old) }
     {
         let number = self.number_line()?;
@@ -212,7 +213,7 @@ impl<'a> Reader<'a> {
 
     /// A line with a number, or -1 for none.
     #[tactic(auto, unfolding(crate::specs::Numbers::number_or_none_line))]
-    pub fn number_or_none_line(&mut self) -> Result<Option<u64>, ReadTaskEnd>
+    pub fn number_or_none_line(&mut self) -> Result<Option<u64>, Stop<SasFault>>
         ensures { Gives (λ x. x) result self.new (numbers.number_or_none_line self.old) }
     {
         let line = self.next_line()?;
@@ -221,7 +222,7 @@ impl<'a> Reader<'a> {
 
     /// A word that is a number.
     #[tactic(auto, unfolding(crate::specs::Numbers::number))]
-    pub fn number(&mut self) -> Result<u64, ReadTaskEnd>
+    pub fn number(&mut self) -> Result<u64, Stop<SasFault>>
         ensures { Gives (λ x. x) result self.new (numbers.number self.old) }
     {
         let word = self.word()?;
@@ -230,7 +231,7 @@ impl<'a> Reader<'a> {
 
     /// A word that is a number, or -1 for none.
     #[tactic(auto, unfolding(crate::specs::Numbers::number_or_none))]
-    pub fn number_or_none(&mut self) -> Result<Option<u64>, ReadTaskEnd>
+    pub fn number_or_none(&mut self) -> Result<Option<u64>, Stop<SasFault>>
         ensures { Gives (λ x. x) result self.new (numbers.number_or_none self.old) }
     {
         let word = self.word()?;

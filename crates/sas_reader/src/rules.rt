@@ -8,12 +8,13 @@ ghost use Rattle.sas_reader.specs.Forms.{listed};
 ghost use Rattle.sas_reader.specs.Contexts.{so_far, is_below};
 ghost use Rattle.sas_reader.specs.Rules as rules;
 
-use crate::fault::ReadTaskEnd;
+use crate::fault::SasFault;
 use crate::parts::{conditions, value};
 use crate::reader::Reader;
 use crate::tables::note;
 use crate::values::{is_below, layer_of};
-use sas_task::{List, Pair, Rule, Var, Variable};
+use lists::Stop;
+use sas_task::{List, Pair, Rule, Value, Var, Variable};
 use std::alloc::{AllocError, Global};
 use std::collections::BTreeMap;
 use std::marker::Model;
@@ -22,7 +23,7 @@ use std::marker::Model;
 struct RulesSoFar {
     rules: Vec<Rule>,
     /// The new value of each variable that they set.
-    afters: BTreeMap<u64, u64>,
+    afters: BTreeMap<Var, Value>,
 }
 
 impl Drop for RulesSoFar {
@@ -58,7 +59,7 @@ impl RulesSoFar {
     }
 
     /// Whether the new value is that of the earlier rules for the variable.
-    fn is_same_after(&self, var: Var, after: u64) -> bool
+    fn is_same_after(&self, var: Var, after: Value) -> bool
         ensures { result ≡ option_map_or (λ same. same.after == after) (find (λ same. same.var == var) self.now) true }
     {
         match self.afters.get(&var) {
@@ -96,14 +97,14 @@ fn are_below(variables: &[Variable], var: Var, conditions: &[Pair]) -> bool
 }
 
 /// Whether the number is the value of the variable in the state.
-fn is_default(state: &[u64], var: Var, value: u64) -> bool
+fn is_default(state: &[Value], var: Var, value: Value) -> bool
     ensures { var < length state.now → result ≡ (value == slice_index state.now var) }
 {
     state.get(var as usize).copied() == Some(value)
 }
 
 /// Whether the rule may stand after these. Its new value is one of the variable.
-fn may_set(variables: &[Variable], state: &[u64], earlier: &RulesSoFar, rule: &Rule) -> bool
+fn may_set(variables: &[Variable], state: &[Value], earlier: &RulesSoFar, rule: &Rule) -> bool
     requires { length state.now ≡ length variables.now }
     ensures { result ≡ rules.may_set (so_far variables.now state.now) earlier.now rule.now }
 {
@@ -119,10 +120,10 @@ fn may_set(variables: &[Variable], state: &[u64], earlier: &RulesSoFar, rule: &R
 fn change_words(
     reader: &mut Reader<'_>,
     variables: &[Variable],
-    state: &[u64],
+    state: &[Value],
     earlier: &RulesSoFar,
     conditions: List<Pair>,
-) -> Result<Rule, ReadTaskEnd>
+) -> Result<Rule, Stop<SasFault>>
     requires { length state.now ≡ length variables.now }
     ensures { Gives (λ x. x) result reader.new (rules.change variables.now state.now earlier.now conditions reader.old) }
 {
@@ -144,9 +145,9 @@ fn rule(
     alloc: Global,
     reader: &mut Reader<'_>,
     variables: &[Variable],
-    state: &[u64],
+    state: &[Value],
     earlier: &RulesSoFar,
-) -> Result<Rule, ReadTaskEnd>
+) -> Result<Rule, Stop<SasFault>>
     requires { length state.now ≡ length variables.now }
     ensures { Gives (λ x. x) result reader.new (rules.rule variables.now state.now earlier.now reader.old) }
 {
@@ -164,9 +165,9 @@ fn rules(
     alloc: Global,
     reader: &mut Reader<'_>,
     variables: &[Variable],
-    state: &[u64],
+    state: &[Value],
     count: u64,
-) -> Result<List<Rule>, ReadTaskEnd>
+) -> Result<List<Rule>, Stop<SasFault>>
     requires { length state.now ≡ length variables.now }
     ensures { Gives (λ x. x) result reader.new (listed (rules.rule variables.now state.now) count [] reader.old) }
 {
@@ -184,8 +185,8 @@ pub(crate) fn rule_section(
     alloc: Global,
     reader: &mut Reader<'_>,
     variables: &[Variable],
-    state: &[u64],
-) -> Result<List<Rule>, ReadTaskEnd>
+    state: &[Value],
+) -> Result<List<Rule>, Stop<SasFault>>
     requires { length state.now ≡ length variables.now }
     ensures { Gives (λ x. x) result reader.new (rules.rules variables.now state.now reader.old) }
 {

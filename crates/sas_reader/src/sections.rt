@@ -8,17 +8,18 @@ ghost use Rattle.sas_reader.specs.Contexts.{so_far};
 ghost use Rattle.sas_reader.specs.Words.{is_same};
 ghost use Rattle.sas_reader.specs.Sections as sections;
 
-use crate::fault::ReadTaskEnd;
+use crate::fault::SasFault;
 use crate::numbers::{is_name, number, text};
 use crate::parts::{conditions, fact_lines};
 use crate::reader::Reader;
 use crate::values::is_value;
+use lists::Stop;
 use sas_task::{Group, List, Pair, Text, Value, Var, Variable};
 use std::alloc::Global;
 
 /// The section of the version.
 #[tactic(auto, unfolding(crate::specs::Sections::version))]
-pub(crate) fn version(reader: &mut Reader<'_>) -> Result<(), ReadTaskEnd>
+pub(crate) fn version(reader: &mut Reader<'_>) -> Result<(), Stop<SasFault>>
     ensures { Gives (λ x. x) result reader.new (sections.version reader.old) }
 {
     reader.fixed(b"begin_version")?;
@@ -28,7 +29,7 @@ pub(crate) fn version(reader: &mut Reader<'_>) -> Result<(), ReadTaskEnd>
 
 /// The section of the metric.
 #[tactic(auto, unfolding(crate::specs::Sections::metric))]
-pub(crate) fn metric(reader: &mut Reader<'_>) -> Result<bool, ReadTaskEnd>
+pub(crate) fn metric(reader: &mut Reader<'_>) -> Result<bool, Stop<SasFault>>
     ensures { Gives (λ x. x) result reader.new (sections.metric reader.old) }
 {
     reader.fixed(b"begin_metric")?;
@@ -51,7 +52,7 @@ fn is_variable_name(line: &[u8], own_number: u64) -> bool
 
 /// The line of a variable's name.
 #[tactic(auto, unfolding(crate::specs::Sections::variable_name, crate::specs::Forms::fixed))]
-fn variable_name(reader: &mut Reader<'_>, own_number: u64) -> Result<(), ReadTaskEnd>
+fn variable_name(reader: &mut Reader<'_>, own_number: u64) -> Result<(), Stop<SasFault>>
     ensures { Gives (λ x. x) result reader.new (sections.variable_name own_number reader.old) }
 {
     let line = reader.next_line()?;
@@ -60,7 +61,7 @@ fn variable_name(reader: &mut Reader<'_>, own_number: u64) -> Result<(), ReadTas
 
 /// The line of a fact's name.
 #[tactic(auto, unfolding(crate::specs::Sections::fact_name))]
-fn fact_name(alloc: Global, reader: &mut Reader<'_>) -> Result<Text, ReadTaskEnd>
+fn fact_name(alloc: Global, reader: &mut Reader<'_>) -> Result<Text, Stop<SasFault>>
     ensures { Gives (λ x. x) result reader.new (sections.fact_name reader.old) }
 {
     let name = reader.next_line()?;
@@ -69,7 +70,11 @@ fn fact_name(alloc: Global, reader: &mut Reader<'_>) -> Result<Text, ReadTaskEnd
 }
 
 /// So many names of facts.
-fn fact_names(alloc: Global, reader: &mut Reader<'_>, count: u64) -> Result<List<Text>, ReadTaskEnd>
+fn fact_names(
+    alloc: Global,
+    reader: &mut Reader<'_>,
+    count: u64,
+) -> Result<List<Text>, Stop<SasFault>>
     ensures { Gives (λ x. x) result reader.new (listed (λ _. sections.fact_name) count [] reader.old) }
 {
     let mut names = Vec::new(alloc);
@@ -85,7 +90,7 @@ fn variable(
     alloc: Global,
     reader: &mut Reader<'_>,
     own_number: u64,
-) -> Result<Variable, ReadTaskEnd>
+) -> Result<Variable, Stop<SasFault>>
     ensures { Gives (λ x. x) result reader.new (sections.variable own_number reader.old) }
 {
     reader.fixed(b"begin_variable")?;
@@ -102,7 +107,7 @@ fn variables(
     alloc: Global,
     reader: &mut Reader<'_>,
     count: u64,
-) -> Result<List<Variable>, ReadTaskEnd>
+) -> Result<List<Variable>, Stop<SasFault>>
     ensures { Gives (λ x. x) result reader.new (listed (λ before. sections.variable (length before)) count [] reader.old) }
 {
     let mut variables = Vec::new(alloc);
@@ -117,7 +122,7 @@ fn variables(
 pub(crate) fn variable_section(
     alloc: Global,
     reader: &mut Reader<'_>,
-) -> Result<List<Variable>, ReadTaskEnd>
+) -> Result<List<Variable>, Stop<SasFault>>
     ensures { Gives (λ x. x) result reader.new (sections.variables reader.old) }
 {
     let count = reader.number_line()?;
@@ -130,7 +135,7 @@ fn group(
     alloc: Global,
     reader: &mut Reader<'_>,
     variables: &[Variable],
-) -> Result<Group, ReadTaskEnd>
+) -> Result<Group, Stop<SasFault>>
     ensures { Gives (λ x. x) result reader.new (sections.group (so_far variables.now []) reader.old) }
 {
     reader.fixed(b"begin_mutex_group")?;
@@ -146,7 +151,7 @@ fn groups(
     reader: &mut Reader<'_>,
     variables: &[Variable],
     count: u64,
-) -> Result<List<Group>, ReadTaskEnd>
+) -> Result<List<Group>, Stop<SasFault>>
     ensures { Gives (λ x. x) result reader.new (listed (λ _. sections.group (so_far variables.now [])) count [] reader.old) }
 {
     let mut groups = Vec::new(alloc);
@@ -162,7 +167,7 @@ pub(crate) fn group_section(
     alloc: Global,
     reader: &mut Reader<'_>,
     variables: &[Variable],
-) -> Result<List<Group>, ReadTaskEnd>
+) -> Result<List<Group>, Stop<SasFault>>
     ensures { Gives (λ x. x) result reader.new (sections.groups (so_far variables.now []) reader.old) }
 {
     let count = reader.number_line()?;
@@ -175,7 +180,7 @@ fn state_value(
     reader: &mut Reader<'_>,
     variables: &[Variable],
     var: Var,
-) -> Result<Value, ReadTaskEnd>
+) -> Result<Value, Stop<SasFault>>
     ensures { Gives (λ x. x) result reader.new (sections.state_value (so_far variables.now []) var reader.old) }
 {
     let val = reader.number_line()?;
@@ -187,7 +192,7 @@ fn state_values(
     alloc: Global,
     reader: &mut Reader<'_>,
     variables: &[Variable],
-) -> Result<List<Value>, ReadTaskEnd>
+) -> Result<List<Value>, Stop<SasFault>>
     ensures { Gives (λ x. x) result reader.new (listed (λ before. sections.state_value (so_far variables.now []) (length before)) (length variables.now) [] reader.old) }
 {
     let mut values = Vec::new(alloc);
@@ -203,7 +208,7 @@ pub(crate) fn state_section(
     alloc: Global,
     reader: &mut Reader<'_>,
     variables: &[Variable],
-) -> Result<List<Value>, ReadTaskEnd>
+) -> Result<List<Value>, Stop<SasFault>>
     ensures { Gives (λ x. x) result reader.new (sections.state (so_far variables.now []) reader.old) }
 {
     reader.fixed(b"begin_state")?;
@@ -218,7 +223,7 @@ pub(crate) fn goal_section(
     alloc: Global,
     reader: &mut Reader<'_>,
     variables: &[Variable],
-) -> Result<List<Pair>, ReadTaskEnd>
+) -> Result<List<Pair>, Stop<SasFault>>
     ensures { Gives (λ x. x) result reader.new (sections.goal (so_far variables.now []) reader.old) }
 {
     reader.fixed(b"begin_goal")?;

@@ -21,7 +21,7 @@ fn values_of(alloc: Global, task: &SasTask, var: Var) -> Result<List<Value>, All
     requires { var < length task.now.variables }
     ensures { IfOk result (λ values. values ≡ everything.all_values task.now var) }
 {
-    let count = task.variable(var).facts.as_slice().len() as u64;
+    let count = task.variable(var).facts.len() as u64;
     Ok(List::from_vec(numbers_below(alloc, count)?))
 }
 

@@ -86,7 +86,7 @@ fn holder_variable(alloc: Global) -> Result<Variable, AllocError>
 fn add_holder(
     alloc: Global,
     variables: &mut Vec<Variable>,
-    holder: Option<u64>,
+    holder: Option<Value>,
 ) -> Result<(), AllocError>
     ensures { OnOk result (variables.new.items ≡ variables.old.items ++ option_map_or (λ start. choice.holder_variable ∷ []) holder []) }
 {

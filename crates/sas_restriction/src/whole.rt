@@ -28,7 +28,7 @@ fn new_state(alloc: Global, shown: &Chosen, task: &SasTask) -> Result<Vec<Value>
     Ok(state)
 }
 
-fn add_start(state: &mut Vec<Value>, holder: Option<u64>) -> Result<(), AllocError>
+fn add_start(state: &mut Vec<Value>, holder: Option<Value>) -> Result<(), AllocError>
     ensures { OnOk result (state.new.items ≡ state.old.items ++ option_map_or (λ start. start ∷ []) holder []) }
 {
     if let Some(start) = holder {

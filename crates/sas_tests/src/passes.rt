@@ -1,8 +1,9 @@
 //! Copies, the order of variables, and books of passes, whose passes are applied in turn.
 
 use crate::tasks::{GATE, HALL, LAMP, Making, ROOM, SWITCH, assert_made, has_text, task, task_of};
+use lists::Stop;
 use pass_book::PassKind::{self, H2, Order, Relevance};
-use pass_book::{AddEnd, ApplyEnd, Book, Pass};
+use pass_book::{AddEnd, Book, Pass};
 use pass_h2::prune;
 use pass_relevance::relevant;
 use sas_task::SasTask;
@@ -129,10 +130,10 @@ fn copies_have_the_same_text_and_variables_are_ordered(rt: HostRuntime) {
 type Row = (
     &'static [PassKind],
     &'static str,
-    Result<&'static str, ApplyEnd>,
+    Result<&'static str, Stop<PassKind>>,
 );
 
-static EMPTY_BOOK: &[Row] = &[(&[Order], ROOM, Err(ApplyEnd::NotInBook(Order)))];
+static EMPTY_BOOK: &[Row] = &[(&[Order], ROOM, Err(Stop::Fault(Order)))];
 
 static BOOK_OF_ORDER: &[Row] = &[
     (&[Order], ROOM, Ok(REORDERED)),
@@ -140,10 +141,7 @@ static BOOK_OF_ORDER: &[Row] = &[
 ];
 
 // The pass finds no memory.
-static STARVED_BOOK: &[Row] = &[
-    (&[Order], ROOM, Err(ApplyEnd::NoMemory)),
-    (&[], ROOM, Ok(ROOM)),
-];
+static STARVED_BOOK: &[Row] = &[(&[Order], ROOM, Err(Stop::NoMemory)), (&[], ROOM, Ok(ROOM))];
 
 // Wings are of no account only once nobody flies. A kind may be repeated.
 static BOOK_OF_EVERY_PASS: &[Row] = &[

@@ -1,13 +1,14 @@
 //! Tables of plan files: what each comes to beside a small task.
 
 use crate::tasks::{ROOM, SWITCH, task_of};
-use plan_backmap::{MapEnd, Mapped, Step, map_plan, plan_text};
+use lists::Stop;
+use plan_backmap::{Mapped, PlanFault, Step, map_plan, plan_text};
 use sas_task::SasTask;
 use std::alloc::{AllocError, Global};
 use std::test::*;
 
 // Each plan beside the switch, whose one operator is `flip` at cost 1: how often it flips, or its first faulty line.
-static SWITCH_PLANS: &[(&[u8], Result<u64, MapEnd>)] = &[
+static SWITCH_PLANS: &[(&[u8], Result<u64, Stop<PlanFault>>)] = &[
     (b"(flip)\n", Ok(1)),
     (b"(flip)\n(FLIP )\n; cost = 2 (unit cost)\n", Ok(2)),
     (b"(flip)", Ok(1)),
@@ -24,34 +25,40 @@ static SWITCH_PLANS: &[(&[u8], Result<u64, MapEnd>)] = &[
     (b"; a\n\n ;b\r\n\t\n;", Ok(0)),
     (b";\xc3\xa9\n(flip)", Ok(1)),
     (b"\n;(flop\n\n(flip)\n\n", Ok(1)),
-    (b"flip", Err(MapEnd::BadLine(1))),
-    (b"(flip) ; once", Err(MapEnd::BadLine(1))),
-    (b"((flip))", Err(MapEnd::BadLine(1))),
-    (b"()", Err(MapEnd::BadLine(1))),
-    (b"( )", Err(MapEnd::BadLine(1))),
-    (b"(\t)", Err(MapEnd::BadLine(1))),
-    (b"(", Err(MapEnd::BadLine(1))),
-    (b")", Err(MapEnd::BadLine(1))),
-    (b")(", Err(MapEnd::BadLine(1))),
-    (b"(flip", Err(MapEnd::BadLine(1))),
-    (b"(fl;ip)", Err(MapEnd::BadLine(1))),
-    (b"(fl\xc3\xa9ip)", Err(MapEnd::BadLine(1))),
-    (b"(fl\x7fip)", Err(MapEnd::BadLine(1))),
-    (b"(flip\r)", Err(MapEnd::BadLine(1))),
-    (b"(flip\x0c)", Err(MapEnd::BadLine(1))),
-    (b"(flip)\x0c", Err(MapEnd::BadLine(1))),
-    (b"(flip)(flip)", Err(MapEnd::BadLine(1))),
-    (b"(flip)\n\n;\n(flip", Err(MapEnd::BadLine(4))),
+    (b"flip", Err(Stop::Fault(PlanFault::BadLine(1)))),
+    (b"(flip) ; once", Err(Stop::Fault(PlanFault::BadLine(1)))),
+    (b"((flip))", Err(Stop::Fault(PlanFault::BadLine(1)))),
+    (b"()", Err(Stop::Fault(PlanFault::BadLine(1)))),
+    (b"( )", Err(Stop::Fault(PlanFault::BadLine(1)))),
+    (b"(\t)", Err(Stop::Fault(PlanFault::BadLine(1)))),
+    (b"(", Err(Stop::Fault(PlanFault::BadLine(1)))),
+    (b")", Err(Stop::Fault(PlanFault::BadLine(1)))),
+    (b")(", Err(Stop::Fault(PlanFault::BadLine(1)))),
+    (b"(flip", Err(Stop::Fault(PlanFault::BadLine(1)))),
+    (b"(fl;ip)", Err(Stop::Fault(PlanFault::BadLine(1)))),
+    (b"(fl\xc3\xa9ip)", Err(Stop::Fault(PlanFault::BadLine(1)))),
+    (b"(fl\x7fip)", Err(Stop::Fault(PlanFault::BadLine(1)))),
+    (b"(flip\r)", Err(Stop::Fault(PlanFault::BadLine(1)))),
+    (b"(flip\x0c)", Err(Stop::Fault(PlanFault::BadLine(1)))),
+    (b"(flip)\x0c", Err(Stop::Fault(PlanFault::BadLine(1)))),
+    (b"(flip)(flip)", Err(Stop::Fault(PlanFault::BadLine(1)))),
+    (
+        b"(flip)\n\n;\n(flip",
+        Err(Stop::Fault(PlanFault::BadLine(4))),
+    ),
     (
         b"(flip)\n; cost = 1 (unit cost)\n(flop)\n",
-        Err(MapEnd::UnknownStep(3)),
+        Err(Stop::Fault(PlanFault::UnknownStep(3))),
     ),
-    (b"(flip)\n(flop)\nflip\n", Err(MapEnd::UnknownStep(2))),
-    (b"flip\n(flop)\n", Err(MapEnd::BadLine(1))),
-    (b"(fli)", Err(MapEnd::UnknownStep(1))),
-    (b"(flip flip)", Err(MapEnd::UnknownStep(1))),
-    (b"(fl ip)", Err(MapEnd::UnknownStep(1))),
-    (b"(flip?)", Err(MapEnd::UnknownStep(1))),
+    (
+        b"(flip)\n(flop)\nflip\n",
+        Err(Stop::Fault(PlanFault::UnknownStep(2))),
+    ),
+    (b"flip\n(flop)\n", Err(Stop::Fault(PlanFault::BadLine(1)))),
+    (b"(fli)", Err(Stop::Fault(PlanFault::UnknownStep(1)))),
+    (b"(flip flip)", Err(Stop::Fault(PlanFault::UnknownStep(1)))),
+    (b"(fl ip)", Err(Stop::Fault(PlanFault::UnknownStep(1)))),
+    (b"(flip?)", Err(Stop::Fault(PlanFault::UnknownStep(1)))),
 ];
 
 // A plan for the room, whose operators are `enter room` at cost 3, `press` at no cost and `toggle` at cost 10.
@@ -96,7 +103,10 @@ fn is_room_plan(mapped: &Mapped) -> bool {
 }
 
 /// Whether this comes of a plan.
-fn comes_to(found: &Result<Mapped, MapEnd>, expected: Result<u64, MapEnd>) -> bool {
+fn comes_to(
+    found: &Result<Mapped, Stop<PlanFault>>,
+    expected: Result<u64, Stop<PlanFault>>,
+) -> bool {
     match (found, expected) {
         (Ok(mapped), Ok(flips)) => are_flips(mapped, flips),
         (Err(end), Err(other)) => *end == other,
@@ -105,18 +115,18 @@ fn comes_to(found: &Result<Mapped, MapEnd>, expected: Result<u64, MapEnd>) -> bo
 }
 
 /// What comes of a short plan.
-fn mapped(alloc: Global, task: &SasTask, text: &[u8]) -> Result<Mapped, MapEnd> {
+fn mapped(alloc: Global, task: &SasTask, text: &[u8]) -> Result<Mapped, Stop<PlanFault>> {
     if text.len() < 1000 {
         map_plan(alloc, task, text)
     } else {
-        Err(MapEnd::NoMemory)
+        Err(Stop::NoMemory)
     }
 }
 
 /// What comes of a short plan beside the task of a text.
-fn mapped_beside(alloc: Global, task: &str, text: &[u8]) -> Result<Mapped, MapEnd> {
+fn mapped_beside(alloc: Global, task: &str, text: &[u8]) -> Result<Mapped, Stop<PlanFault>> {
     let Ok(task) = task_of(alloc, task.as_bytes()) else {
-        return Err(MapEnd::NoMemory);
+        return Err(Stop::NoMemory);
     };
     let found = mapped(alloc, &task, text);
     drop(task);

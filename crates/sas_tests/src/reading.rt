@@ -3,7 +3,8 @@
 ghost use Rattle.std.specs.Prelude.{◌<◌};
 
 use crate::tasks::{has_text, read, task_of};
-use sas_reader::{ReadTaskEnd, SasPlace};
+use lists::Stop;
+use sas_reader::SasPlace;
 use std::alloc::{AllocError, Global};
 use std::process::Abort;
 
@@ -52,7 +53,7 @@ pub(crate) fn with_line(
 /// Whether the text is refused at this line of this section.
 pub(crate) fn is_refused(alloc: Global, text: &[u8], line: u64, place: SasPlace) -> bool {
     match read(alloc, text) {
-        Err(ReadTaskEnd::Fault(fault)) => fault.line == line && fault.place == place,
+        Err(Stop::Fault(fault)) => fault.line == line && fault.place == place,
         _ => false,
     }
 }

@@ -1,8 +1,9 @@
 //! Tasks that are written out by hand: a lamp, a room, a gate, a hall, and others whose texts are those of small PDDL tasks.
 
+use lists::Stop;
 use pass_h2::prune;
 use pass_relevance::relevant;
-use sas_reader::{ReadTaskEnd, read_task};
+use sas_reader::{SasFault, read_task};
 use sas_task::SasTask;
 use sas_writer::text_of;
 use std::alloc::{AllocError, Global};
@@ -193,11 +194,11 @@ pub(crate) const SAFE: &str = hall! {
 };
 
 /// What the text gives, where it is short enough to be read.
-pub(crate) fn read(alloc: Global, text: &[u8]) -> Result<SasTask, ReadTaskEnd> {
+pub(crate) fn read(alloc: Global, text: &[u8]) -> Result<SasTask, Stop<SasFault>> {
     if text.len() < 10_000_000 {
         read_task(alloc, text)
     } else {
-        Err(ReadTaskEnd::NoMemory)
+        Err(Stop::NoMemory)
     }
 }
 

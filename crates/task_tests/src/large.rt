@@ -22,16 +22,14 @@ use std::test::*;
 fn members(reached: &Reached) -> usize {
     let mut members = 0usize;
     for action in reached.actions.as_slice() {
-        members = members.saturating_add(action.condition.positive.as_slice().len());
+        members = members.saturating_add(action.condition.positive.len());
     }
     members
 }
 
 /// Whether so many facts and actions can be reached, and each of these actions has one condition.
 fn has_sizes(reached: &Reached, facts: usize, actions: usize) -> bool {
-    reached.facts.as_slice().len() == facts
-        && reached.actions.as_slice().len() == actions
-        && members(reached) == actions
+    reached.facts.len() == facts && reached.actions.len() == actions && members(reached) == actions
 }
 
 /// Whether that is so of what can be reached of the task.
@@ -48,7 +46,7 @@ fn two_lines_and_half_a_ring_are_reached(rt: HostRuntime) -> Result<(), AllocErr
     let lines = line_task(rt.alloc(), 200000)?;
     assert!(rt; reaches(rt.alloc(), lines, 400000, 399998)?, "two lines");
     let ring = ring_task(rt.alloc(), 2000)?;
-    assert!(rt; ring.actions.as_slice().len() == 2000, "a ring");
+    assert!(rt; ring.actions.len() == 2000, "a ring");
     assert!(rt; reaches(rt.alloc(), ring, 1000, 1000)?, "half a ring");
     Ok(())
 }

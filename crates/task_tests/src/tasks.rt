@@ -5,15 +5,16 @@ ghost use Rattle.pddl_syntax.specs.Spelled.{IsWellSpelled, IsWellSpelledProblem}
 ghost use Rattle.type_checker.specs.Checked.{IsChecked};
 ghost use Rattle.normal_task.specs.Lawful.{IsLawful};
 
+use lists::Stop;
 use normal_task::Normal;
 use normaliser::normalise;
-use pddl_lexer::read_tree;
+use pddl_lexer::{Fault, read_tree};
 use pddl_parser::{parse_domain, parse_problem};
 use pddl_syntax::{Domain, Problem};
 use std::alloc::Global;
 use std::process::Abort;
 use std::test::*;
-use type_checker::{CheckEnd, Checked, check};
+use type_checker::{Checked, Side, check};
 
 /// What is asked of a normal task, with the answer that was worked by hand.
 pub(crate) trait Asked {
@@ -39,7 +40,11 @@ fn problem_of(alloc: Global, text: &str) -> Option<Problem>
     parse_problem(alloc, &tree).ok()
 }
 
-fn check_pair(alloc: Global, domain: Domain, problem: Problem) -> Result<Checked, CheckEnd>
+fn check_pair(
+    alloc: Global,
+    domain: Domain,
+    problem: Problem,
+) -> Result<Checked, Stop<(Side, Fault)>>
     requires domain { IsWellSpelled domain }
     requires problem { IsWellSpelledProblem problem }
     ensures { IfOk result IsChecked }

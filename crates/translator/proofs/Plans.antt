@@ -1,14 +1,17 @@
 -- What the plan file comes to, by its text.
-use Rattle.std.proofs.Common.{◌≡◌, ℕ, List, [], ◌∷◌, refl, sym, ap, ◌∙◌}
+use Rattle.std.proofs.Common.{◌≡◌, ℕ, List, [], ◌∷◌, Err, refl, sym, ap, ◌∙◌, subst}
 use Rattle.std.specs.Prelude.{Contains}
 use Rattle.std.specs.declared.option.Option.{Option}
 use Rattle.std.specs.declared.option.Option.TheVariants.{Some, None}
 use Rattle.tl_device.specs.Contents.{Contents}
 use Rattle.plan_backmap.specs.Lines.{plan_lines}
-use Rattle.plan_backmap.specs.Plans.{PlanFault, BadLine, UnknownStep, faults, mapped, IsFirst, IfFault}
+use Rattle.plan_backmap.specs.declared.fault.PlanFault.{PlanFault}
+use Rattle.plan_backmap.specs.declared.fault.PlanFault.TheVariants.{BadLine, UnknownStep}
+use Rattle.plan_backmap.specs.Plans.{faults, mapped}
+use Rattle.lists.specs.Stops.{IfFault, IsFirst}
 use Rattle.plan_backmap.specs.PlanText.{plan_text}
-use Rattle.plan_backmap.specs.declared.end.MapEnd.{MapEnd}
-use Rattle.plan_backmap.specs.declared.end.MapEnd.TheVariants as map_ends
+use Rattle.lists.specs.declared.stop.Stop.{Stop}
+use Rattle.lists.specs.declared.stop.Stop.TheVariants as stops
 use Rattle.sas_task.specs.Task.{Task}
 use Rattle.messages.specs.declared.outcome.Message.TheVariants as messages
 use Rattle.translator.specs.Ending.{Gives, Refused, ◌>>=◌}
@@ -21,13 +24,17 @@ use Rattle.translator.proofs.Sources.{always}
 
 -- ---- a text
 
-pub bad_line : (name : List ℕ) (faults : List PlanFault) (lines : List ℕ) (end : MapEnd) (line : ℕ) → end ≡ map_ends.BadLine line → IfFault end (IsFirst faults) → unless_faulty name faults lines ≡ Refused name (messages.BadPlanLine line)
-bad_line name faults lines end line is first =
-    ap (λ (fs : List PlanFault). unless_faulty name fs lines) (first (BadLine line) is).1
+-- the plan file's first faulty line
+told_first : (name : List ℕ) (faults : List PlanFault) (lines : List ℕ) (stop : Stop PlanFault) (fault : PlanFault) → stop ≡ stops.Fault fault → IfFault {A = List ℕ} (Err stop) (IsFirst faults) → (more : List PlanFault) × (unless_faulty name faults lines ≡ unless_faulty name (fault ∷ more) lines)
+told_first name faults lines stop fault is given =
+    let first = subst (λ (s : Stop PlanFault). IfFault {A = List ℕ} (Err s) (IsFirst faults)) is given in
+    (first.0, ap (λ (fs : List PlanFault). unless_faulty name fs lines) first.1)
 
-pub unknown_step : (name : List ℕ) (faults : List PlanFault) (lines : List ℕ) (end : MapEnd) (line : ℕ) → end ≡ map_ends.UnknownStep line → IfFault end (IsFirst faults) → unless_faulty name faults lines ≡ Refused name (messages.UnknownStep line)
-unknown_step name faults lines end line is first =
-    ap (λ (fs : List PlanFault). unless_faulty name fs lines) (first (UnknownStep line) is).1
+pub bad_line : (name : List ℕ) (faults : List PlanFault) (lines : List ℕ) (stop : Stop PlanFault) (line : ℕ) → stop ≡ stops.Fault (BadLine line) → IfFault {A = List ℕ} (Err stop) (IsFirst faults) → unless_faulty name faults lines ≡ Refused name (messages.BadPlanLine line)
+bad_line name faults lines stop line is given = (told_first name faults lines stop (BadLine line) is given).1
+
+pub unknown_step : (name : List ℕ) (faults : List PlanFault) (lines : List ℕ) (stop : Stop PlanFault) (line : ℕ) → stop ≡ stops.Fault (UnknownStep line) → IfFault {A = List ℕ} (Err stop) (IsFirst faults) → unless_faulty name faults lines ≡ Refused name (messages.UnknownStep line)
+unknown_step name faults lines stop line is given = (told_first name faults lines stop (UnknownStep line) is given).1
 
 pub lines_given : (task : Task) (plan : Text) (lines : List ℕ) → faults task.operators (plan_lines plan.bytes) ≡ [] → lines ≡ plan_text task.metric (mapped task.operators (plan_lines plan.bytes)) → mapped_lines task plan ≡ Gives lines
 lines_given task plan lines none is =

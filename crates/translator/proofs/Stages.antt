@@ -4,21 +4,20 @@ use Rattle.std.specs.Prelude.{Contains, IfErr, codes}
 use Rattle.std.specs.Result.{IsErrAnd}
 use Rattle.pddl_lexer.specs.Members.{Members}
 use Rattle.pddl_lexer.specs.Nested.{tree}
-use Rattle.pddl_lexer.specs.Faults.{tree_faults, IfFault, IsFirst}
-use Rattle.pddl_lexer.specs.declared.fault.TreeEnd.{TreeEnd}
-use Rattle.pddl_lexer.specs.declared.fault.TreeEnd.TheVariants as tree_ends
+use Rattle.lists.specs.Stops.{IfFault, IsFirst}
+use Rattle.pddl_lexer.specs.Faults.{tree_faults}
+use Rattle.lists.specs.declared.stop.Stop.{Stop}
+use Rattle.lists.specs.declared.stop.Stop.TheVariants as stops
 use Rattle.pddl_lexer.specs.declared.fault.Fault.{Fault}
 use Rattle.pddl_syntax.specs.declared.types.Domain.{Domain}
 use Rattle.pddl_syntax.specs.declared.types.Problem.{Problem}
-use Rattle.pddl_syntax.specs.declared.end.ParseEnd.{ParseEnd}
-use Rattle.pddl_syntax.specs.declared.end.ParseEnd.TheVariants as parse_ends
 use Rattle.pddl_syntax.specs.Outcome.{Reading, Reads, Faults, first}
 use Rattle.pddl_parser.specs.DomainReading.{domain_reading}
 use Rattle.pddl_parser.specs.ProblemReading.{problem_reading}
 use Rattle.pddl_syntax.specs.Spelled.{IsWellSpelled, IsWellSpelledProblem}
 use Rattle.type_checker.specs.Checked.{FilePair, IsChecked, ChecksTo}
 use Rattle.type_checker.specs.Faults.{SidedFault, check_faults}
-use Rattle.type_checker.specs.declared.end.Side.TheVariants as sides
+use Rattle.type_checker.specs.declared.side.Side.TheVariants as sides
 use Rattle.messages.specs.declared.outcome.Message.{Message}
 use Rattle.messages.specs.declared.outcome.Message.TheVariants as messages
 use Rattle.messages.specs.declared.outcome.End.{End}
@@ -33,16 +32,16 @@ use Rattle.translator.specs.Stages.{StopsWhere}
 pub given_unless : {A : Type 0} (name : List ℕ) (faults : List Fault) (value given : A) → faults ≡ [] → value ≡ given → unless name faults value ≡ Gives given
 given_unless name faults value given none is = ap (λ (fs : List Fault). unless name fs value) none ∙ ap Gives is
 
-pub refused_unless : {A : Type 0} (name : List ℕ) (faults : List Fault) (value : A) (end : TreeEnd) (fault : Fault) → end ≡ tree_ends.Fault fault → IfFault {A = Unit {0}} (Err end) (IsFirst faults) → unless name faults value ≡ Refused name (messages.Fault fault)
+pub refused_unless : {A : Type 0} (name : List ℕ) (faults : List Fault) (value : A) (end : Stop Fault) (fault : Fault) → end ≡ stops.Fault fault → IfFault {A = Unit {0}} (Err end) (IsFirst faults) → unless name faults value ≡ Refused name (messages.Fault fault)
 refused_unless name faults value end fault is given =
-    let first = subst (λ (e : TreeEnd). IfFault {A = Unit {0}} (Err e) (IsFirst faults)) is given in
+    let first = subst (λ (e : Stop Fault). IfFault {A = Unit {0}} (Err e) (IsFirst faults)) is given in
     ap (λ (fs : List Fault). unless name fs value) first.1
 
 pub said_given : {A : Type 0} (name : List ℕ) (reading : Reading A) (value : A) → first reading ≡ Ok value → said name reading ≡ Gives value
 said_given name (Reads found) value e = let same : found ≡ value = cc (e) in ap Gives same
-said_given name (Faults fault more) value e = absurd (let no : Err (parse_ends.Fault fault) ≡ Ok value = e in cc (no))
+said_given name (Faults fault more) value e = absurd (let no : Err (stops.Fault fault) ≡ Ok value = e in cc (no))
 
-pub said_refused : {A : Type 0} (name : List ℕ) (reading : Reading A) (end : ParseEnd) (fault : Fault) → end ≡ parse_ends.Fault fault → (end ≢ parse_ends.NoMemory → first reading ≡ Err end) → said name reading ≡ Refused name (messages.Fault fault)
+pub said_refused : {A : Type 0} (name : List ℕ) (reading : Reading A) (end : Stop Fault) (fault : Fault) → end ≡ stops.Fault fault → (end ≢ stops.NoMemory → first reading ≡ Err end) → said name reading ≡ Refused name (messages.Fault fault)
 said_refused name (Reads value) end fault is given = absurd (let e = given (λ memory. cc (is, memory)) in cc (e))
 said_refused name (Faults found more) end fault is given =
     let e = given (λ memory. cc (is, memory)) in

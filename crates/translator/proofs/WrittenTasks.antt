@@ -4,10 +4,10 @@ use Rattle.std.specs.Prelude.{Contains, Some}
 use Rattle.tl_device.specs.Contents.{Contents}
 use Rattle.command_line.specs.Accepted.{WrittenTask}
 use Rattle.command_line.specs.declared.accepted.Settings.{Settings}
-use Rattle.sas_reader.specs.Answers.{IfFault}
+use Rattle.lists.specs.Stops.{IfFault}
 use Rattle.sas_reader.specs.Forms.{Reading, Unread, unread}
-use Rattle.sas_reader.specs.declared.fault.ReadTaskEnd.{ReadTaskEnd}
-use Rattle.sas_reader.specs.declared.fault.ReadTaskEnd.TheVariants as read_ends
+use Rattle.lists.specs.declared.stop.Stop.{Stop}
+use Rattle.lists.specs.declared.stop.Stop.TheVariants as stops
 use Rattle.sas_reader.specs.declared.fault.SasFault.{SasFault}
 use Rattle.sas_reader.specs.Text.{task, read_of, fault_of, reading_of, line_fault}
 use Rattle.invariant_guess.specs.declared.types.Found.{Found}
@@ -31,10 +31,10 @@ of_fault name (Err found) fault is =
     ap (λ (f : SasFault). Refused name (messages.TaskLine f)) same
 
 -- the first line that breaks its rule
-pub broken_line : (name bytes : List ℕ) (end : ReadTaskEnd) (fault : SasFault) → end ≡ read_ends.Fault fault → IfFault {A = Unit {0}} (Err end) (λ found. line_fault bytes ≡ Some found)
+pub broken_line : (name bytes : List ℕ) (end : Stop SasFault) (fault : SasFault) → end ≡ stops.Fault fault → IfFault {A = Unit {0}} (Err end) (λ found. line_fault bytes ≡ Some found)
     → of_task_text (text name bytes) ≡ Refused name (messages.TaskLine fault)
 broken_line name bytes end fault is first =
-    of_fault name (task (unread bytes)) fault (subst (λ (e : ReadTaskEnd). IfFault {A = Unit {0}} (Err e) (λ found. line_fault bytes ≡ Some found)) is first)
+    of_fault name (task (unread bytes)) fault (subst (λ (e : Stop SasFault). IfFault {A = Unit {0}} (Err e) (λ found. line_fault bytes ≡ Some found)) is first)
 
 -- what is read is valid
 module _ (bytes : List ℕ) (valid : (read : Task) (after : Unread) → task (unread bytes) ≡ Ok (read, after) → IsValid read) (read : Task) where

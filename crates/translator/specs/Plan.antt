@@ -4,7 +4,9 @@ use Rattle.std.specs.declared.option.Option.{Option}
 use Rattle.std.specs.declared.option.Option.TheVariants.{Some, None}
 use Rattle.tl_device.specs.Contents.{Contents}
 use Rattle.plan_backmap.specs.Lines.{plan_lines}
-use Rattle.plan_backmap.specs.Plans.{PlanFault, BadLine, UnknownStep, faults, mapped}
+use Rattle.plan_backmap.specs.declared.fault.PlanFault.{PlanFault}
+use Rattle.plan_backmap.specs.declared.fault.PlanFault.TheVariants.{BadLine, UnknownStep}
+use Rattle.plan_backmap.specs.Plans.{faults, mapped}
 use Rattle.plan_backmap.specs.PlanText.{plan_text}
 use Rattle.sas_task.specs.Task.{Task}
 use Rattle.messages.specs.declared.outcome.Message.TheVariants as messages

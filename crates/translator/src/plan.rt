@@ -6,8 +6,9 @@ ghost use Rattle.translator.specs.Plan as plans;
 ghost use Rattle.translator.specs.Stages.{StopsWhere, text_by};
 
 use crate::translation::Input;
+use lists::Stop;
 use messages::{End, Message};
-use plan_backmap::{MapEnd, mapped_text};
+use plan_backmap::{PlanFault, mapped_text};
 use sas_task::SasTask;
 use std::alloc::Global;
 
@@ -24,10 +25,13 @@ pub(crate) fn mapped_lines<'n>(
 {
     match mapped_text(alloc, task, plan.bytes) {
         Ok(lines) => Ok(lines),
-        Err(MapEnd::BadLine(line)) => Err(End::Refused(plan.name, Message::BadPlanLine(line))),
-        Err(MapEnd::UnknownStep(line)) => {
+        Err(Stop::Fault(PlanFault::BadLine(line))) => Err(End::Refused(
+            plan.name,
+            Message::BadPlanLine(line),
+        )),
+        Err(Stop::Fault(PlanFault::UnknownStep(line))) => {
             Err(End::Refused(plan.name, Message::UnknownStep(line)))
         }
-        Err(MapEnd::NoMemory) => Err(End::NoMemory),
+        Err(Stop::NoMemory) => Err(End::NoMemory),
     }
 }

@@ -8,9 +8,9 @@ ghost use Rattle.translator.specs.Stages.{StopsWhere, text_by};
 
 use crate::translation::Input;
 use invariant_guess::Found;
-use lists::List;
+use lists::{List, Stop};
 use messages::{End, Message};
-use sas_reader::{ReadTaskEnd, read_task};
+use sas_reader::read_task;
 use sas_task::SasTask;
 use std::alloc::Global;
 
@@ -22,8 +22,8 @@ pub(crate) fn written_task<'n>(alloc: Global, text: &Input<'n, '_>) -> Result<Sa
 {
     match read_task(alloc, text.bytes) {
         Ok(task) => Ok(task),
-        Err(ReadTaskEnd::Fault(fault)) => Err(End::Refused(text.name, Message::TaskLine(fault))),
-        Err(ReadTaskEnd::NoMemory) => Err(End::NoMemory),
+        Err(Stop::Fault(fault)) => Err(End::Refused(text.name, Message::TaskLine(fault))),
+        Err(Stop::NoMemory) => Err(End::NoMemory),
     }
 }
 

@@ -10,13 +10,14 @@ ghost use Rattle.translator.specs.Run as run;
 ghost use Rattle.translator.specs.Stages.{Answers, IsMadeOf, StopsWhere, text_by};
 
 use command_line::Settings;
+use lists::Stop;
 use messages::{End, Message};
-use pddl_lexer::{Tree, TreeEnd, read_tree};
+use pddl_lexer::{Tree, read_tree};
 use pddl_parser::{parse_domain, parse_problem};
-use pddl_syntax::{Domain, ParseEnd, Problem};
+use pddl_syntax::{Domain, Problem};
 use run_task::{Made, task_of_pair};
 use std::alloc::Global;
-use type_checker::{CheckEnd, Checked, Side, check};
+use type_checker::{Checked, Side, check};
 
 /// A text, and the name under which its faults are told.
 #[derive(Clone, Copy)]
@@ -68,8 +69,8 @@ fn tree_of<'n, 'b>(alloc: Global, text: &Input<'n, 'b>) -> Result<Tree<'b>, End<
 {
     match read_tree(alloc, text.bytes) {
         Ok(tree) => Ok(tree),
-        Err(TreeEnd::Fault(fault)) => Err(End::Refused(text.name, Message::Fault(fault))),
-        Err(TreeEnd::NoMemory) => Err(End::NoMemory),
+        Err(Stop::Fault(fault)) => Err(End::Refused(text.name, Message::Fault(fault))),
+        Err(Stop::NoMemory) => Err(End::NoMemory),
     }
 }
 
@@ -80,8 +81,8 @@ fn domain_of<'n>(alloc: Global, name: &'n str, tree: Tree<'_>) -> Result<Domain,
 {
     match parse_domain(alloc, &tree) {
         Ok(domain) => Ok(domain),
-        Err(ParseEnd::Fault(fault)) => Err(End::Refused(name, Message::Fault(fault))),
-        Err(ParseEnd::NoMemory) => Err(End::NoMemory),
+        Err(Stop::Fault(fault)) => Err(End::Refused(name, Message::Fault(fault))),
+        Err(Stop::NoMemory) => Err(End::NoMemory),
     }
 }
 
@@ -92,8 +93,8 @@ fn problem_of<'n>(alloc: Global, name: &'n str, tree: Tree<'_>) -> Result<Proble
 {
     match parse_problem(alloc, &tree) {
         Ok(problem) => Ok(problem),
-        Err(ParseEnd::Fault(fault)) => Err(End::Refused(name, Message::Fault(fault))),
-        Err(ParseEnd::NoMemory) => Err(End::NoMemory),
+        Err(Stop::Fault(fault)) => Err(End::Refused(name, Message::Fault(fault))),
+        Err(Stop::NoMemory) => Err(End::NoMemory),
     }
 }
 
@@ -112,14 +113,14 @@ fn checked<'n>(
 {
     match check(alloc, read_domain, read_problem) {
         Ok(pair) => Ok(pair),
-        Err(CheckEnd::Fault(Side::Domain, fault)) => Err(End::Refused(
+        Err(Stop::Fault((Side::Domain, fault))) => Err(End::Refused(
             domain.name,
             Message::Fault(fault),
         )),
-        Err(CheckEnd::Fault(Side::Problem, fault)) => Err(End::Refused(
+        Err(Stop::Fault((Side::Problem, fault))) => Err(End::Refused(
             problem.name,
             Message::Fault(fault),
         )),
-        Err(CheckEnd::NoMemory) => Err(End::NoMemory),
+        Err(Stop::NoMemory) => Err(End::NoMemory),
     }
 }

@@ -24,8 +24,9 @@ use crate::request::{Request, requested};
 use crate::task_file::{nothing_found, written_task};
 use crate::translation::{Input, made_task, task_of};
 use command_line::{Accepted, Settings, Source};
+use lists::Stop;
 use messages::{End, Message, Report};
-use pass_book::{ApplyEnd, Book, PassKind};
+use pass_book::{Book, PassKind};
 use pddl_lexer::{At, Fault, Kind};
 use run_task::{Made, summary};
 use sas_task::SasTask;
@@ -114,8 +115,8 @@ fn passed(alloc: Global, made: Made, kinds: &[PassKind], book: &Book) -> Result<
     let Made { found, task } = made;
     match book.apply(alloc, kinds, task) {
         Ok(task) => Ok(Made { found, task }),
-        Err(ApplyEnd::NoMemory) => Err(AllocError),
-        Err(ApplyEnd::NotInBook(_)) => unreachable!(),
+        Err(Stop::NoMemory) => Err(AllocError),
+        Err(Stop::Fault(_)) => unreachable!(),
     }
 }
 

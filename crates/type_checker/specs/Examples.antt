@@ -8,7 +8,7 @@ use Rattle.pddl_syntax.specs.declared.types.Named.{Named}
 use Rattle.pddl_syntax.specs.declared.types.Problem.{Problem}
 use Rattle.pddl_syntax.specs.declared.types.Typed.{Typed}
 use Rattle.pddl_syntax.specs.Words.{Name}
-use Rattle.type_checker.specs.declared.end.Side.TheVariants as sides
+use Rattle.type_checker.specs.declared.side.Side.TheVariants as sides
 use Rattle.type_checker.specs.Faults.{SidedFault}
 
 abbrev pub named : Name → (line column : ℕ) → Named

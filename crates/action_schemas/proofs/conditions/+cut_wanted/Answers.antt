@@ -1,8 +1,7 @@
-use Rattle.std.proofs.Common.{not, List, [], ◌∷◌, ◌+◌, map, take, length, ap, subst, ◌∙◌}
+use Rattle.std.proofs.Common.{ℕ, not, List, [], ◌∷◌, ◌+◌, map, take, ap, subst, ◌∙◌}
 use Rattle.std.specs.Prelude.{IfOk}
 use Rattle.std.proofs.lemmas.Result.{IfOk-weaker}
 use Rattle.pddl_syntax.specs.declared.types.Condition.{Condition}
-use Rattle.normal_task.specs.declared.parts.Fresh.{Fresh}
 use Rattle.normal_task.specs.declared.parts.Part.{Part}
 use Rattle.normal_task.specs.Parts.{Made, Known, known, parts}
 use Rattle.normal_rows.specs.MadeThings.{IsMadeOf}
@@ -23,7 +22,7 @@ cut_members-loop-member-preserved t c =
     member-wanted c.args.wanted c.args.every c.both-are_paired.result c.both-are_paired.ensures around (makes (take c.loop-member.member-index c.args.members.now)) (makes (take (c.loop-member.member-index + 1) c.args.members.now)) (cut (known domain problem c.member-item.result))
     (twice-next cut (known domain problem) c.args.members.now c.loop-member.member-index c.member-item.result c.loop-member-test.true c.member-item.is)
     c.args.next c.loop-member.made.items c.loop-member.made.fresh c.loop-member.invariant
-    c.in_ok-start.start (c.in_ok-start.ensures ∙ ap (λ (l : List Fresh). c.args.next + length l) c.as_slice.ensures) c.in_ok-more.more.items c.in_ok-more.more.fresh
+    c.in_ok-start.start (c.in_ok-start.ensures ∙ ap (λ (n : ℕ). c.args.next + n) c.len.ensures) c.in_ok-more.more.items c.in_ok-more.more.fresh
     (c.in_ok-more.ensures.0 ∙ c.are_made-are_more.ensures.same domain problem scope around c.in_ok-start.start, c.in_ok-more.ensures.1)
     c.in_ok-made-2.made.items c.in_ok-made-2.made.fresh c.in_ok-made-2.ensures.0 c.in_ok-made-2.ensures.1
 
@@ -38,7 +37,7 @@ cut_wanted-returns-in_ok-second-in-Imply t c =
     (IfOk-weaker c.joined_made.result _ (IsMadeOf (wanted_of c.args.wanted (combined (not c.args.positive) around (parts domain problem c.get-premise.result.now (not c.args.positive) scope around ∷ parts domain problem c.get-conclusion.result.now c.args.positive scope around ∷ []) c.args.next))) (λ made are.
     two-wanted c.args.wanted around (parts domain problem c.get-premise.result.now (not c.args.positive) scope around) (parts domain problem c.get-conclusion.result.now c.args.positive scope around) c.args.next
     c.in_ok-first-in-Imply.first.items c.in_ok-first-in-Imply.first.fresh (c.in_ok-first-in-Imply.ensures.0 ∙ c.are_made-are_first.ensures.same domain problem scope around c.args.next, c.in_ok-first-in-Imply.ensures.1)
-    c.in_ok-start-in-Imply.start (c.in_ok-start-in-Imply.ensures ∙ ap (λ (l : List Fresh). c.args.next + length l) c.as_slice-in-Imply.ensures)
+    c.in_ok-start-in-Imply.start (c.in_ok-start-in-Imply.ensures ∙ ap (λ (n : ℕ). c.args.next + n) c.len.ensures)
     c.in_ok-second-in-Imply.second.items c.in_ok-second-in-Imply.second.fresh (c.in_ok-second-in-Imply.ensures.0 ∙ c.are_made-are_second.ensures.same domain problem scope around c.in_ok-start-in-Imply.start, c.in_ok-second-in-Imply.ensures.1)
     (not c.args.positive) c.both-are_paired.result c.both-are_paired.ensures made.items made.fresh are.0 are.1) c.joined_made.ensures)
 

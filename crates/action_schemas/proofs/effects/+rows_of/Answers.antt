@@ -1,8 +1,7 @@
-use Rattle.std.proofs.Common.{List, [], ◌∷◌, ◌++◌, ◌+◌, ℕ, true, map, take, length, refl, sym, ap, subst, ◌∙◌}
+use Rattle.std.proofs.Common.{List, [], ◌∷◌, ◌++◌, ◌+◌, ℕ, true, map, take, refl, sym, ap, subst, ◌∙◌}
 use Rattle.std.specs.Prelude.{IfOk}
 use Rattle.pddl_syntax.specs.declared.types.Effect.{Effect}
 use Rattle.pddl_syntax.specs.declared.types.Typed.{Typed}
-use Rattle.normal_task.specs.declared.parts.Fresh.{Fresh}
 use Rattle.normal_task.specs.declared.parts.Part.{Part}
 use Rattle.normal_task.specs.declared.task.EffectRow.{EffectRow}
 use Rattle.normal_task.specs.Normalised.{Rows, rows_of, for_each}
@@ -23,7 +22,7 @@ rows_of_all-loop-member-preserved t c =
     turn-more (makes (take c.loop-member.member-index c.args.members.now)) (makes (take (c.loop-member.member-index + 1) c.args.members.now)) (inside (rows_of domain problem c.member-item.result))
     (twice-next inside (rows_of domain problem) c.args.members.now c.loop-member.member-index c.member-item.result c.loop-member-test.true c.member-item.is)
     c.args.next c.loop-member.made.items c.loop-member.made.fresh c.loop-member.invariant
-    c.in_ok-start.start (c.in_ok-start.ensures ∙ ap (λ (l : List Fresh). c.args.next + length l) c.as_slice.ensures) c.in_ok-more.more.items c.in_ok-more.more.fresh c.in_ok-more.ensures
+    c.in_ok-start.start (c.in_ok-start.ensures ∙ ap (λ (n : ℕ). c.args.next + n) c.len.ensures) c.in_ok-more.more.items c.in_ok-more.more.fresh c.in_ok-more.ensures
     c.in_ok-made.made.items c.in_ok-made.made.fresh c.in_ok-made.ensures.0 c.in_ok-made.ensures.1
 
 pub rows_of-returns-in_ok-required-in-When : goal.rows_of-returns-in_ok-required-in-When

@@ -1,6 +1,5 @@
-use Rattle.std.proofs.Common.{◌≡◌, List, ℕ, Bool, ◌+◌, map, take, length, true, ap, ◌∙◌, arith}
+use Rattle.std.proofs.Common.{◌≡◌, List, ℕ, Bool, ◌+◌, map, take, true, ap, ◌∙◌, arith}
 use Rattle.std.proofs.lemmas.List.{take_all}
-use Rattle.normal_task.specs.declared.parts.Fresh.{Fresh}
 use Rattle.normal_task.specs.declared.parts.Part.{Part}
 use Rattle.action_schemas.specs.declared.effects.Required.{Required}
 use Rattle.normal_task.specs.Parts.{Made, all_of}
@@ -17,7 +16,7 @@ loop-one-preserved c =
     member-wanted c.all_have_parts-wanted.result true c.all_have_parts-wanted.result (itself-and-true c.all_have_parts-wanted.result) c.args.around (makes (take c.loop-one.one-index c.args.required.now)) (makes (take (c.loop-one.one-index + 1) c.args.required.now)) (cut_of domain problem c.one-item.result c.args.around)
     (twice-next (λ (cut : ℕ → ℕ → Made Part). cut c.args.around) (cut_of domain problem) c.args.required.now c.loop-one.one-index c.one-item.result c.loop-one-test.true c.one-item.is)
     c.args.next c.loop-one.made.items c.loop-one.made.fresh c.loop-one.invariant
-    c.in_ok-start.start (c.in_ok-start.ensures ∙ ap (λ (l : List Fresh). c.args.next + length l) c.as_slice.ensures) c.in_ok-more.more.items c.in_ok-more.more.fresh c.in_ok-more.ensures
+    c.in_ok-start.start (c.in_ok-start.ensures ∙ ap (λ (n : ℕ). c.args.next + n) c.len.ensures) c.in_ok-more.more.items c.in_ok-more.more.fresh c.in_ok-more.ensures
     c.in_ok-made-2.made.items c.in_ok-made-2.made.fresh c.in_ok-made-2.ensures.0 c.in_ok-made-2.ensures.1
 
 pub returns : goal.returns

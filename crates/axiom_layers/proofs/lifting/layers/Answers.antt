@@ -1,8 +1,7 @@
-use Rattle.std.proofs.Common.{◌≡◌, ◌<◌, ◌^◌, ℕ, List, ◌++◌, length, take, drop, sym, ap, ◌∙◌, subst, arith}
+use Rattle.std.proofs.Common.{◌≡◌, ◌<◌, ◌^◌, ℕ, List, ◌++◌, length, take, drop, sym, ◌∙◌, subst, arith}
 use Rattle.std.specs.List.{All}
 use Rattle.std.proofs.Math.Seq.{take-append_seam}
 use Rattle.std.proofs.lemmas.List.Elements.{All-from_get_or}
-use Rattle.reached_task.specs.declared.types.Fact.{Fact}
 use Rattle.reached_task.specs.declared.types.Reached.{Reached}
 use Rattle.reached_task.specs.Lawful.{IsLawful}
 use Rattle.reached_task.specs.Layers.{AreLayers}
@@ -31,14 +30,14 @@ sound_arcs reached lawful arcs is count same = subst (λ n. AreSound n arcs) sam
 
 pub lift_to_rest-requires-clause-sound : goal.lift_to_rest-requires-clause-sound
 lift_to_rest-requires-clause-sound c =
-    let facts = ap (λ (l : List Fact). length l) c.as_slice-facts.ensures in
+    let facts = c.len-facts.ensures in
     let count : length c.args.reached.now.facts ≡ length c.as_mut_slice.result.now = omega (arith, facts, c.as_mut_slice.ensures.len, c.in_ok-layers.ensures.len) in
     sound_arcs c.args.reached.now c.requires.lawful c.as_slice-2.result.now (c.as_slice-2.ensures.value ∙ c.in_ok-arcs.ensures) (length c.as_mut_slice.result.now) count
 
 pub returns-clause-layers : goal.returns-clause-layers
 returns-clause-layers c =
     let now : List ℕ = c.lift_to_rest.new.layers in
-    let facts = ap (λ (l : List Fact). length l) c.as_slice-facts.ensures in
+    let facts = c.len-facts.ensures in
     let count : length now ≡ length c.args.reached.now.facts = omega (arith, facts, c.as_mut_slice.ensures.len, c.in_ok-layers.ensures.len) in
     let len : c.in_ok-layers.layers.len ≡ length now = omega (arith, c.as_mut_slice.ensures.len) in
     subst (AreLayers c.args.reached.now) (sym (written c.in_ok-layers.layers.len now (drop (length now) c.in_ok-layers.layers.items) len))
@@ -50,7 +49,7 @@ returns-clause-small c =
     let size : length now ≡ length c.as_mut_slice.result.now = omega arith in
     let len : c.in_ok-layers.layers.len ≡ length now = omega (arith, c.as_mut_slice.ensures.len) in
     let is : AreSound (length c.as_mut_slice.result.now) c.as_slice-2.result.now = (
-    let facts = ap (λ (l : List Fact). length l) c.as_slice-facts.ensures in
+    let facts = c.len-facts.ensures in
     let count : length c.args.reached.now.facts ≡ length c.as_mut_slice.result.now = omega (arith, facts, c.as_mut_slice.ensures.len, c.in_ok-layers.ensures.len) in
     sound_arcs c.args.reached.now c.requires.lawful c.as_slice-2.result.now (c.as_slice-2.ensures.value ∙ c.in_ok-arcs.ensures) (length c.as_mut_slice.result.now) count
     ) in

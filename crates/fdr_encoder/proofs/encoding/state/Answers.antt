@@ -4,7 +4,6 @@ use Rattle.std.specs.List.{list_any, position_or_len}
 use Rattle.std.proofs.lemmas.List.{get_or-map, length-map}
 use Rattle.std.proofs.lemmas.List.FromFn.{fill_by_all}
 use Rattle.ground_task.specs.Literals.{initial}
-use Rattle.reached_task.specs.declared.types.Fact.{Fact}
 use Rattle.reached_task.specs.ReachedTask.{reached_task}
 use Rattle.fdr_effects.specs.Places.{value_in}
 use Rattle.fdr_encoder.specs.GoalForms.{goal_part_in}
@@ -13,7 +12,7 @@ use Rattle.fdr_encoder.proofs.encoding.state.Goals as goal
 pub flags-requires : goal.flags-requires
 flags-requires c k d below =
     let init = c.as_slice.ensures in
-    let facts = ap (λ (fs : List Fact). length fs) c.as_slice-2.ensures in
+    let facts = c.len.ensures in
     subst (λ n. get_or c.as_slice.result.now k d < n) (sym facts) (subst (λ (l : List ℕ). get_or l k d < length c.args.reached.now.facts) (sym init) (c.requires.init k d (subst (λ (l : List ℕ). k < length l) init below)).0)
 
 pub returns : goal.returns
@@ -23,7 +22,7 @@ returns c var layer =
     let cover = c.args.index.now in
     let same : (λ (fact : ℕ). get_or c.in_ok-truths.truths.items fact false) ≡ test = λ i fact. (c.in_ok-truths.ensures fact ∙ ap (list_any (λ f. f == fact)) c.as_slice.ensures) i in
     let values = c.in_ok-all.ensures
-    ∙ ap (λ (truths : List Bool). map (position_or_len (λ fact. get_or truths fact false)) sets) c.as_slice-3.ensures.value
+    ∙ ap (λ (truths : List Bool). map (position_or_len (λ fact. get_or truths fact false)) sets) c.as_slice-2.ensures.value
     ∙ ap (λ (t : ℕ → Bool). map (position_or_len t) sets) same
     ∙ ap (map (position_or_len test)) c.sets.ensures
     ∙ fill_by_all (λ var. value_in cover test var) (map (position_or_len test) cover) (length cover) (position_or_len test []) (length-map cover (position_or_len test))

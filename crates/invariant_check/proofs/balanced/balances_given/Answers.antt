@@ -1,4 +1,4 @@
-use Rattle.std.proofs.Common.{◌≡◌, ◌∙◌, ap, map, length}
+use Rattle.std.proofs.Common.{ℕ, ◌≡◌, ◌∙◌, ap, map, length}
 use Rattle.std.specs.List.{list_all}
 use Rattle.contradictions.specs.GivenTerms.{with_terms, literal_with}
 use Rattle.contradictions.proofs.Cases.{answers_too}
@@ -13,11 +13,11 @@ returns c =
     let d = c.args.delete.now in
     let given = c.args.given.now in
     let row = c.in_ok-row.row in
-    let places : row.places ≡ map (with_terms (length add.schema.now.parameters) given) d.places = c.in_ok-row.ensures.places ∙ ap (λ parameters. map (with_terms (length parameters) given) d.places) c.as_slice.ensures in
-    let condition : row.condition.items ≡ map (literal_with (length add.schema.now.parameters) given) d.condition = c.in_ok-row.ensures.condition ∙ ap (λ parameters. map (literal_with (length parameters) given) d.condition) c.as_slice.ensures in
+    let places : row.places ≡ map (with_terms (length add.schema.now.parameters) given) d.places = c.in_ok-row.ensures.places ∙ ap (λ (n : ℕ). map (with_terms n given) d.places) c.len-parameters.ensures in
+    let condition : row.condition.items ≡ map (literal_with (length add.schema.now.parameters) given) d.condition = c.in_ok-row.ensures.condition ∙ ap (λ (n : ℕ). map (literal_with n given) d.condition) c.len-parameters.ensures in
     answers_too c.is_left_deleted.result
-    (list_all (λ a. leaves_deleted c.args.candidate.now add.schema.now add.row.now add.required.now add.instance.now d.predicate c.as_slice-2.result.now (apart_from add.schema.now add.row.now a)) add.schema.now.effects)
+    (list_all (λ a. leaves_deleted c.args.candidate.now add.schema.now add.row.now add.required.now add.instance.now d.predicate c.as_slice.result.now (apart_from add.schema.now add.row.now a)) add.schema.now.effects)
     (balances_given c.args.normal.now c.args.candidate.now add.schema.now add.row.now add.required.now add.instance.now d given)
-    (ap (λ places. list_all (λ a. leaves_deleted c.args.candidate.now add.schema.now add.row.now add.required.now add.instance.now d.predicate places (apart_from add.schema.now add.row.now a)) add.schema.now.effects) c.as_slice-2.ensures
+    (ap (λ places. list_all (λ a. leaves_deleted c.args.candidate.now add.schema.now add.row.now add.required.now add.instance.now d.predicate places (apart_from add.schema.now add.row.now a)) add.schema.now.effects) c.as_slice.ensures
     ∙ with_given c.args.normal.now c.args.candidate.now add.schema.now add.row.now add.required.now add.instance.now d given row.places row.condition.items c.is_required.result places condition c.is_required.ensures c.if-not-is_required.false)
     c.is_left_deleted.ensures

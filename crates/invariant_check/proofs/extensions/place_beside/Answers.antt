@@ -1,4 +1,4 @@
-use Rattle.std.proofs.Common.{length, get_or, ap, ◌∙◌}
+use Rattle.std.proofs.Common.{ℕ, get_or, ap, ◌∙◌}
 use Rattle.std.specs.Prelude.{nat_eq}
 use Rattle.std.specs.List.{position}
 use Rattle.std.specs.Option.{unwrap_or}
@@ -10,7 +10,7 @@ returns c =
     let test = nat_eq c.args.place in
     let parameter =
     c.unwrap_or-parameter.ensures
-    ∙ ap (λ found. unwrap_or found (length c.as_slice.result.now)) c.parameter_at.ensures
-    ∙ ap (λ places. unwrap_or (position test c.args.first.now.places) (length places)) c.as_slice.ensures
+    ∙ ap (λ found. unwrap_or found c.len.result) c.parameter_at.ensures
+    ∙ ap (λ (n : ℕ). unwrap_or (position test c.args.first.now.places) n) c.len.ensures
     ∙ or_len test c.args.first.now.places in
     c.place_of.ensures ∙ ap (λ k. get_or c.args.part.now.places k 0) parameter

@@ -1,8 +1,9 @@
 use Rattle.std.proofs.Common.{Err, refl, ap}
+use Rattle.lists.proofs.Stops.{first_same, some_first}
 use Rattle.pddl_lexer.proofs.Spelled.{tree_of_spelled}
 use Rattle.pddl_lexer.specs.declared.fault.Fault.{Fault}
-use Rattle.pddl_lexer.specs.declared.fault.TreeEnd.TheVariants as ends
-use Rattle.pddl_lexer.proofs.ReaderTurns.{Whole, IsAnswer, counts, few_open, line_fits, column_fits, fault_here, fault_end, first_same, some_first, passed_more, passed_all, passed_answer, first_and_others, first_and_after, nothing}
+use Rattle.lists.specs.declared.stop.Stop.TheVariants as stops
+use Rattle.pddl_lexer.proofs.ReaderTurns.{Whole, IsAnswer, counts, few_open, line_fits, column_fits, fault_here, fault_end, passed_more, passed_all, passed_answer, first_and_others, first_and_after, nothing}
 use Rattle.pddl_lexer.proofs.reader.read_tree.Goals as goal
 use Rattle.pddl_lexer.proofs.reader.read_tree.Goals.{In-None, After-drop-builder-2}
 
@@ -19,7 +20,7 @@ pub returns-in-Some-clause-ok : goal.returns-in-Some-clause-ok
 returns-in-Some-clause-ok c = λ none. absurd (some_first _ _ (returns-in-Some-clause-first c) none)
 
 pub returns-in-Some-clause-fault : goal.returns-in-Some-clause-fault
-returns-in-Some-clause-fault c = λ fault first. ap (λ (f : Fault). Err (ends.Fault f)) (first_same _ _ _ (returns-in-Some-clause-first c) first)
+returns-in-Some-clause-fault c = λ fault first. ap (λ (f : Fault). Err (stops.Fault f)) (first_same _ _ _ (returns-in-Some-clause-first c) first)
 
 -- ---- a turn
 
@@ -53,7 +54,7 @@ pub returns-in-Some-kind_at_end-clause-ok : goal.returns-in-Some-kind_at_end-cla
 returns-in-Some-kind_at_end-clause-ok c = λ none. absurd (some_first _ _ (returns-in-Some-kind_at_end-clause-first c) none)
 
 pub returns-in-Some-kind_at_end-clause-fault : goal.returns-in-Some-kind_at_end-clause-fault
-returns-in-Some-kind_at_end-clause-fault c = λ fault first. ap (λ (f : Fault). Err (ends.Fault f)) (first_same _ _ _ (returns-in-Some-kind_at_end-clause-first c) first)
+returns-in-Some-kind_at_end-clause-fault c = λ fault first. ap (λ (f : Fault). Err (stops.Fault f)) (first_same _ _ _ (returns-in-Some-kind_at_end-clause-first c) first)
 
 -- the whole of the text is read
 read_whole : (c : In-None) → Whole c.args.bytes.now c.loop-text.builder

@@ -3,8 +3,8 @@ use Rattle.std.specs.Prelude.{is_some}
 use Rattle.std.proofs.lemmas.Bool.{eqb-true}
 use Rattle.sas_task.specs.declared.parts.Operator.{Operator}
 use Rattle.plan_backmap.specs.Lines.{is_comment, is_step, words, name}
-use Rattle.plan_backmap.specs.Plans.{PlanFault, BadLine, UnknownStep, cost_of, step_of, fault_of, end_of, IfFault}
-use Rattle.plan_backmap.proofs.Ends.{one_fault}
+use Rattle.plan_backmap.specs.declared.fault.PlanFault.TheVariants.{BadLine, UnknownStep}
+use Rattle.plan_backmap.specs.Plans.{cost_of, step_of, fault_of}
 use Rattle.plan_backmap.proofs.mapping.step_of.Goals as goal
 
 -- a comment is no step
@@ -22,11 +22,6 @@ bad_line operators number line no_comment no_step =
 pub returns-then-is_comment-clause-step : goal.returns-then-is_comment-clause-step
 returns-then-is_comment-clause-step c = no_step c.args.costs.now.operators c.args.line.now (sym c.is_comment.ensures ∙ c.if-is_comment.true)
 
--- the end that is answered for a fault tells that fault
-told : (operators : List Operator) (number : ℕ) (line : List ℕ) (fault : PlanFault) → fault_of operators number line ≡ Some fault → IfFault (end_of fault) (λ other. fault_of operators number line ≡ Some other)
-told operators number line fault is other same = is ∙ ap Some (one_fault fault other same)
-
 pub returns-then-not-is_step-clause-fault : goal.returns-then-not-is_step-clause-fault
 returns-then-not-is_step-clause-fault c =
-    told c.args.costs.now.operators c.args.number c.args.line.now (BadLine c.args.number)
-    (bad_line c.args.costs.now.operators c.args.number c.args.line.now (sym c.is_comment.ensures ∙ c.if-is_comment.false) (sym c.is_step.ensures.step ∙ c.if-not-is_step.true))
+    bad_line c.args.costs.now.operators c.args.number c.args.line.now (sym c.is_comment.ensures ∙ c.if-is_comment.false) (sym c.is_step.ensures.step ∙ c.if-not-is_step.true)

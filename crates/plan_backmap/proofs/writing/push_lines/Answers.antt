@@ -1,4 +1,5 @@
-use Rattle.std.proofs.Common.{ap, ◌∙◌, ◌+◌}
+use Rattle.std.proofs.Common.{ℕ, Option, ap, ◌∙◌, ◌+◌}
+use Rattle.plan_backmap.specs.declared.plan.Step.{Step}
 use Rattle.plan_backmap.specs.Lines.{trimmed}
 use Rattle.plan_backmap.proofs.Cuts.{smaller}
 use Rattle.plan_backmap.proofs.PassedLines.{written_fault, written_line}
@@ -7,7 +8,7 @@ use Rattle.plan_backmap.proofs.writing.push_lines.Goals as goal
 pub returns-in-Err-clause-first : goal.returns-in-Err-clause-first
 returns-in-Err-clause-first c =
     written_fault c.args.costs.now.operators c.args.bytes.now c.loop-rest.number c.loop-rest.total c.loop-rest.rest.now _ _ c.loop-rest.invariant c.in-len1-up.len_at_least
-    c.trimmed.result.now (c.trimmed.ensures ∙ ap trimmed c.first_line.ensures) c.in-Err.end c.in-Err.ensures.fault
+    c.trimmed.result.now (c.trimmed.ensures ∙ ap trimmed c.first_line.ensures) (Option Step) ℕ c.in-Err.stop c.in-Err.ensures.fault
 
 pub loop-rest-smaller : goal.loop-rest-smaller
 loop-rest-smaller c = smaller c.loop-rest.rest.now c.after_line-rest.result.now c.in-len1-up.len_at_least c.after_line-rest.ensures

@@ -6,7 +6,7 @@ use Rattle.pddl_syntax.proofs.ConditionCases.{fold-True}
 use Rattle.fault_positions.specs.Mentions.{Mention, condition_step, listed_variables}
 use Rattle.fault_positions.specs.Names.{types_of}
 use Rattle.fault_positions.specs.Names as names
-use Rattle.type_checker.specs.declared.end.Side.TheVariants as sides
+use Rattle.type_checker.specs.declared.side.Side.TheVariants as sides
 use Rattle.type_checker.specs.Examples.{stray, astray}
 use Rattle.type_checker.specs.Faults.{check_faults, faults_at}
 use Rattle.type_checker.proofs.laws.faults_in_order.Goals as goal
