@@ -38,7 +38,7 @@ fn schema(
     let shown = shared.action.parameters.len() as u64;
     let more = part.variables.len() as u64;
     Ok(Schema {
-        action: Text::from_vec(Vec::from_slice(alloc, shared.action.name.name.as_slice())?),
+        action: Text::from_slice(alloc, shared.action.name.name.as_slice())?,
         shown,
         parameters: joined_ranges(alloc, shared.ranges, part.variables)?,
         condition: part.literals,

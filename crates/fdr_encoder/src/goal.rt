@@ -63,8 +63,8 @@ fn goal_variable(alloc: Global, layer: u64) -> Result<Variable, AllocError>
     ensures { IfOk result (λ variable. variable ≡ parts.goal_variable layer) }
 {
     let mut facts = Vec::with_capacity(alloc, 2)?;
-    facts.push(Text::from_vec(Vec::from_slice(alloc, b"Atom goal@split()")?))?;
-    facts.push(Text::from_vec(Vec::from_slice(alloc, b"NegatedAtom goal@split()")?))?;
+    facts.push(Text::from_slice(alloc, b"Atom goal@split()")?)?;
+    facts.push(Text::from_slice(alloc, b"NegatedAtom goal@split()")?)?;
     Ok(Variable {
         layer: Some(layer),
         facts: List::from_vec(facts),

@@ -27,7 +27,7 @@ fn push_names(names: &mut Vec<Text>, objects: &[Typed]) -> Result<(), AllocError
 {
     for object in objects {
         let alloc = *names.allocator();
-        names.push(Text::from_vec(Vec::from_slice(alloc, object.name.name.as_slice())?))?;
+        names.push(Text::from_slice(alloc, object.name.name.as_slice())?)?;
     }
     Ok(())
 }

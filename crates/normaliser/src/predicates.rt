@@ -116,7 +116,7 @@ fn declared_row(
     let name = head.name.name.as_slice();
     let is_derived = derived.has(name);
     Ok(PredicateRow {
-        name: Text::from_vec(Vec::from_slice(alloc, name)?),
+        name: Text::from_slice(alloc, name)?,
         arity: head.variables.len() as u64,
         derived: is_derived,
         fixed: !is_derived && !changed.has(name),

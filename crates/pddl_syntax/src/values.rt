@@ -9,7 +9,7 @@ use crate::expected::Expected;
 use crate::number::number_of;
 use crate::types::{Atom, Head, Named, Term, Typed};
 use crate::words::{begins_with_question_mark, is_dash};
-use lists::{List, Stop, Text};
+use lists::{List, Name, Stop};
 use pddl_lexer::{At, Fault, Kind, ShapePlace};
 use std::alloc::{AllocError, Global};
 
@@ -18,7 +18,7 @@ pub fn named(alloc: Global, cursor: &Cursor<'_>) -> Result<Named, AllocError>
     ensures { IfOk result (λ named. named ≡ spec.named cursor.now) }
 {
     Ok(Named {
-        name: Text::from_vec(cursor.word().to_ascii_lowercase(alloc)?),
+        name: Name::lowered(alloc, cursor.word())?,
         at: cursor.at(),
     })
 }

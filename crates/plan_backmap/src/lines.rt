@@ -6,7 +6,7 @@ ghost use Rattle.pddl_lexer.specs.Text.{is_word_byte, lowered};
 ghost use Rattle.plan_backmap.specs.FirstLine as cut;
 ghost use Rattle.plan_backmap.specs.Lines as spec;
 
-use lists::{List, Text};
+use lists::{List, Name};
 use pddl_lexer::is_word_byte;
 use std::alloc::{AllocError, Global};
 
@@ -139,12 +139,6 @@ pub(crate) fn is_step(line: &[u8]) -> bool
     is_enclosed(line) && are_words(inside(line))
 }
 
-fn lowered(alloc: Global, word: &[u8]) -> Result<Text, AllocError>
-    ensures { IfOk result (λ text. text ≡ lowered word.now) }
-{
-    Ok(Text::from_vec(word.to_ascii_lowercase(alloc)?))
-}
-
 /// The words between spaces and tabs, as they are written.
 fn words_inside(alloc: Global, text: &[u8]) -> Result<Vec<&[u8]>, AllocError>
     ensures { IfOk result (λ words. map (λ word. word.now) words.items ≡ spec.words_inside text.now) }
@@ -154,18 +148,18 @@ fn words_inside(alloc: Global, text: &[u8]) -> Result<Vec<&[u8]>, AllocError>
         .collect(alloc)
 }
 
-fn lowered_words(alloc: Global, written: &[&[u8]]) -> Result<List<Text>, AllocError>
+fn lowered_words(alloc: Global, written: &[&[u8]]) -> Result<List<Name>, AllocError>
     ensures { IfOk result (λ words. words ≡ map (λ word. lowered word.now) written.now) }
 {
     let mut words = Vec::new(alloc);
     for word in written {
-        words.push(lowered(alloc, *word)?)?;
+        words.push(Name::lowered(alloc, *word)?)?;
     }
     Ok(List::from_vec(words))
 }
 
 /// The words of a step, lowered.
-pub(crate) fn words(alloc: Global, text: &[u8]) -> Result<List<Text>, AllocError>
+pub(crate) fn words(alloc: Global, text: &[u8]) -> Result<List<Name>, AllocError>
     ensures { IfOk result (λ words. words ≡ map lowered (spec.words_inside text.now)) }
 {
     let written = words_inside(alloc, text)?;
@@ -173,7 +167,7 @@ pub(crate) fn words(alloc: Global, text: &[u8]) -> Result<List<Text>, AllocError
 }
 
 /// The words after the first, each after a space.
-fn add_words(name: &mut Vec<u8>, words: &[Text]) -> Result<(), AllocError>
+fn add_words(name: &mut Vec<u8>, words: &[Name]) -> Result<(), AllocError>
     ensures { OnOk result (name.new.items ≡ name.old.items ++ flat_map (λ word. 32 ∷ word) words.now) }
 {
     for word in words {
@@ -184,7 +178,7 @@ fn add_words(name: &mut Vec<u8>, words: &[Text]) -> Result<(), AllocError>
 }
 
 /// The name that the words make: they are joined by single spaces.
-pub(crate) fn name(alloc: Global, words: &[Text]) -> Result<Vec<u8>, AllocError>
+pub(crate) fn name(alloc: Global, words: &[Name]) -> Result<Vec<u8>, AllocError>
     ensures { IfOk result (λ name. name.items ≡ spec.name words.now) }
 {
     let mut name = Vec::new(alloc);

@@ -1,11 +1,11 @@
 //! A plan that is mapped to operators.
 
-use lists::{List, Text};
+use lists::{List, Name};
 
 /// A step of a plan: the operator's name and its objects, lowered, and what it costs.
 #[derive(Drop)]
 pub struct Step {
-    pub words: List<Text>,
+    pub words: List<Name>,
     pub cost: u64,
 }
 

@@ -85,7 +85,7 @@ fn fact(
             predicate,
             objects: Objects::from_slice(alloc, objects)?,
         },
-        shown: Text::from_vec(room.to_vec(alloc)?),
+        shown: Text::from_slice(alloc, room)?,
         derived: is_derived(task.normal_predicates.as_slice(), predicate),
     })
 }

@@ -1,7 +1,7 @@
 //! What conditions and steps mean, by the plain program.
 
 use crate::reading::{domain_of, problem_of};
-use lists::{List, Text};
+use lists::{List, Name};
 use pddl_plain::{Bound, GroundAtom, Step, action_cost, holds, initial, is_given, take_step};
 use pddl_syntax::{Condition, Domain, Problem};
 use std::alloc::{AllocError, Global};
@@ -18,15 +18,11 @@ macro_rules! problem {
     (ship $goal:literal) => { concat!("(define (problem p) (:domain d) (:objects ship - boat) (:init (p) (p) (not (q))) (:goal ", $goal, "))") };
 }
 
-fn text(alloc: Global, bytes: &[u8]) -> Result<Text, AllocError> {
-    Ok(Text::from_vec(Vec::from_slice(alloc, bytes)?))
-}
-
 /// Each letter as a name.
-fn names(alloc: Global, letters: &str) -> Result<Vec<Text>, AllocError> {
+fn names(alloc: Global, letters: &str) -> Result<Vec<Name>, AllocError> {
     let mut names = Vec::new(alloc);
     for letter in letters.as_bytes() {
-        names.push(text(alloc, &[*letter])?)?;
+        names.push(Name::from_slice(alloc, &[*letter])?)?;
     }
     Ok(names)
 }
@@ -140,8 +136,8 @@ fn cost_in(
     object: &str,
 ) -> Result<Option<u64>, AllocError> {
     let binding = [Bound {
-        variable: text(alloc, b"?x")?,
-        object: text(alloc, object.as_bytes())?,
+        variable: Name::from_slice(alloc, b"?x")?,
+        object: Name::from_slice(alloc, object.as_bytes())?,
     }];
     match domain.actions.as_slice() {
         [action, ..] => action_cost(alloc, problem, &binding, action),

@@ -8,13 +8,13 @@ ghost use Rattle.sas_reader.specs.Operators as operators;
 ghost use Rattle.sas_reader.specs.Tables as steps;
 
 use crate::fault::SasFault;
-use crate::numbers::{is_name, less_space, text};
+use crate::numbers::{is_name, less_space};
 use crate::parts::{conditions, effect_conditions, value};
 use crate::reader::Reader;
 use crate::requirements::Requirements;
 use crate::values::{is_value, layer_of};
 use lists::Stop;
-use sas_task::{Effect, List, Operator, Pair, Value, Var, Variable};
+use sas_task::{Effect, List, Operator, Pair, Text, Value, Var, Variable};
 use std::alloc::Global;
 
 /// The line of an operator's name, which may have one space more at its end.
@@ -126,7 +126,7 @@ fn after_name(
     let required = effect_lines(alloc, reader, variables, prevail, count)?;
     let cost = cost(reader, metric)?;
     reader.fixed(b"end_operator")?;
-    let name = text(alloc, name)?;
+    let name = Text::from_slice(alloc, name)?;
     let (conditions, effects) = required.into_parts(alloc)?;
     Ok(Operator {
         name,

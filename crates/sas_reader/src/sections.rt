@@ -9,7 +9,7 @@ ghost use Rattle.sas_reader.specs.Words.{is_same};
 ghost use Rattle.sas_reader.specs.Sections as sections;
 
 use crate::fault::SasFault;
-use crate::numbers::{is_name, number, text};
+use crate::numbers::{is_name, number};
 use crate::parts::{conditions, fact_lines};
 use crate::reader::Reader;
 use crate::values::is_value;
@@ -66,7 +66,7 @@ fn fact_name(alloc: Global, reader: &mut Reader<'_>) -> Result<Text, Stop<SasFau
 {
     let name = reader.next_line()?;
     reader.passing(is_name(name), ())?;
-    Ok(text(alloc, name)?)
+    Ok(Text::from_slice(alloc, name)?)
 }
 
 /// So many names of facts.

@@ -22,7 +22,7 @@ fn fact_at(alloc: Global, facts: &[Text], val: Value) -> Result<Text, AllocError
         Some(fact) => fact.as_slice(),
         None => &[],
     };
-    Ok(Text::from_vec(fact.to_vec(alloc)?))
+    Text::from_slice(alloc, fact)
 }
 
 /// Copies of the facts of these values.
@@ -66,17 +66,11 @@ fn new_variables(alloc: Global, shown: &Chosen, task: &SasTask) -> Result<Vec<Va
     Ok(variables)
 }
 
-fn text(alloc: Global, bytes: &[u8]) -> Result<Text, AllocError>
-    ensures { IfOk result (λ text. text ≡ bytes.now) }
-{
-    Ok(Text::from_vec(bytes.to_vec(alloc)?))
-}
-
 fn holder_variable(alloc: Global) -> Result<Variable, AllocError>
     ensures { IfOk result (λ variable. variable ≡ choice.holder_variable) }
 {
-    let met = text(alloc, b"Atom goal@holder()")?;
-    let missed = text(alloc, b"NegatedAtom goal@holder()")?;
+    let met = Text::from_slice(alloc, b"Atom goal@holder()")?;
+    let missed = Text::from_slice(alloc, b"NegatedAtom goal@holder()")?;
     Ok(Variable {
         layer: None,
         facts: List::from_vec(vec![in alloc; met, missed]?),

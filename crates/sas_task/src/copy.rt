@@ -31,7 +31,7 @@ impl Copied for u64 {
 
 impl Copied for Text {
     fn copied(&self, alloc: Global) -> Result<Text, AllocError> {
-        Ok(Text::from_vec(self.as_slice().to_vec(alloc)?))
+        Text::from_slice(alloc, self.as_slice())
     }
 }
 

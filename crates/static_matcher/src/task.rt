@@ -15,19 +15,12 @@ use lists::{List, Text};
 use normal_task::{GroundAtom, Normal, PredicateRow};
 use std::alloc::{AllocError, Global};
 
-/// A text of its own.
-fn copied(alloc: Global, text: &Text) -> Result<Text, AllocError>
-    ensures { IfOk result (λ copy. copy ≡ text.now) }
-{
-    Ok(Text::from_vec(Vec::from_slice(alloc, text.as_slice())?))
-}
-
 /// A row of its own.
 fn predicate(alloc: Global, row: &PredicateRow) -> Result<PredicateRow, AllocError>
     ensures { IfOk result (λ copy. copy ≡ row.now) }
 {
     Ok(PredicateRow {
-        name: copied(alloc, &row.name)?,
+        name: Text::from_slice(alloc, row.name.as_slice())?,
         arity: row.arity,
         derived: row.derived,
         fixed: row.fixed,
@@ -51,7 +44,7 @@ fn objects(alloc: Global, names: &[Text]) -> Result<List<Text>, AllocError>
 {
     let mut out = Vec::with_capacity(alloc, names.len())?;
     for name in names {
-        out.push(copied(alloc, name)?)?;
+        out.push(Text::from_slice(alloc, name.as_slice())?)?;
     }
     Ok(List::from_vec(out))
 }

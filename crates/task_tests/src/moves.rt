@@ -10,12 +10,6 @@ use lists::{List, Text};
 use normal_task::{GroundAtom, PredicateRow};
 use std::alloc::{AllocError, Global};
 
-fn text(alloc: Global, bytes: &[u8]) -> Result<Text, AllocError>
-    ensures { IfOk result (λ text. text ≡ bytes.now) }
-{
-    Ok(Text::from_vec(Vec::from_slice(alloc, bytes)?))
-}
-
 fn no_literals(alloc: Global) -> Cond<GroundAtom>
     ensures { result ≡ record { positive = []; negative = [] } }
 {
@@ -60,7 +54,7 @@ fn move_from(alloc: Global, predicate: u64, from: u64, to: u64) -> Result<Ground
     ensures { IfOk result (λ action. action ≡ move_of predicate from to) }
 {
     Ok(GroundAction {
-        name: text(alloc, b"move")?,
+        name: Text::from_slice(alloc, b"move")?,
         condition: only_positive(alloc, predicate, from)?,
         effects: only_added(alloc, predicate, to)?,
         cost: 1,
@@ -121,7 +115,7 @@ fn objects(alloc: Global, count: u64) -> Result<List<Text>, AllocError>
 {
     let mut names = Vec::new(alloc);
     for _ in 0..count {
-        names.push(text(alloc, b"o")?)?;
+        names.push(Text::from_slice(alloc, b"o")?)?;
     }
     Ok(List::from_vec(names))
 }
@@ -131,7 +125,7 @@ fn predicate(alloc: Global, name: &[u8]) -> Result<PredicateRow, AllocError>
     ensures { IfOk result (λ row. row ≡ row_of name.now) }
 {
     Ok(PredicateRow {
-        name: text(alloc, name)?,
+        name: Text::from_slice(alloc, name)?,
         arity: 1,
         derived: false,
         fixed: false,
