@@ -1,18 +1,17 @@
 -- What literals leave, read from the marks that they make, variable by variable.
-use Rattle.std.proofs.Common.{◌≡◌, ℕ, ◌+◌, ◌<◌, ◌≤◌, Bool, true, false, cond, not, eqb, ltb, leb, ◌&&◌, ◌||◌, Option, Some, None, List, [], ◌∷◌, ◌++◌, append-nil, map, take, drop, length, get_or, refl, sym, ap, ◌∙◌, subst, inl, inr, arith}
+use Rattle.std.proofs.Common.{◌≡◌, ℕ, ◌+◌, ◌<◌, Bool, true, false, cond, not, eqb, ◌&&◌, ◌||◌, Option, Some, None, List, [], ◌∷◌, map, refl, sym, ap, ◌∙◌, subst, inl, inr, arith}
 use Rattle.std.specs.Cmp.{both_ways as same_tests}
 use Rattle.std.specs.List.{All, Contains, filter, filter_map, flat_map, range_with_len, list_all, list_any, cons_option, dedup, slice_get}
-use Rattle.std.specs.List.Sorted.{IsPermutation, IsNonDecreasingBy, IsPartitionPoint}
+use Rattle.std.specs.List.Sorted.{IsPermutation}
 use Rattle.std.specs.Option.{option_map_or}
-use Rattle.std.proofs.lemmas.Bool.{cases_Bool, both_ways, eqb-true, eq-eqb, ltb-true, leb-true, leb-false, ltb-false, and_parts, false_from_ne_true, cond-true, cond-false}
-use Rattle.std.proofs.lemmas.List.{take-append-drop, get_or-take, get_or-drop, length-take-le, length-drop}
+use Rattle.std.proofs.lemmas.Bool.{cases_Bool, both_ways, eqb-true, and_parts, false_from_ne_true, cond-true, cond-false}
 use Rattle.std.proofs.lemmas.List.Sums.{AllPass-from_list_all, list_all-from_AllPass}
-use Rattle.std.proofs.lemmas.List.Elements.{All-contains, filter-append}
+use Rattle.std.proofs.lemmas.List.Elements.{All-contains}
 use Rattle.std.proofs.lemmas.List.Sorted.{IsPermutation-sym, All-permutation, list_any-IsPermutation}
 use Rattle.std.proofs.lemmas.List.Kept.{IsStrictlyIncreasing-filter, Contains-dedup_nat, Contains-from_dedup}
 use Rattle.lists.proofs.Items.{any_flat_map, all_flat_map}
 use Rattle.sas_task.specs.declared.parts.Pair.{Pair}
-use Rattle.lists.proofs.Members.{member_first, member_range, filter_every, filter_none, flat_map_member, all_from_members, map_member, member_filter, filter_member, any_member, member_any, member_single}
+use Rattle.lists.proofs.Members.{member_first, member_range, filter_none, flat_map_member, all_from_members, map_member, member_filter, filter_member, any_member, member_any, member_single}
 use Rattle.ground_task.specs.declared.types.Cond.{Cond}
 use Rattle.sas_task.specs.Pairs.{pair}
 use Rattle.fdr_effects.specs.Places.{Cover, set_of, places, first_place, last_value}
@@ -108,58 +107,6 @@ on_fit cover var marks fit =
     all_from_members (λ p. p.val < last_value cover var + 1) (on var marks) (λ p in'.
     let at = filter_member (λ p. eqb p.var var) marks p in' in
     subst (λ v. p.val < last_value cover v + 1) (eqb-true p.var var at.1) (All-contains (λ p. p.val < last_value cover p.var + 1) marks p fit at.0))
-
--- ---- the marks on a variable stand together
-
-module _ {X : Type 0} (key : X → ℕ) (var : ℕ) (marks : List X) (up : IsNonDecreasingBy key marks) (s k : ℕ) where
-  abbrev keyed : List X → List X
-  keyed = filter (λ x. eqb (key x) var)
-
-  abbrev rest : List X
-  rest = drop s marks
-
-  on_rest : IsPartitionPoint (λ p. ltb (key p) var ≡ true) (λ p. ltb (key p) var ≡ false) marks s → s ≤ length marks → IsPartitionPoint (λ p. leb (key p) var ≡ true) (λ p. leb (key p) var ≡ false) rest k → k ≤ length rest → take k rest ≡ keyed marks
-  on_rest parted within parted' within' =
-      sym (ap keyed (sym (take-append-drop s marks)) ∙ filter-append (λ p. eqb (key p) var) (take s marks) rest
-      ∙ ap (λ l. l ++ keyed rest) (filter_none (λ p. eqb (key p) var) (take s marks) low)
-      ∙ ap keyed (sym (take-append-drop k rest)) ∙ filter-append (λ p. eqb (key p) var) (take k rest) (drop k rest)
-      ∙ ap (λ l. keyed (take k rest) ++ l) (filter_none (λ p. eqb (key p) var) (drop k rest) high)
-      ∙ append-nil (keyed (take k rest))
-      ∙ filter_every (λ p. eqb (key p) var) (take k rest) here)
-    where
-      low : (p : X) → Contains (take s marks) p → eqb (key p) var ≡ false
-      low p in' =
-          let i = in'.0 in
-          let long = length-take-le s marks within in
-          let below : i < s = omega (arith, in'.1) in
-          let is : get_or marks i p ≡ p = sym (get_or-take s marks i p below) ∙ in'.2 in
-          let less : key p < var = ltb-true (key p) var (subst (λ (q : X). ltb (key q) var ≡ true) is (parted.0 i p (omega arith) below)) in
-          false_from_ne_true (eqb (key p) var) (λ h. let e = eqb-true (key p) var h in absurd (omega arith))
-
-      here : (p : X) → Contains (take k rest) p → eqb (key p) var ≡ true
-      here p in' =
-          let i = in'.0 in
-          let long = length-take-le k rest within' in
-          let left = length-drop s marks in
-          let below : i < k = omega (arith, in'.1) in
-          let at : get_or rest i p ≡ p = sym (get_or-take k rest i p below) ∙ in'.2 in
-          let is : get_or marks (s + i) p ≡ p = sym (get_or-drop s marks i p) ∙ at in
-          let most : key p ≤ var = leb-true (key p) var (subst (λ (q : X). leb (key q) var ≡ true) at (parted'.0 i p (omega arith) below)) in
-          let least : var ≤ key p = ltb-false (key p) var (subst (λ (q : X). ltb (key q) var ≡ false) is (parted.1 (s + i) p (omega arith) (omega arith))) in
-          eq-eqb (key p) var (omega arith)
-
-      high : (p : X) → Contains (drop k rest) p → eqb (key p) var ≡ false
-      high p in' =
-          let i = in'.0 in
-          let left = length-drop k rest in
-          let below : k + i < length rest = omega (arith, in'.1) in
-          let is : get_or rest (k + i) p ≡ p = sym (get_or-drop k rest i p) ∙ in'.2 in
-          let more : var < key p = leb-false (key p) var (subst (λ (q : X). leb (key q) var ≡ false) is (parted'.1 (k + i) p (omega arith) below)) in
-          false_from_ne_true (eqb (key p) var) (λ h. let e = eqb-true (key p) var h in absurd (omega arith))
-
-  pub on_is : (l : List X) → l ≡ rest → IsPartitionPoint (λ p. ltb (key p) var ≡ true) (λ p. ltb (key p) var ≡ false) marks s → s ≤ length marks → IsPartitionPoint (λ p. leb (key p) var ≡ true) (λ p. leb (key p) var ≡ false) l k → k ≤ length l → take k l ≡ keyed marks
-  on_is l is parted within parted' within' =
-      ap (take k) is ∙ on_rest parted within (subst (λ r. IsPartitionPoint (λ p. leb (key p) var ≡ true) (λ p. leb (key p) var ≡ false) r k) is parted') (subst (λ r. k ≤ length r) is within')
 
 -- a list sorted without repeats has the same numbers
 pub any_dedup : (var : ℕ) (xs : List ℕ) → list_any (λ v. eqb v var) (dedup eqb xs) ≡ list_any (λ v. eqb v var) xs

@@ -19,7 +19,6 @@ mod TriedSteps
 mod Matching
 mod Orders
 mod InOrder
-mod Keyed
 mod TouchedSchemas
 mod BesideParts
 mod AtOnce

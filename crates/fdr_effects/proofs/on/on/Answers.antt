@@ -2,7 +2,7 @@
 use Rattle.std.proofs.Common.{◌-◌, drop, length, ltb, leb, rules, sym, subst, take_all, arith, length-drop}
 use Rattle.std.specs.List.Sorted.{IsPartitionedBy}
 use Rattle.std.proofs.lemmas.List.Sorted.{IsPartitionPoint-from_clause, IsPartitionedBy-leb, IsPartitionedBy-ltb, IsNonDecreasingBy-drop}
-use Rattle.fdr_effects.proofs.Marked.{on_is}
+use Rattle.lists.proofs.Keyed.{on_is}
 use Rattle.fdr_effects.proofs.on.on.Goals as goal
 
 pub returns : goal.returns

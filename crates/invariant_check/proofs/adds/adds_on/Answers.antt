@@ -3,7 +3,7 @@ use Rattle.std.proofs.Common.{◌-◌, drop, length, ltb, leb, rules, sym, subst
 use Rattle.std.specs.List.Sorted.{IsPartitionedBy}
 use Rattle.std.proofs.lemmas.List.Sorted.{IsPartitionPoint-from_clause, IsPartitionedBy-leb, IsPartitionedBy-ltb, IsNonDecreasingBy-drop}
 use Rattle.invariant_check.specs.declared.types.AddOf.{AddOf}
-use Rattle.invariant_check.proofs.Keyed.{on_is}
+use Rattle.lists.proofs.Keyed.{on_is}
 use Rattle.invariant_check.proofs.adds.adds_on.Goals as goal
 
 pub returns : goal.returns
