@@ -5,7 +5,7 @@ use Rattle.std.proofs.lemmas.List.{append-nil, drop_at, drop-append-le, length-a
 use Rattle.std.proofs.Math.Seq.{drop-append-add}
 use Rattle.pddl_lexer.specs.declared.position.At.{At}
 use Rattle.pddl_lexer.specs.Positions.{nowhere}
-use Rattle.pddl_lexer.specs.Members.{Members, NoMore, WordThen, ListThen, IsOneList, count, nodes, from, inside, rest, is_empty, members_at, IsPlace, beginning}
+use Rattle.pddl_lexer.specs.Members.{Members, NoMore, WordThen, ListThen, IsOneList, count, nodes, from, word, inside, rest, is_empty, members_at, IsPlace, beginning}
 use Rattle.pddl_lexer.specs.Nodes.{Entry, list_entry, entries, Shows, AreNodesOf, content_depth, content_below, depth_of, entry, shown, kept}
 use Rattle.pddl_lexer.specs.declared.tree.Node.{Node}
 use Rattle.pddl_lexer.specs.Kept.{Ends}
@@ -221,28 +221,39 @@ module _ (tree : Members) (i : ℕ) (lt : i < length (nodes tree)) where
 
 -- ---- what the code keeps
 
-pub same_length : (ns : List Node) (tree : Members) → kept ns ≡ tree → AreNodesOf (kept ns) ns → length ns ≡ length (nodes tree)
-same_length ns tree view_is inv =
-    omega (arith, length-map {B = Entry} ns entry, ap length inv.shown_are, length-entries 0 (kept ns), length-nodes tree, ap count view_is)
+pub same_length : (text : List ℕ) (ns : List Node) (tree : Members) → kept text ns ≡ tree → AreNodesOf text (kept text ns) ns → length ns ≡ length (nodes tree)
+same_length text ns tree view_is inv =
+    omega (arith, length-map {B = Entry} ns (entry text), ap length inv.shown_are, length-entries 0 (kept text ns), length-nodes tree, ap count view_is)
 
 -- what a node of the code tells
-pub record Tells (tree : Members) (i : ℕ) (n : Node) : Type 0 where
-  pub shows : Shows (entry n) (from tree i)
+pub record Tells (text : List ℕ) (tree : Members) (i : ℕ) (n : Node) : Type 0 where
+  pub shows : Shows (entry text n) (from tree i)
   pub depth_is : content_depth n.content ≡ depth_of tree i
   pub in_range : i + 1 + content_below n.content ≤ length (nodes tree)
 
-pub tells : (ns : List Node) (tree : Members) (i : ℕ) (n : Node) → kept ns ≡ tree → AreNodesOf (kept ns) ns → i < length (nodes tree) → n ≡ get_or ns i n → Tells tree i n
-tells ns tree i n view_is inv lt is =
-    let same : shown ns ≡ entries 0 tree = inv.shown_are ∙ ap (entries 0) view_is in
-    let within : i < length ns = omega (arith, same_length ns tree view_is inv) in
-    let entry_is : entry n ≡ get_or (entries 0 tree) i (list_entry nowhere 0 0) =
-    ap entry is ∙ sym (get_or-map entry ns i n (list_entry nowhere 0 0) within) ∙ ap (λ (es : List Entry). get_or es i (list_entry nowhere 0 0)) same in
-    let shows : Shows (entry n) (from tree i) = subst (λ (e : Entry). Shows e (from tree i)) (sym entry_is) (node_shows tree i lt) in
+pub tells : (text : List ℕ) (ns : List Node) (tree : Members) (i : ℕ) (n : Node) → kept text ns ≡ tree → AreNodesOf text (kept text ns) ns → i < length (nodes tree) → n ≡ get_or ns i n → Tells text tree i n
+tells text ns tree i n view_is inv lt is =
+    let same : shown text ns ≡ entries 0 tree = inv.shown_are ∙ ap (entries 0) view_is in
+    let within : i < length ns = omega (arith, same_length text ns tree view_is inv) in
+    let entry_is : entry text n ≡ get_or (entries 0 tree) i (list_entry nowhere 0 0) =
+    ap (entry text) is ∙ sym (get_or-map (entry text) ns i n (list_entry nowhere 0 0) within) ∙ ap (λ (es : List Entry). get_or es i (list_entry nowhere 0 0)) same in
+    let shows : Shows (entry text n) (from tree i) = subst (λ (e : Entry). Shows e (from tree i)) (sym entry_is) (node_shows tree i lt) in
     record {
       shows = shows;
       depth_is = ap (λ (e : Entry). e.depth) entry_is;
       in_range = omega (arith, node_fits tree i lt, shows.below_is);
     }
+
+-- the bytes of a word, and that a list has none
+pub word_told : (e : Entry) (here : Members) (bytes : List ℕ) → Shows e here → e.word ≡ Some bytes → bytes ≡ word here
+word_told e NoMore bytes shows is = cc (shows.word_is, is)
+word_told e (WordThen at word rest) bytes shows is = cc (shows.word_is, is)
+word_told e (ListThen at inside rest) bytes shows is = absurd (cc (shows.word_is, is))
+
+pub none_told : (e : Entry) (here : Members) → Shows e here → e.word ≡ None → [] ≡ word here
+none_told e NoMore shows is = refl
+none_told e (WordThen at word rest) shows is = absurd (cc (shows.word_is, is))
+none_told e (ListThen at inside rest) shows is = refl
 
 -- node 0 is the whole list
 pub whole_first : (tree : Members) → IsOneList tree → (0 < length (nodes tree)) × (from tree 0 ≡ tree)

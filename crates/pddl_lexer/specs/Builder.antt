@@ -1,5 +1,5 @@
 -- A nested list that has been read in part, and how a builder keeps it.
-use Rattle.std.specs.Prelude.{◌≡◌, ℕ, suc, ◌≤◌, ◌+◌, List, [], ◌∷◌, ◌++◌, length, nat_lt}
+use Rattle.std.specs.Prelude.{◌≡◌, ℕ, suc, ◌<◌, ◌≤◌, ◌+◌, ◌^◌, List, [], ◌∷◌, ◌++◌, length, nat_lt}
 use Rattle.std.specs.Vec.{vec_len}
 use Rattle.pddl_lexer.specs.declared.scanner.Mark.{Mark}
 use Rattle.pddl_lexer.specs.declared.scanner.Mark.TheVariants.{Nothing, Bad, Opening, Closing, Beginning}
@@ -59,14 +59,18 @@ abbrev pub places_open : Partial → List ℕ
 places_open (Outside read) = []
 places_open (Within around at read) = places_open around ++ (length (entries_so_far around) ∷ [])
 
--- the builder keeps this list
-pub record Represents (builder : Builder) (partial : Partial) : Type 0 where
-  pub nodes_are : shown builder.nodes.items ≡ entries_so_far partial
+-- the builder keeps this list of the text
+pub record Represents (text : List ℕ) (builder : Builder) (partial : Partial) : Type 0 where
+  pub nodes_are : shown text builder.nodes.items ≡ entries_so_far partial
   pub open_are : builder.open.items ≡ places_open partial
 
--- the builder keeps some list
+-- the builder keeps some list of some text
 abbrev pub IsBuilding : Builder → Type 0
-IsBuilding builder = (partial : Partial) × Represents builder partial
+IsBuilding builder = (text : List ℕ) × ((partial : Partial) × Represents text builder partial)
+
+-- the number of its nodes has 32 bits
+abbrev pub HasFewNodes : Builder → Type 0
+HasFewNodes builder = vec_len builder.nodes < 2 ^ 32
 
 -- at most 100 lists are open
 abbrev pub IsShallow : Builder → Type 0

@@ -1,10 +1,11 @@
 -- How a tree is kept: its nodes in pre-order, each with its depth and the number of nodes in it.
-use Rattle.std.specs.Prelude.{◌≡◌, ℕ, suc, List, [], ◌∷◌, ◌++◌, map, Option, Some, None, nat_lt, slice_index_or, ◌==◌, if◌then◌else◌}
+use Rattle.std.specs.Prelude.{◌≡◌, ℕ, suc, List, [], ◌∷◌, ◌++◌, map, drop, Option, Some, None, nat_lt, slice_index_or, ◌==◌, if◌then◌else◌}
 use Rattle.pddl_lexer.specs.declared.tree.Content.{Content}
 use Rattle.pddl_lexer.specs.declared.tree.Content.TheVariants as contents
 use Rattle.pddl_lexer.specs.declared.tree.Node.{Node}
 use Rattle.pddl_lexer.specs.declared.position.At.{At}
 use Rattle.pddl_lexer.specs.Positions.{nowhere}
+use Rattle.pddl_lexer.specs.Tokens.{leading_word}
 use Rattle.pddl_lexer.specs.Members.{Members, NoMore, WordThen, ListThen, IsOneList, count, is_list, position, word, inside}
 
 -- a node: its position, its bytes if it is a word and None if it is a list, its depth, and how many nodes stand in it
@@ -42,32 +43,32 @@ members (e ∷ es) depth =
     else if nat_lt depth e.depth then members es depth
     else NoMore
 
-abbrev pub content_word : Content → Option (List ℕ)
-content_word (contents.Word depth word) = Some word.now
-content_word (contents.List depth below) = None
+abbrev pub content_word : (text : List ℕ) → Content → Option (List ℕ)
+content_word text (contents.Word depth begins) = Some (leading_word (drop begins text))
+content_word text (contents.List depth below) = None
 
 abbrev pub content_depth : Content → ℕ
-content_depth (contents.Word depth word) = depth
+content_depth (contents.Word depth begins) = depth
 content_depth (contents.List depth below) = depth
 
 abbrev pub content_below : Content → ℕ
-content_below (contents.Word depth word) = 0
+content_below (contents.Word depth begins) = 0
 content_below (contents.List depth below) = below
 
--- a node of the code, without where its word lies in memory
-abbrev pub entry : Node → Entry
-entry n = record { at = n.at; word = content_word n.content; depth = content_depth n.content; below = content_below n.content }
+-- a node of the code, with its word as it stands in the text
+abbrev pub entry : (text : List ℕ) → Node → Entry
+entry text n = record { at = n.at; word = content_word text n.content; depth = content_depth n.content; below = content_below n.content }
 
-abbrev pub shown : List Node → List Entry
-shown ns = map entry ns
+abbrev pub shown : (text : List ℕ) → List Node → List Entry
+shown text ns = map (entry text) ns
 
--- the tree that these nodes keep
-abbrev pub kept : List Node → Members
-kept ns = members (shown ns) 0
+-- the tree that these nodes of a text keep
+abbrev pub kept : (text : List ℕ) → List Node → Members
+kept text ns = members (shown text ns) 0
 
 -- these are the nodes of a tree that is one list
-pub record AreNodesOf (tree : Members) (ns : List Node) : Type 0 where
-  pub shown_are : shown ns ≡ entries 0 tree
+pub record AreNodesOf (text : List ℕ) (tree : Members) (ns : List Node) : Type 0 where
+  pub shown_are : shown text ns ≡ entries 0 tree
   pub one_list : IsOneList tree
 
 -- a node of the code shows the first of these members

@@ -1,15 +1,14 @@
 //! A nested list while it is read.
 
-ghost use Rattle.std.specs.Prelude.{◌≡◌, ◌<◌, ◌^◌, ℕ, List, OnOk};
-ghost use Rattle.std.specs.List.{prefix_len};
+ghost use Rattle.std.specs.Prelude.{◌≡◌, ◌<◌, ◌^◌, ℕ, List, drop, OnOk};
 ghost use Rattle.pddl_lexer.specs.Members.{WordThen, NoMore};
-ghost use Rattle.pddl_lexer.specs.Tokens.{goes_on, leading_word};
+ghost use Rattle.pddl_lexer.specs.Tokens.{leading_word};
 ghost use Rattle.pddl_lexer.specs.Faults.{after_end, kind_at, kind_at_end};
-ghost use Rattle.pddl_lexer.specs.Builder.{Partial, Outside, Within, with_member, with_end, with_mark, Represents, IsBuilding, IsShallow, Counts};
+ghost use Rattle.pddl_lexer.specs.Builder.{Partial, Outside, Within, with_member, with_end, with_mark, Represents, IsBuilding, HasFewNodes, IsShallow, Counts};
 
 use crate::fault::Kind;
 use crate::position::At;
-use crate::scanner::{Mark, is_word_byte};
+use crate::scanner::Mark;
 use crate::tree::{Content, Node};
 use std::alloc::{AllocError, Global};
 
@@ -18,40 +17,16 @@ const DEPTH_LIMIT: usize = 100;
 
 /// The nodes so far, and where the open lists stand among them.
 #[derive(Drop)]
-pub(crate) struct Builder<'a> {
-    pub(crate) nodes: Vec<Node<'a>>,
+pub(crate) struct Builder {
+    pub(crate) nodes: Vec<Node>,
     pub(crate) open: Vec<usize>,
 }
 
-fn goes_on(byte: u8) -> bool
-    ensures { result ≡ goes_on byte }
-{
-    is_word_byte(byte) && byte != b'?'
-}
-
-/// How many bytes of a word the text begins with, after a word's first.
-fn more_of_word(text: &[u8]) -> usize
-    ensures more { result ≡ prefix_len goes_on text.now }
-    ensures fits { result < 2 ^ 63 }
-{
-    text.iter().take_while(|byte| goes_on(**byte)).count()
-}
-
-/// The word with which the text begins.
-fn leading_word(text: &[u8]) -> &[u8]
-    ensures { result.now ≡ leading_word text.now }
-{
-    match text {
-        [] => text,
-        [_, after @ ..] => &text[..=more_of_word(after)],
-    }
-}
-
-impl<'a> Builder<'a> {
+impl Builder {
     /// Nothing is read yet.
     #[tactic(auto, unfolding(crate::specs::Faults::opened, crate::specs::Faults::closed, crate::specs::Faults::begun))]
-    pub(crate) fn new(alloc: Global) -> Builder<'a>
-        ensures represents { Represents result (Outside NoMore) }
+    pub(crate) fn new(alloc: Global) -> Builder
+        ensures represents { (text : List ℕ) → Represents text result (Outside NoMore) }
         ensures counts { Counts result List.[] }
     {
         Builder {
@@ -97,23 +72,23 @@ impl<'a> Builder<'a> {
         }
     }
 
-    fn add_word(&mut self, at: At, word: &'a [u8]) -> Result<(), AllocError>
+    fn add_word(&mut self, at: At, begins: u32) -> Result<(), AllocError>
         requires { IsShallow self.old }
-        ensures { OnOk result ((partial : Partial) → Represents self.old partial
-            → Represents self.new (with_member partial (WordThen at word.now NoMore))) }
+        ensures { OnOk result ((text : List ℕ) (partial : Partial) → Represents text self.old partial
+            → Represents text self.new (with_member partial (WordThen at (leading_word (drop begins text)) NoMore))) }
     {
         let depth = self.open.len() as u8;
         self.nodes.push(Node {
             at,
-            content: Content::Word { depth, word },
+            content: Content::Word { depth, begins },
         })?;
         Ok(())
     }
 
     fn begin_list(&mut self, at: At) -> Result<(), AllocError>
         requires { IsShallow self.old }
-        ensures { OnOk result ((partial : Partial) → Represents self.old partial
-            → Represents self.new (Within partial at NoMore)) }
+        ensures { OnOk result ((text : List ℕ) (partial : Partial) → Represents text self.old partial
+            → Represents text self.new (Within partial at NoMore)) }
     {
         let depth = self.open.len() as u8;
         self.open.push(self.nodes.len())?;
@@ -125,23 +100,25 @@ impl<'a> Builder<'a> {
     }
 
     fn end_list(&mut self)
-        requires { IsBuilding self.old }
-        ensures { (partial : Partial) → Represents self.old partial → Represents self.new (with_end partial) }
+        requires building { IsBuilding self.old }
+        requires few { HasFewNodes self.old }
+        ensures { (text : List ℕ) (partial : Partial) → Represents text self.old partial → Represents text self.new (with_end partial) }
     {
         if let Some(list) = self.open.pop() {
-            let below = self.nodes.len() - list - 1;
+            let below = (self.nodes.len() - list - 1) as u32;
             let node = &mut self.nodes[list];
             let depth = node.content.depth();
             node.content = Content::List { depth, below };
         }
     }
 
-    /// Takes what stands at a place, with which the text begins.
-    pub(crate) fn add(&mut self, mark: Mark, at: At, text: &'a [u8]) -> Result<(), AllocError>
+    /// Takes what stands at a position of the text, after so many bytes.
+    pub(crate) fn add(&mut self, mark: Mark, at: At, begins: u32) -> Result<(), AllocError>
         requires building { IsBuilding self.old }
+        requires few { HasFewNodes self.old }
         requires shallow { IsShallow self.old }
-        ensures { OnOk result ((partial : Partial) → Represents self.old partial
-            → Represents self.new (with_mark mark at (leading_word text.now) partial)) }
+        ensures { OnOk result ((text : List ℕ) (partial : Partial) → Represents text self.old partial
+            → Represents text self.new (with_mark mark at (leading_word (drop begins text)) partial)) }
     {
         match mark {
             Mark::Nothing | Mark::Bad => Ok(()),
@@ -150,7 +127,7 @@ impl<'a> Builder<'a> {
                 self.end_list();
                 Ok(())
             }
-            Mark::Beginning => self.add_word(at, leading_word(text)),
+            Mark::Beginning => self.add_word(at, begins),
         }
     }
 }

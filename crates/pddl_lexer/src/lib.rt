@@ -8,6 +8,7 @@ mod position;
 mod reader;
 mod scanner;
 mod tree;
+mod words;
 
 pub use fault::{Fault, Kind, ShapePlace};
 pub use laws::{has_tree, lowering, one_tree, some_member, worked_examples};

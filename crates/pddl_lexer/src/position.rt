@@ -7,9 +7,9 @@ ghost use Rattle.pddl_lexer.specs.Positions.{is_not_after, earlier_of};
 #[derive(Clone, Copy, PartialEq, Eq)]
 pub struct At {
     /// Its line, from 1.
-    pub line: u64,
+    pub line: u32,
     /// Its place among the bytes of the line, from 1.
-    pub column: u64,
+    pub column: u32,
 }
 
 impl At {

@@ -15,12 +15,15 @@ use crate::tree::Tree;
 use lists::Stop;
 use std::alloc::Global;
 
+/// A text of so many bytes is too long: places, lines and columns are counted in 32 bits, since each word has them.
+const BYTE_LIMIT: usize = 4_294_967_295;
+
 /// Reads the one nested list of a text, in one pass. Its words are slices of the text, as they are written there.
 ///
 /// Outside comments the bytes 33 to 126, space, tab, carriage return and line feed are allowed. A `;` begins a comment
 /// that ends before the next line feed, and any byte may stand in it. A word is a longest run of bytes 33 to 126
 /// without `(`, `)` and `;`, and a `?` begins a new word. Lists may be nested 100 deep. Lines are counted from 1,
-/// and so are the bytes of each line.
+/// and so are the bytes of each line. A text of 4 GiB or more ends as where memory runs out.
 pub fn read_tree<'a>(alloc: Global, bytes: &'a [u8]) -> Result<Tree<'a>, Stop<Fault>>
     // What is read is the tree of the text, once its words are lowered.
     ensures tree { IfOk result (λ tree. IsTreeOf bytes.now (lowered_members tree)) }
@@ -39,6 +42,9 @@ pub fn read_tree<'a>(alloc: Global, bytes: &'a [u8]) -> Result<Tree<'a>, Stop<Fa
     ensures fault { (fault : Fault) → IsFirst (tree_faults bytes.now) fault
         → UnlessNoMemory result (result ≡ Err (Stop.Fault fault)) }
 {
+    if bytes.len() >= BYTE_LIMIT {
+        return Err(Stop::NoMemory);
+    }
     let mut scanner = Scanner::new();
     let mut builder = Builder::new(alloc);
     let mut text = bytes;
@@ -50,7 +56,8 @@ pub fn read_tree<'a>(alloc: Global, bytes: &'a [u8]) -> Result<Tree<'a>, Stop<Fa
                 at: scanner.at,
             }));
         }
-        builder.add(mark, scanner.at, text)?;
+        let begins = (bytes.len() - text.len()) as u32;
+        builder.add(mark, scanner.at, begins)?;
         scanner = scanner.after(*byte);
         text = after;
     }
@@ -59,6 +66,6 @@ pub fn read_tree<'a>(alloc: Global, bytes: &'a [u8]) -> Result<Tree<'a>, Stop<Fa
             kind,
             at: scanner.at,
         })),
-        None => Ok(Tree::of_nodes(builder.nodes)),
+        None => Ok(Tree::of_nodes(bytes, builder.nodes)),
     }
 }

@@ -83,8 +83,8 @@ impl Scanner {
 
     /// The place after the byte.
     pub(crate) fn after(&self, byte: u8) -> Scanner
-        requires line { self.now.at.line + 1 < 2 ^ 64 }
-        requires column { self.now.at.column + 1 < 2 ^ 64 }
+        requires line { self.now.at.line + 1 < 2 ^ 32 }
+        requires column { self.now.at.column + 1 < 2 ^ 32 }
         ensures { (behind : List ℕ) → StandsAfter self.now behind → StandsAfter result (byte ∷ behind) }
     {
         if byte == b'\n' {

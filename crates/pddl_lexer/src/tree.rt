@@ -1,32 +1,33 @@
 //! A nested list of words, kept as its nodes in pre-order.
 
-ghost use Rattle.std.specs.Prelude.{◌≡◌, ◌<◌, ◌≤◌, ◌+◌, ◌^◌, ◌↔◌, List, None, IsNone, length};
+ghost use Rattle.std.specs.Prelude.{◌≡◌, ◌<◌, ◌≤◌, ◌+◌, ◌^◌, ◌↔◌, ℕ, List as Bytes, None, IsNone, length};
 ghost use Rattle.pddl_lexer.specs.Members.{Members, NoMore, IsOneList, nodes, from, is_list, position, word, inside, rest, count, members_at, IsPlace, beginning};
 ghost use Rattle.pddl_lexer.specs.Nodes.{entry, content_depth, content_below, Shows, IsAtDepth, AreNodesOf};
 
 use crate::position::At;
+use crate::words::word_at;
 use std::marker::Model;
 
 /// What a node is, and how many lists it stands in: 100 at most.
 ///
-/// The depth is a `u8` in both variants, and no field of `Node`, because of memory. Beside the tag it takes none, so
-/// that a node has 40 bytes. As a field of `Node` it takes 8.
+/// A node has 16 bytes, since a file may have millions. So the depth is a `u8` in both variants, and no field of `Node`:
+/// beside the tag it takes none. And a word is known by where it begins; its bytes are in the text.
 #[derive(Clone, Copy)]
-pub(crate) enum Content<'a> {
-    /// A word, with its bytes as written.
-    Word { depth: u8, word: &'a [u8] },
+pub(crate) enum Content {
+    /// A word, with how many bytes stand before it in the text.
+    Word { depth: u8, begins: u32 },
     /// A list, with how many words and lists stand in it, at every depth.
-    List { depth: u8, below: usize },
+    List { depth: u8, below: u32 },
 }
 
 /// A word or a list of the tree.
 #[derive(Clone, Copy)]
-pub(crate) struct Node<'a> {
+pub(crate) struct Node {
     pub(crate) at: At,
-    pub(crate) content: Content<'a>,
+    pub(crate) content: Content,
 }
 
-impl<'a> Content<'a> {
+impl Content {
     /// How many lists the node stands in.
     pub(crate) fn depth(&self) -> u8
         ensures { result ≡ content_depth self.now }
@@ -38,27 +39,28 @@ impl<'a> Content<'a> {
     }
 
     /// How many words and lists stand in it, at every depth.
-    fn below(&self) -> usize
+    fn below(&self) -> u64
         ensures { result ≡ content_below self.now }
     {
         match self {
             Content::Word { .. } => 0,
-            Content::List { below, .. } => *below,
+            Content::List { below, .. } => *below as u64,
         }
     }
 }
 
-/// The one nested list of a text. Its words are slices of the text.
+/// The one nested list of a text, which it borrows. Its words are slices of the text.
 ///
 /// The words and lists in it are its nodes. They are numbered from 0 in pre-order: node 0 is the whole list, and
 /// the members of a list come after it, each with what stands in it.
 pub struct Tree<'a> {
-    nodes: Vec<Node<'a>>,
+    text: &'a [u8],
+    nodes: Vec<Node>,
 }
 
 impl Drop for Tree<'_> {
     fn drop(self) {
-        let Tree { nodes: _ } = self;
+        let Tree { text: _, nodes: _ } = self;
     }
 }
 
@@ -72,23 +74,23 @@ impl<'a> Model for Tree<'a> {
 
     ghost use Rattle.pddl_lexer.specs.Nodes.{kept, AreNodesOf};
 
-    ghost view = { λ a. kept a.nodes.items };
+    ghost view = { λ a. kept a.text.now a.nodes.items };
 
-    ghost invariant = { λ a. AreNodesOf (kept a.nodes.items) a.nodes.items };
+    ghost invariant = { λ a. AreNodesOf a.text.now (kept a.text.now a.nodes.items) a.nodes.items };
 }
 
 impl<'a> Tree<'a> {
-    /// The tree that has these nodes.
-    pub(crate) fn of_nodes(nodes: Vec<Node<'a>>) -> Tree<'a>
-        requires { (tree : Members) × AreNodesOf tree nodes.items }
-        ensures { (tree : Members) → AreNodesOf tree nodes.entry.items → result ≡ tree }
+    /// The tree that has these nodes of the text.
+    pub(crate) fn of_nodes(text: &'a [u8], nodes: Vec<Node>) -> Tree<'a>
+        requires { (tree : Members) × AreNodesOf text.now tree nodes.items }
+        ensures { (tree : Members) → AreNodesOf text.now tree nodes.items → result ≡ tree }
     {
-        Tree { nodes }
+        Tree { text, nodes }
     }
 
-    fn node(&self, i: u64) -> Node<'a>
+    fn node(&self, i: u64) -> Node
         requires { i < length (nodes self.now) }
-        ensures shows { Shows (entry result) (from self.now i) }
+        ensures shows { (text : Bytes ℕ) × Shows (entry text result) (from self.now i) }
         ensures in_range { i + 1 + content_below result.content ≤ length (nodes self.now) }
         ensures depth { IsAtDepth self.now i (content_depth result.content) }
         ensures fits { length (nodes self.now) < 2 ^ 64 }
@@ -129,8 +131,9 @@ impl<'a> Tree<'a> {
         requires { i < length (nodes self.now) }
         ensures { result.now ≡ word (from self.now i) }
     {
-        match self.node(i).content {
-            Content::Word { word, .. } => word,
+        let _len = self.nodes.len();
+        match self.nodes[i as usize].content {
+            Content::Word { begins, .. } => word_at(self.text, begins as usize),
             Content::List { .. } => &[],
         }
     }
@@ -162,7 +165,7 @@ impl<'a> Tree<'a> {
         ensures whole { i ≡ 0 → IsNone result }
     {
         let node = self.node(i);
-        let after = i + 1 + node.content.below() as u64;
+        let after = i + 1 + node.content.below();
         if after < self.len() && self.node(after).content.depth() == node.content.depth() {
             Some(after)
         } else {

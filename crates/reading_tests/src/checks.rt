@@ -17,12 +17,12 @@ use std::test::*;
 use type_checker::{Side, check};
 
 /// A fault that is answered, with its line and column, or none where both files are accepted.
-type Answer = Option<(Side, Kind, u64, u64)>;
+type Answer = Option<(Side, Kind, u32, u32)>;
 
 fn is_fault(
     side: Side,
     fault: Fault,
-    (wanted_side, kind, line, column): (Side, Kind, u64, u64),
+    (wanted_side, kind, line, column): (Side, Kind, u32, u32),
 ) -> bool {
     side == wanted_side && fault.kind == kind && fault.at == At { line, column }
 }

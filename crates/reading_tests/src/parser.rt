@@ -24,11 +24,11 @@ const TYPED: &str = "(define (domain t)
 (:action go :effect (forall (?z) (when () (increase (total-cost) 12)))
  :parameters (?x)))";
 
-fn is_at(name: &Named, word: &str, line: u64, column: u64) -> bool {
+fn is_at(name: &Named, word: &str, line: u32, column: u32) -> bool {
     name.name.as_slice() == word.as_bytes() && name.at == At { line, column }
 }
 
-fn is_atom(condition: &Condition, predicate: &str, line: u64, column: u64) -> bool {
+fn is_atom(condition: &Condition, predicate: &str, line: u32, column: u32) -> bool {
     matches!(condition, Condition::Atom(atom) if is_at(&atom.predicate, predicate, line, column))
 }
 

@@ -35,7 +35,7 @@ const ENTRY: Kind = Kind::Shape(ShapePlace::InitEntry);
 
 /// What stands at a place of a file, and the fault that the file has with it, with its line and column. It begins
 /// line 2, but for names, which begin in column 17 of line 1.
-type Row = (&'static str, Kind, u64, u64);
+type Row = (&'static str, Kind, u32, u32);
 
 // A name has none of `?`, `@` and `,`, doesn't begin with `:`, and isn't `-` or `=`. A `?` begins another word.
 static NAMES: &[Row] = &[

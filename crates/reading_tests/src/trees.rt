@@ -7,14 +7,14 @@ use std::process::Abort;
 use std::test::*;
 
 /// Whether this is the first fault of the text.
-fn has_fault(alloc: Global, text: &[u8], kind: Kind, line: u64, column: u64) -> bool {
+fn has_fault(alloc: Global, text: &[u8], kind: Kind, line: u32, column: u32) -> bool {
     match read_tree(alloc, text) {
         Err(Stop::Fault(fault)) => fault.kind == kind && fault.at == At { line, column },
         _ => false,
     }
 }
 
-static FIRST_FAULTS: &[(&[u8], Kind, u64, u64)] = &[
+static FIRST_FAULTS: &[(&[u8], Kind, u32, u32)] = &[
     (b"(a\n\x7f)", Kind::BadByte, 2, 1),
     (b"(\t\r\n\x01)", Kind::BadByte, 2, 1),
     (b"(a\nb\xc3\xa9)", Kind::BadByte, 2, 2),
@@ -65,7 +65,7 @@ fn a_hundred_lists_may_be_open(rt: HostRuntime) {
 }
 
 /// A node: whether it is a list, its line and column, its bytes, its first member, the next member.
-type Node = (bool, u64, u64, &'static str, Option<u64>, Option<u64>);
+type Node = (bool, u32, u32, &'static str, Option<u64>, Option<u64>);
 
 static NODES: &[Node] = &[
     (true, 2, 1, "", Some(1), None),

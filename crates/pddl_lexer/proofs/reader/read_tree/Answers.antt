@@ -3,7 +3,7 @@ use Rattle.lists.proofs.Stops.{first_same, some_first}
 use Rattle.pddl_lexer.proofs.Spelled.{tree_of_spelled}
 use Rattle.pddl_lexer.specs.declared.fault.Fault.{Fault}
 use Rattle.lists.specs.declared.stop.Stop.TheVariants as stops
-use Rattle.pddl_lexer.proofs.ReaderTurns.{Whole, IsAnswer, counts, few_open, line_fits, column_fits, fault_here, fault_end, passed_more, passed_all, passed_answer, first_and_others, first_and_after, nothing}
+use Rattle.pddl_lexer.proofs.ReaderTurns.{Whole, IsAnswer, counts, few_open, few_nodes, line_fits, column_fits, fault_here, fault_end, nothing_passed, passed_more, passed_all, passed_answer, first_and_others, first_and_after, nothing}
 use Rattle.pddl_lexer.proofs.reader.read_tree.Goals as goal
 use Rattle.pddl_lexer.proofs.reader.read_tree.Goals.{In-None, After-drop-builder-2}
 
@@ -22,10 +22,16 @@ returns-in-Some-clause-ok c = λ none. absurd (some_first _ _ (returns-in-Some-c
 pub returns-in-Some-clause-fault : goal.returns-in-Some-clause-fault
 returns-in-Some-clause-fault c = λ fault first. ap (λ (f : Fault). Err (stops.Fault f)) (first_same _ _ _ (returns-in-Some-clause-first c) first)
 
--- ---- a turn
+-- ---- the turns
+
+pub loop-text-init : goal.loop-text-init
+loop-text-init c = nothing_passed _ _ _ c.new-scanner.ensures (c.new-builder.ensures.represents _) c.if-bytes-ge-BYTE_LIMIT.false
 
 pub add-requires-clause-shallow : goal.add-requires-clause-shallow
 add-requires-clause-shallow c = few_open _ _ _ _ c.loop-text.invariant
+
+pub add-requires-clause-few : goal.add-requires-clause-few
+add-requires-clause-few c = few_nodes _ _ _ _ c.loop-text.invariant
 
 pub after-scanner-requires-clause-line : goal.after-scanner-requires-clause-line
 after-scanner-requires-clause-line c = line_fits _ _ _ _ c.loop-text.invariant c.in-len1-up.len_at_least
@@ -35,9 +41,10 @@ after-scanner-requires-clause-column c = column_fits _ _ _ _ c.loop-text.invaria
 
 pub loop-text-preserved : goal.loop-text-preserved
 loop-text-preserved c =
-    passed_more _ _ _ _ c.loop-text.invariant _ _ c.mark-mark.result c.after-scanner.result c.add.new.self
+    passed_more _ _ _ _ c.loop-text.invariant _ _ c.mark-mark.result _ c.after-scanner.result c.add.new.self
     (first_and_after _ _ c.in-len1-up.len_at_least refl)
     (c.mark-mark.ensures _ c.loop-text.invariant.stands)
+    refl
     (c.in_default-kind_at.ensures _ (counts _ _ _ _ c.loop-text.invariant))
     (c.after-scanner.ensures _ c.loop-text.invariant.stands)
     c.in_ok-add.ensures

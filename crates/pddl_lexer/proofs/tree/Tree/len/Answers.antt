@@ -7,7 +7,7 @@ pub returns-clause-one_list : goal.returns-clause-one_list
 returns-clause-one_list c = subst IsOneList c.self.view_is c.self.invariant.one_list
 
 pub returns-clause-nodes : goal.returns-clause-nodes
-returns-clause-nodes c = omega (arith, same_length _ _ c.self.view_is c.self.invariant)
+returns-clause-nodes c = omega (arith, same_length _ _ _ c.self.view_is c.self.invariant)
 
 pub returns-clause-some : goal.returns-clause-some
 returns-clause-some c = omega (arith, returns-clause-nodes c, (whole_first _ (returns-clause-one_list c)).0)

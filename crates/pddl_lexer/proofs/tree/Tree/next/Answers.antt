@@ -6,7 +6,7 @@ use Rattle.pddl_lexer.proofs.tree.Tree.next.Goals.{else-after-len-via-then-after
 
 pub returns-then-depth : goal.returns-then-depth
 returns-then-depth c =
-    let l = next_some _ _ _ _ _ c.requires (omega (arith, c.below.ensures, c.node-node.ensures.shows.below_is)) (omega (arith, c.len.ensures.nodes)) (c.depth-then-after-len.ensures ∙ c.node-node.ensures.depth) (c.depth.ensures ∙ c.node.ensures.depth) c.if-depth.true in
+    let l = next_some _ _ _ _ _ c.requires (omega (arith, c.below.ensures, c.node-node.ensures.shows.1.below_is)) (omega (arith, c.len.ensures.nodes)) (c.depth-then-after-len.ensures ∙ c.node-node.ensures.depth) (c.depth.ensures ∙ c.node.ensures.depth) c.if-depth.true in
     record {
       begins = l.begins;
       is_place = l.is_place;
@@ -17,7 +17,7 @@ returns-then-depth c =
 
 pub returns-else-after-len : goal.returns-else-after-len
 returns-else-after-len c =
-    let is : c.args.i + 1 + c.below.result ≡ c.args.i + 1 + count (inside (from c.args.self.now c.args.i)) = omega (arith, c.below.ensures, c.node-node.ensures.shows.below_is) in
+    let is : c.args.i + 1 + c.below.result ≡ c.args.i + 1 + count (inside (from c.args.self.now c.args.i)) = omega (arith, c.below.ensures, c.node-node.ensures.shows.1.below_is) in
     let l : Leads c.args.self.now (rest (from c.args.self.now c.args.i)) (c.args.i + 1 + count (inside (from c.args.self.now c.args.i))) None =
     elim c.else-after-len.branch [
       | else-after-len-via-then-after-len+else-depth w ↦ next_none _ _ _ _ c.requires is c.node-node.ensures.depth (λ lt same. w.if-depth.false (w.depth.ensures ∙ w.node.ensures.depth ∙ same ∙ sym w.depth-then-after-len.ensures))
