@@ -10,6 +10,11 @@ use Rattle.normal_task.specs.Normalised.{once_after}
 use Rattle.normal_task.proofs.OnceEach.{with_one, once-more}
 
 module _ (domain : Domain) (problem : Problem) {A : Type 0} (same : A → A → Bool) where
+  pub once-added : (items so_far : List A) → items ≡ once_after domain problem same [] so_far → (item : A) (items' : List A) →
+      items' ≡ with_one domain problem same (list_any (same item) items) items item → items' ≡ once_after domain problem same [] (so_far ++ item ∷ [])
+  once-added items so_far items_are item items' made =
+      made ∙ ap (λ (l : List A). with_one domain problem same (list_any (same item) l) l item) items_are ∙ sym (once-more domain problem same so_far item)
+
   -- the same where the items are looked up by their keys
   module _ (key_of : A → List ℕ) (keyed : (a b : A) → is_same (key_of a) (key_of b) ≡ same a b)
       (keys : List (List ℕ)) (items so_far : List A) (keys_are : keys ≡ map key_of items) (items_are : items ≡ once_after domain problem same [] so_far) (item : A) (key : List ℕ) (key_is : key ≡ key_of item) where
@@ -26,5 +31,5 @@ module _ (domain : Domain) (problem : Problem) {A : Type 0} (same : A → A → 
         (keys' ≡ map key_of items') × (items' ≡ once_after domain problem same [] (so_far ++ item ∷ []))
     once-step keys' items' made = (
       made.0 ∙ keys-with (list_any (is_same key) keys) ∙ ap (map key_of) (sym made.1),
-      made.1 ∙ ap (λ b. with_one domain problem same b items item) known-is ∙ ap (λ (l : List A). with_one domain problem same (list_any (same item) l) l item) items_are ∙ sym (once-more domain problem same so_far item),
+      once-added items so_far items_are item items' (made.1 ∙ ap (λ b. with_one domain problem same b items item) known-is),
     )

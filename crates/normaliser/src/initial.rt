@@ -5,33 +5,18 @@ ghost use Rattle.pddl_syntax.specs.Holds as pddl;
 ghost use Rattle.names.specs.Names.{is_same};
 ghost use Rattle.normal_task.specs.declared.task.GroundAtom as atom_type;
 ghost use Rattle.normal_task.specs.declared.task.ValueRow as row_type;
-ghost use Rattle.normal_task.specs.Keys.{atom_key, value_key};
+ghost use Rattle.normal_task.specs.Keys.{value_key};
 ghost use Rattle.normal_task.specs.Meaning.{is_same_atom, is_same_value};
 ghost use Rattle.normal_task.specs.Normalised as spec;
 ghost use Rattle.normal_task.specs.Numbers.{function_number, object_number};
 
 use atom_objects::Objects;
 use lists::List;
-use normal_task::{GroundAtom, ValueRow};
+use normal_task::{AtomSet, GroundAtom, ValueRow};
 use number_lists::{NumberLists, key_of};
 use numbering::Numbering;
 use pddl_syntax::{Atom, Init, Term};
 use std::alloc::{AllocError, Global};
-
-/// Adds the item, if its key is new.
-fn push_new<T: Drop>(
-    keys: &mut NumberLists,
-    items: &mut Vec<T>,
-    key: Vec<u64>,
-    item: T,
-) -> Result<(), AllocError>
-    ensures { OnOk result ((keys.new ≡ (if list_any (is_same key.items) keys.old then keys.old else keys.old ++ key.items ∷ [])) × (items.new.items ≡ (if list_any (is_same key.items) keys.old then items.old.items else items.old.items ++ item ∷ []))) }
-{
-    if keys.insert(key)? {
-        items.push(item)?;
-    }
-    Ok(())
-}
 
 // ---- atoms
 
@@ -74,21 +59,19 @@ fn stated_atom(
 }
 
 /// Adds the atom that the entry states, if it is a new one.
-fn push_stated(
-    keys: &mut NumberLists,
-    atoms: &mut Vec<GroundAtom>,
+fn add_stated(
+    alloc: Global,
+    atoms: &mut AtomSet,
     numbering: &Numbering<'_>,
     entry: &Init,
 ) -> Result<(), AllocError>
-    ensures { (so_far : Items atom_type.GroundAtom) → keys.old ≡ map atom_key atoms.old.items → atoms.old.items ≡ spec.once_after numbering.now.domain numbering.now.problem is_same_atom [] so_far →
-        OnOk result ((keys.new ≡ map atom_key atoms.new.items) × (atoms.new.items ≡ spec.once_after numbering.now.domain numbering.now.problem is_same_atom [] (so_far ++ spec.stated numbering.now.domain numbering.now.problem entry.now))) }
+    ensures { (so_far : Items atom_type.GroundAtom) → atoms.old ≡ spec.once_after numbering.now.domain numbering.now.problem is_same_atom [] so_far →
+        OnOk result (atoms.new ≡ spec.once_after numbering.now.domain numbering.now.problem is_same_atom [] (so_far ++ spec.stated numbering.now.domain numbering.now.problem entry.now)) }
 {
     match entry {
         Init::Holds(atom) => {
-            let alloc = *atoms.allocator();
             let stated = stated_atom(alloc, numbering, atom)?;
-            let key = key_of(alloc, stated.predicate, stated.objects.as_slice())?;
-            push_new(keys, atoms, key, stated)
+            atoms.insert(stated)
         }
         Init::HoldsNot(_, _) | Init::Value(_, _, _) => Ok(()),
     }
@@ -99,15 +82,14 @@ pub(crate) fn stated_atoms(
     alloc: Global,
     numbering: &Numbering<'_>,
     entries: &[Init],
-) -> Result<List<GroundAtom>, AllocError>
+) -> Result<AtomSet, AllocError>
     ensures { IfOk result (λ atoms. atoms ≡ spec.once_after numbering.now.domain numbering.now.problem is_same_atom [] (flat_map (spec.stated numbering.now.domain numbering.now.problem) entries.now)) }
 {
-    let mut keys = NumberLists::new(alloc);
-    let mut atoms = Vec::new(alloc);
+    let mut atoms = AtomSet::with_capacity(alloc, entries.len())?;
     for entry in entries {
-        push_stated(&mut keys, &mut atoms, numbering, entry)?;
+        add_stated(alloc, &mut atoms, numbering, entry)?;
     }
-    Ok(List::from_vec(atoms))
+    Ok(atoms)
 }
 
 // ---- values
@@ -135,6 +117,21 @@ fn value_row(
         objects: stated_objects(alloc, numbering, term.terms.as_slice())?,
         value,
     })
+}
+
+/// Adds the row, if its key is new.
+fn push_new(
+    keys: &mut NumberLists,
+    rows: &mut Vec<ValueRow>,
+    key: Vec<u64>,
+    row: ValueRow,
+) -> Result<(), AllocError>
+    ensures { OnOk result ((keys.new ≡ (if list_any (is_same key.items) keys.old then keys.old else keys.old ++ key.items ∷ [])) × (rows.new.items ≡ (if list_any (is_same key.items) keys.old then rows.old.items else rows.old.items ++ row ∷ []))) }
+{
+    if keys.insert(key)? {
+        rows.push(row)?;
+    }
+    Ok(())
 }
 
 /// Adds the value that the entry gives, if the function has none yet for the objects.

@@ -27,6 +27,6 @@ returns-in_ok-key-in-Value c = λ so_far keys_are items_are.
     on_ok_weaker c.push_new.result
     (λ made.
     let step = once-step domain problem is_same_value value_key (λ a b. refl) c.args.keys.now c.args.rows.now.items so_far keys_are items_are c.in_ok-row-in-Value.row c.in_ok-key-in-Value.key.items
-    (c.in_ok-key-in-Value.ensures ∙ ap (λ l. c.in_ok-row-in-Value.row.function ∷ l) c.as_slice-in-Value.ensures) c.push_new.new.keys c.push_new.new.items.items made in
+    (c.in_ok-key-in-Value.ensures ∙ ap (λ l. c.in_ok-row-in-Value.row.function ∷ l) c.as_slice-in-Value.ensures) c.push_new.new.keys c.push_new.new.rows.items made in
     (step.0, step.1 ∙ ap (once_after domain problem is_same_value []) added))
     c.push_new.ensures
