@@ -10,5 +10,5 @@ bytes_of (Long text) = text
 
 -- no more bytes are counted than the value has room for
 abbrev pub IsCounted : Kept → Type 0
-IsCounted (Short count bytes) = count ≤ 22
+IsCounted (Short count bytes) = count ≤ 14
 IsCounted (Long text) = Unit {0}

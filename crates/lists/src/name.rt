@@ -8,8 +8,8 @@ use sqlite_items::Boxed;
 use std::alloc::{AllocError, Global};
 use std::marker::Model;
 
-/// How many bytes stand in the value itself at most: as many as make it no larger than a `Text`.
-const ROOM: usize = 22;
+/// How many bytes stand in the value itself at most: as many as make it two words large.
+const ROOM: usize = 14;
 
 /// How a name is kept.
 #[derive(Drop)]
@@ -18,7 +18,7 @@ enum Kept {
     Long(Boxed<Text>),
 }
 
-/// A name. Up to 22 bytes stand in the value itself, so that most names take no memory of their own. Contracts see the
+/// A name. Up to 14 bytes stand in the value itself, so that most names take no memory of their own. Contracts see the
 /// bytes, in order.
 #[derive(Drop)]
 pub struct Name {
@@ -77,7 +77,7 @@ impl Name {
     }
 
     fn short(name: &[u8]) -> Name
-        requires { length name.now ≤ 22 }
+        requires { length name.now ≤ 14 }
         ensures { result ≡ name.now }
     {
         let mut bytes = [0; ROOM];
